@@ -1,0 +1,17 @@
+//! Plain RV64I: the effect of an instruction, and a hart that performs one after another.
+#![tactic(auto)]
+
+mod effect;
+mod environment;
+mod hart;
+mod stop;
+mod values;
+
+pub use effect::{Effect, destination, execute, first_source, following, second_source};
+pub use environment::Environment;
+pub use hart::{Hart, load_width, store_width};
+pub use stop::Stop;
+pub use values::loaded;
+
+#[cfg(test)]
+mod tests;

@@ -1,0 +1,5 @@
+use Rattle.join_law.proofs.EightPlaces.{IsJoinOf-place}
+use Rattle.join_law.proofs.eights.join_eights.Goals as goal
+
+pub returns : goal.returns
+returns g c = IsJoinOf-place g.J.Join.is_kin g.J.Join.joined _ _ c.join_all.ensures.joined

@@ -1,0 +1,23 @@
+use Rattle.std.proofs.Common.{sym, ◌∙◌, ap, ◌≡◌, ◌++◌, ◌∷◌}
+use Rattle.join_law.proofs.JoinLemmas.{IsJoinOf-one}
+use Rattle.join_law.proofs.Taken.{taken_front, next_kin, next_joined}
+use Rattle.join_law.proofs.merges.join_each.Goals as goal
+use Rattle.join_law.proofs.merges.join_each.Goals.{In-Some}
+
+pub loop-value-init : goal.loop-value-init
+loop-value-init g c = IsJoinOf-one g.met.J.Join.laws c.args.first
+
+-- what was taken, the value and what is left are all of them
+made : (g : _) (c : In-Some g) → c.args.others.items ≡ c.loop-value.yielded ++ c.in-Some.value ∷ c.next.new.self.rest.items
+made g c =
+    sym c.into_iter-value-iterator.ensures.into_iter_gives.0
+    ∙ taken_front _ _ _ c.loop-value.yielded_by
+    ∙ ap (λ ys. c.loop-value.yielded ++ ys) c.in-Some.ensures.steps.0
+
+pub join-total-requires : goal.join-total-requires
+join-total-requires g c =
+    next_kin g.met.J.Join.laws c.args.first c.args.others.items c.loop-value.yielded _ c.in-Some.value _ (made g c) c.requires c.loop-value.invariant
+
+pub loop-value-preserved : goal.loop-value-preserved
+loop-value-preserved g c =
+    rw c.join-total.ensures (next_joined g.met.J.Join.laws c.args.first c.args.others.items c.loop-value.yielded _ c.in-Some.value _ (made g (goal.at.loop-value-preserved g c).In-Some) c.requires c.loop-value.invariant)

@@ -1,0 +1,9 @@
+pub mod Laws
+pub mod JoinOf
+pub mod Tree
+pub mod Instances
+pub mod InstanceLaws
+pub mod Eight
+pub mod EightLaws
+pub mod EightParts
+pub mod EightLends

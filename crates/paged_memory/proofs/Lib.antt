@@ -1,0 +1,9 @@
+pub mod Accesses
+pub mod Filled
+pub mod Listed
+pub mod Numbers
+pub mod OnePage
+pub mod Started
+pub mod Stored
+pub mod Tabulated
+pub mod Writes

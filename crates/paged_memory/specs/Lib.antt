@@ -1,0 +1,6 @@
+pub mod Cells
+pub mod Stored
+pub mod Layout
+pub mod Pages
+pub mod Start
+pub mod Table
