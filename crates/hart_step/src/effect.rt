@@ -22,12 +22,12 @@ pub enum Effect {
         value: u64,
         target: u64,
     },
-    /// Loads from an address to the destination, and goes on behind the instruction.
+    /// Loads from an address to the destination, and goes on at the next instruction in line.
     Loads {
         kind: LoadKind,
         address: u64,
     },
-    /// Stores the low bytes of a value at an address, and goes on behind the instruction.
+    /// Stores the low bytes of a value at an address, and goes on at the next instruction in line.
     Stores {
         width: StoreWidth,
         address: u64,

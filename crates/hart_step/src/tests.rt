@@ -39,6 +39,7 @@ fn countdown(rt: HostRuntime) -> Result<(), Fail> {
     assert_eq!(rt; copy.regs()[5], 7);
     assert_eq!(rt; copy.stop_here(), None);
     assert_eq!(rt; copy.environment(), Environment::One);
+    assert_eq!(rt; copy.environment().number(), 1);
     assert_eq!(rt; copy.memory().fetch(0x10000), Ok(0x00A0_0293));
     Ok(())
 }
@@ -146,7 +147,7 @@ fn effects(rt: HostRuntime) -> Result<(), Fail> {
     assert_eq!(rt; load_width(LoadKind::WordUnsigned), Width::Word);
     assert_eq!(rt; store_width(StoreWidth::Half), Width::Half);
     assert_eq!(rt; loaded(LoadKind::Byte, 0x80), 0xFFFF_FFFF_FFFF_FF80);
-    assert_eq!(rt; loaded(LoadKind::ByteUnsigned, 0x80), 0x80);
+    assert_eq!(rt; loaded(LoadKind::ByteUnsigned, 0x180), 0x80);
     Ok(())
 }
 

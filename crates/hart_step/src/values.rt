@@ -134,9 +134,9 @@ pub fn loaded(kind: LoadKind, x: u64) -> u64
         LoadKind::Byte => i64::from(((x % 256) as u8).cast_signed()).cast_unsigned(),
         LoadKind::Half => i64::from(((x % 65536) as u16).cast_signed()).cast_unsigned(),
         LoadKind::Word => extended(low(x)),
-        LoadKind::Double
-        | LoadKind::ByteUnsigned
-        | LoadKind::HalfUnsigned
-        | LoadKind::WordUnsigned => x,
+        LoadKind::Double => x,
+        LoadKind::ByteUnsigned => x % 256,
+        LoadKind::HalfUnsigned => x % 65536,
+        LoadKind::WordUnsigned => u64::from(low(x)),
     }
 }

@@ -1,0 +1,13 @@
+pub mod Splits
+pub mod LabelMap
+pub mod Turns
+pub mod Emitting
+pub mod Refusals
+pub mod Writes
+pub mod Fences
+pub mod Plain
+pub mod Reread
+pub mod Numerals
+pub mod Forms
+pub mod HexWords
+pub mod NameKinds

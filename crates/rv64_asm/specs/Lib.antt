@@ -1,0 +1,12 @@
+pub mod Codes
+pub mod Label
+pub mod Lexing
+pub mod Numbers
+pub mod ProgramValue
+pub mod Words
+pub mod Statements
+pub mod Places
+pub mod Assembled
+pub mod Written
+pub mod Shown
+pub mod LabelIter

@@ -1,0 +1,72 @@
+//! The first pass: where each line goes, and the labels.
+
+ghost use Rattle.std.specs.Prelude.{◌≡◌, Ok, Err, None, true, false, length, IfOk, IfErr, OnOk, option_map};
+ghost use Rattle.std.specs.Str.Lines.{lines};
+ghost use Rattle.rv64_asm.specs.Places as spec;
+ghost use Rattle.rv64_asm.specs.Statements.{label_of};
+ghost use Rattle.rv64_asm.specs.Places.{IsWithin, StandBelow};
+ghost use Rattle.rv64_asm.specs.Assembled.{IsOwnRefusal};
+
+use crate::fault::AsmFault;
+use crate::labels::Labels;
+use crate::place::{Place, next_place};
+use crate::statement::label_of;
+use crate::words::Part;
+use std::alloc::{AllocError, Allocator};
+
+/// A text starts in the text part.
+pub fn start() -> Place
+    ensures same { result ≡ spec.start.place }
+    ensures within { IsWithin result }
+{
+    Place {
+        part: Part::Text,
+        words: 0,
+        bytes: 0,
+    }
+}
+
+/// Puts the label of a line, if it has one, behind the others.
+fn add_label<A: Allocator + Copy>(
+    labels: &mut Labels<A>,
+    alloc: A,
+    place: Place,
+    line: &[u8],
+) -> Result<(), AllocError>
+    requires within { IsWithin place }
+    requires new { spec.is_twice labels.old (label_of line.now) ≡ false }
+    ensures { OnOk result (labels.new ≡ spec.with_label labels.old (spec.address place) (label_of line.now)) }
+{
+    if let Some(name) = label_of(line) {
+        labels.insert(alloc, name, place.address())?;
+    }
+    Ok(())
+}
+
+/// The labels of a text, or its lowest fault that a line has by itself and by those before it.
+pub fn lay_out<A: Allocator + Copy>(alloc: A, text: &str) -> Result<Labels<A>, AsmFault>
+    ensures stand { OnOk result (StandBelow (lines text.now) (length (lines text.now))) }
+    ensures labels { IfOk result (λ labels. labels ≡ (spec.behind (lines text.now)).labels) }
+    ensures refused { IfErr result (IsOwnRefusal (lines text.now)) }
+{
+    let mut place = start();
+    let mut labels = Labels::new(alloc);
+    let mut number = 0;
+    for line in text.lines() {
+        number += 1;
+        let line = line.as_bytes();
+        match next_place(place, &labels, line) {
+            Ok(next) => {
+                add_label(&mut labels, alloc, place, line)?;
+                place = next;
+            }
+            Err(fault) => {
+                return Err(AsmFault::At {
+                    fault,
+                    line: number,
+                });
+            }
+        }
+    }
+    Ok(labels)
+}

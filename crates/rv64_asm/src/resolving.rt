@@ -1,0 +1,83 @@
+//! Statements with their targets found.
+
+ghost use Rattle.std.specs.Prelude.{◌≡◌, ℤ, pos, negsuc, ◌+◌, ◌-◌, ◌%◌, ◌^◌, ◌≤ℤ◌, Ok, Err, IfOk, unsigned_abs, option_map};
+ghost use Rattle.rv64_asm.specs.Written as spec;
+ghost use Rattle.rv64_asm.specs.Places.{IsWithin};
+ghost use Rattle.rv64_asm.specs.Statements.{named, target_named};
+
+use crate::fault::LineFault;
+use crate::labels::Labels;
+use crate::statement::{Item, Statement, Target};
+use rv64_decode::{BranchOffset, Insn, JumpOffset};
+use std::alloc::Allocator;
+
+fn target_address<A: Allocator>(
+    labels: &Labels<A>,
+    target: &Target<&[u8]>,
+) -> Result<u64, LineFault>
+    ensures { result ≡ spec.target_address labels.now (target_named target.now) }
+{
+    match target {
+        Target::Label(name) => labels.address_of(name).ok_or(LineFault::UnknownLabel),
+        Target::Address(address) => Ok(*address),
+    }
+}
+
+/// How far a target lies from pc, as 64 bits with a sign.
+fn distance(pc: u64, target: u64) -> i64
+    ensures { result ≡ spec.distance pc target }
+{
+    target.wrapping_sub(pc).cast_signed()
+}
+
+/// An offset that is even and in range.
+fn offset_in(low: i64, high: i64, offset: i64) -> Result<i64, LineFault>
+    ensures given { result ≡ spec.offset_in low high offset }
+    ensures low { IfOk result (λ x. low ≤ℤ x) }
+    ensures high { IfOk result (λ x. x ≤ℤ high) }
+    ensures even { IfOk result (λ x. unsigned_abs x % 2 ≡ 0) }
+{
+    if low <= offset && offset <= high && offset.unsigned_abs() % 2 == 0 {
+        Ok(offset)
+    } else {
+        Err(LineFault::OffsetOutOfRange)
+    }
+}
+
+/// What a statement gives at pc, labels replaced by their addresses.
+#[tactic(auto, unfolding(crate::specs::Written::resolve))]
+pub fn resolve<A: Allocator>(
+    labels: &Labels<A>,
+    pc: u64,
+    statement: &Statement<&[u8]>,
+) -> Result<Item, LineFault>
+    ensures { result ≡ spec.resolve labels.now pc (named statement.now) }
+{
+    match statement {
+        Statement::Enter(_) => Ok(Item::Nothing),
+        Statement::Give(item) => Ok(*item),
+        Statement::Branch {
+            condition,
+            rs1,
+            rs2,
+            target,
+        } => {
+            let address = target_address(labels, target)?;
+            let offset = offset_in(-4096, 4094, distance(pc, address))?;
+            Ok(Item::Instruction(Insn::Branch {
+                condition: *condition,
+                rs1: *rs1,
+                rs2: *rs2,
+                offset: BranchOffset::new(offset as i16),
+            }))
+        }
+        Statement::Jump { rd, target } => {
+            let address = target_address(labels, target)?;
+            let offset = offset_in(-1_048_576, 1_048_574, distance(pc, address))?;
+            Ok(Item::Instruction(Insn::Jal {
+                rd: *rd,
+                offset: JumpOffset::new(offset as i32),
+            }))
+        }
+    }
+}
