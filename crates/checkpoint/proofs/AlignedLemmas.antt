@@ -1,0 +1,44 @@
+-- Marks of one origin: place by place, and as kin.
+use Rattle.std.proofs.Common.{ℕ, zero, suc, ◌<◌, ◌↔◌, List, All, sym, ◌∙◌, arith}
+use Rattle.std.proofs.lemmas.List.Elements.{All-contains}
+use Rattle.checkpoint.specs.Aligned.{AreMarksOf, IsMarkOf}
+use Rattle.checkpoint.specs.AlignedParts.{EachIsMarkOf}
+use Rattle.checkpoint.specs.Further.{MarkKin}
+use Rattle.checkpoint.specs.MarkValue.{MarkValue}
+use Rattle.join_law.specs.Eight.{EightKin, place_of}
+use Rattle.join_law.specs.JoinOf.{AllKin}
+use Rattle.join_law.specs.declared.places.Eight.{Eight}
+use Rattle.origin_set.specs.OriginValue.{OriginValue}
+
+from_parts : (origin : OriginValue) (marks : Eight MarkValue) → EachIsMarkOf origin marks → (i : ℕ) → i < 8 → IsMarkOf origin i (place_of marks i)
+from_parts origin marks p zero h = p.at_0
+from_parts origin marks p (suc zero) h = p.at_1
+from_parts origin marks p (suc (suc zero)) h = p.at_2
+from_parts origin marks p (suc (suc (suc zero))) h = p.at_3
+from_parts origin marks p (suc (suc (suc (suc zero)))) h = p.at_4
+from_parts origin marks p (suc (suc (suc (suc (suc zero))))) h = p.at_5
+from_parts origin marks p (suc (suc (suc (suc (suc (suc zero)))))) h = p.at_6
+from_parts origin marks p (suc (suc (suc (suc (suc (suc (suc zero))))))) h = p.at_7
+from_parts origin marks p (suc (suc (suc (suc (suc (suc (suc (suc i)))))))) h = absurd (omega arith)
+
+to_parts : (origin : OriginValue) (marks : Eight MarkValue) → AreMarksOf origin marks → EachIsMarkOf origin marks
+to_parts origin marks a = record {
+  at_0 = a 0 (omega arith);
+  at_1 = a 1 (omega arith);
+  at_2 = a 2 (omega arith);
+  at_3 = a 3 (omega arith);
+  at_4 = a 4 (omega arith);
+  at_5 = a 5 (omega arith);
+  at_6 = a 6 (omega arith);
+  at_7 = a 7 (omega arith);
+}
+
+pub parts_are_marks : (origin : OriginValue) (marks : Eight MarkValue) → EachIsMarkOf origin marks ↔ AreMarksOf origin marks
+parts_are_marks origin marks = (from_parts origin marks, to_parts origin marks)
+
+-- marks of one origin are kin at each place
+pub AreMarksOf-kin : (origin : OriginValue) (eights : List (Eight MarkValue)) → All (AreMarksOf origin) eights → AllKin (EightKin MarkKin) eights
+AreMarksOf-kin origin eights all x y a b i h =
+    let left = All-contains (AreMarksOf origin) eights x all a i h in
+    let right = All-contains (AreMarksOf origin) eights y all b i h in
+    record { origin = left.of_origin ∙ sym right.of_origin; context = left.of_context ∙ sym right.of_context }

@@ -1,0 +1,5 @@
+pub mod Trajectory
+pub mod Advanced
+pub mod FurthestLemmas
+pub mod AlignedLemmas
+pub mod BestLemmas

@@ -1,0 +1,6 @@
+use Rattle.std.proofs.Common.{◌∷◌}
+use Rattle.checkpoint.proofs.BestLemmas.{IsBest-join}
+use Rattle.checkpoint.proofs.best.furthest.Goals as goal
+
+pub returns : goal.returns
+returns g c = IsBest-join (c.args.first ∷ c.args.others.items) c.join_all.result c.requires c.join_all.ensures.joined

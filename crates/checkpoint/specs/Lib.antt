@@ -1,0 +1,7 @@
+pub mod MarkValue
+pub mod Further
+pub mod Furthest
+pub mod Aligned
+pub mod AlignedParts
+pub mod Best
+pub mod FaultText

@@ -1,0 +1,191 @@
+//! Marks: how far contexts have come, each always on its trajectory of plain RV64I.
+#![tactic(auto)]
+
+ghost use Rattle.std.specs.Prelude.{◌≡◌, ◌↔◌, ◌+◌, ◌^◌, ◌≤◌, IsTrue, IsOk, IfOk, IfErr, OnErr, Some, Err};
+ghost use Rattle.std.specs.Arc.{arc_value};
+ghost use Rattle.checkpoint.specs.Further.{MarkKin, IsUnjoinable, further, mark_laws};
+ghost use Rattle.checkpoint.specs.MarkValue.{Advances, state_of};
+
+mod best;
+mod eights;
+mod fault;
+
+pub use best::{furthest, furthest_each, furthest_leaf, furthest_leaf_each};
+pub use eights::aligned;
+pub use fault::MarkFault;
+use hart_step::{Hart, Stop};
+use join_law::{Ctx, Join};
+use origin_set::Origin;
+use std::alloc::{Allocator, Global};
+use std::marker::Model;
+use std::sync::Arc;
+
+/// A context of an origin, so many instructions from its start. A contract sees origin, context and count; the state
+/// is plain RV64I's after that count, whoever made the mark.
+#[derive(Drop)]
+pub struct Mark<A: Allocator = Global> {
+    origin: Arc<Origin<A>, A>,
+    context: Ctx,
+    count: u64,
+    hart: Hart<A>,
+}
+
+impl<A: Allocator> Model for Mark<A> {
+    ghost use Rattle.std.specs.Prelude.{◌≡◌, ◌≤◌, ◌^◌, Some};
+    ghost use Rattle.std.specs.Arc.{arc_value};
+    ghost use Rattle.checkpoint.specs.MarkValue.{MarkValue};
+    ghost use Rattle.hart_step.specs.Next.{after};
+    ghost use Rattle.origin_set.specs.Start.{start};
+
+    ghost Value = { MarkValue };
+
+    ghost view = { λ m. record { origin = arc_value m.origin; context = m.context; count = m.count } };
+
+    ghost invariant = { λ m. (m.count ≤ 2 ^ 60) × (after m.count (start (arc_value m.origin) m.context) ≡ Some m.hart) };
+}
+
+impl<A: Allocator> Mark<A> {
+    /// The start of a context, at count 0. C3 is the only refusal.
+    pub fn start(alloc: A, origin: &Arc<Origin<A>, A>, context: Ctx) -> Result<Self, MarkFault>
+        ensures ok { IfOk result (λ mark. mark ≡ record { origin = arc_value origin.now; context = context; count = 0 }) }
+        ensures err { OnErr result (result ≡ Err MarkFault.OutOfMemory) }
+    {
+        let hart = origin
+            .hart(alloc, context)
+            .map_err(|_| MarkFault::OutOfMemory)?;
+        let origin = Arc::try_clone(origin).map_err(|_| MarkFault::OutOfMemory)?;
+        Ok(Mark {
+            origin,
+            context,
+            count: 0,
+            hart,
+        })
+    }
+
+    /// The mark of a hart that plain RV64I reaches from the context's start in that count.
+    pub fn from_core(origin: Arc<Origin<A>, A>, context: Ctx, count: u64, hart: Hart<A>) -> Self
+        requires bound { count ≤ 2 ^ 60 }
+        requires reached { state_of (record { origin = arc_value origin; context = context; count = count }) ≡ Some hart }
+        ensures { result ≡ record { origin = arc_value origin; context = context; count = count } }
+    {
+        Mark {
+            origin,
+            context,
+            count,
+            hart,
+        }
+    }
+
+    /// A second mark of the same. C3 is the only refusal.
+    pub fn try_clone(&self, alloc: A) -> Result<Self, MarkFault>
+        ensures ok { IfOk result (λ copy. copy ≡ self.now) }
+        ensures err { OnErr result (result ≡ Err MarkFault.OutOfMemory) }
+    {
+        let hart = self.hart(alloc)?;
+        let origin = Arc::try_clone(&self.origin).map_err(|_| MarkFault::OutOfMemory)?;
+        Ok(Mark {
+            origin,
+            context: self.context,
+            count: self.count,
+            hart,
+        })
+    }
+
+    /// How many instructions it is from the start, at most 2^60.
+    pub fn count(&self) -> u64
+        ensures value { result ≡ self.now.count }
+        ensures bound { result ≤ 2 ^ 60 }
+    {
+        self.count
+    }
+
+    /// The context.
+    pub fn context(&self) -> Ctx
+        ensures { result ≡ self.now.context }
+    {
+        self.context
+    }
+
+    /// The origin.
+    pub fn origin(&self) -> &Arc<Origin<A>, A>
+        ensures { arc_value result.now ≡ self.now.origin }
+    {
+        &self.origin
+    }
+
+    /// A copy of the state. C3 is the only refusal.
+    pub fn hart(&self, alloc: A) -> Result<Hart<A>, MarkFault>
+        ensures ok { IfOk result (λ hart. state_of self.now ≡ Some hart) }
+        ensures err { OnErr result (result ≡ Err MarkFault.OutOfMemory) }
+    {
+        self.hart
+            .try_clone(alloc)
+            .map_err(|_| MarkFault::OutOfMemory)
+    }
+
+    /// The state.
+    pub fn state(&self) -> &Hart<A>
+        ensures { state_of self.now ≡ Some result.now }
+    {
+        &self.hart
+    }
+
+    /// Whether the origins have the same contents.
+    pub fn same_origin(&self, other: &Mark<A>) -> bool
+        ensures { IsTrue result ↔ (self.now.origin ≡ other.now.origin) }
+    {
+        self.origin.same(&other.origin)
+    }
+
+    /// Goes on by `n` instructions, or as many as there are before a stop, and says how many and why it stopped.
+    /// C3 is the only refusal, before any step; it does not come while a mark's state stands whole in memory (`works`).
+    pub fn advance(&mut self, n: u64) -> Result<(u64, Option<Stop>), MarkFault>
+        requires { self.old.count + n ≤ 2 ^ 60 }
+        ensures works { IsOk result }
+        ensures ok { IfOk result (λ ran. Advances n self.old ran.0 ran.1 self.new) }
+        ensures err { IfErr result (λ fault. (fault ≡ MarkFault.OutOfMemory) × (self.new ≡ self.old)) }
+    {
+        let (done, why) = self.hart.run(n);
+        self.count += done;
+        Ok((done, why))
+    }
+
+    /// The further of two marks of one origin and context. Else both are handed back, with C1 where the origins
+    /// differ, and with C2 where they agree and the contexts differ.
+    pub fn try_join(self, other: Mark<A>) -> Result<Mark<A>, (Mark<A>, Mark<A>, MarkFault)>
+        ensures joined { IfOk result (λ mark. MarkKin self other × (mark ≡ further self other)) }
+        ensures refused { IfErr result (λ back. (back.0 ≡ self) × (back.1 ≡ other) × IsUnjoinable self other back.2) }
+    {
+        if !self.same_origin(&other) {
+            return Err((self, other, MarkFault::ForeignOrigin));
+        }
+        if self.context != other.context {
+            return Err((self, other, MarkFault::OtherContext));
+        }
+        Ok(self.join(other))
+    }
+}
+
+/// Marks of one origin and context join to the further. At equal counts the two are equal, so either may be kept.
+impl<A: Allocator> Join for Mark<A> {
+    ghost is_kin = { MarkKin };
+
+    ghost joined = { further };
+
+    ghost laws = { mark_laws };
+
+    fn kin(&self, other: &Mark<A>) -> bool {
+        self.same_origin(other) && self.context == other.context
+    }
+
+    fn join(self, other: Mark<A>) -> Mark<A> {
+        if self.count < other.count {
+            other
+        } else {
+            self
+        }
+    }
+}
+
+#[cfg(test)]
+mod tests;

@@ -1,0 +1,3 @@
+pub mod WordsBytes
+pub mod Fitting
+pub mod Joined

@@ -1,0 +1,5 @@
+pub mod OriginValue
+pub mod Limits
+pub mod Start
+pub mod OriginBytes
+pub mod FaultText
