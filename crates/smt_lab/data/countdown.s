@@ -1,0 +1,4 @@
+.word 0x00A00293
+.word 0xFFF28293
+.word 0xFE029EE3
+.word 0x00000073
