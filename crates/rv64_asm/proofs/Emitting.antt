@@ -1,11 +1,9 @@
 -- The second pass, one line on.
-use Rattle.std.proofs.Common.{◌≡◌, ℕ, ◌<◌, ◌≤◌, ◌+◌, ◌-◌, ◌||◌, Bool, true, false, cond, List, [], ◌∷◌, ◌++◌, length, get_or, take, drop, replicate, Option, Some, None, Result, Ok, Err, refl, sym, ap, subst, ◌∙◌, arith, rules, below_more, ltb, ℤ, pos, negsuc}
-use Rattle.std.specs.List.{slice_get}
+use Rattle.std.proofs.Common.{◌≡◌, ℕ, ◌≤◌, ◌+◌, ◌-◌, ◌||◌, Bool, true, false, cond, List, [], ◌∷◌, ◌++◌, length, take, drop, Option, Some, None, Result, Ok, Err, refl, ap, ◌∙◌, arith, ltb, ℤ, pos, negsuc}
 use Rattle.std.specs.Result.{result_err}
 use Rattle.std.specs.Option.{ok_or}
 use Rattle.std.specs.Int.{to_le_bytes, w64}
-use Rattle.std.proofs.lemmas.Grind.{common_steps}
-use Rattle.std.proofs.lemmas.List.{drop-append-le, take-append-le, length-take, length-drop, length-append, length-take-le, length-replicate}
+use Rattle.std.proofs.lemmas.List.{drop-append-le, take-append-le, length-take, length-drop, length-replicate}
 use Rattle.std.proofs.Math.Seq.{drop-append_seam, take-length}
 use Rattle.rv64_decode.specs.declared.insn.Insn.{Insn}
 use Rattle.rv64_decode.specs.declared.insn.Insn.TheVariants as insns
@@ -16,14 +14,13 @@ use Rattle.rv64_asm.specs.declared.fault.LineFault.TheVariants.{TooManyPages, La
 use Rattle.rv64_asm.specs.declared.place.Place.{Place}
 use Rattle.rv64_asm.specs.declared.statement.Item.{Item}
 use Rattle.rv64_asm.specs.declared.statement.Item.TheVariants.{Nothing, Instruction, Word, Number, Zeros}
-use Rattle.rv64_asm.specs.declared.statement.Target.{Target}
 use Rattle.rv64_asm.specs.declared.statement.Statement.{Statement}
 use Rattle.rv64_asm.specs.declared.statement.Statement.TheVariants.{Enter, Give, Branch, Jump}
 use Rattle.rv64_asm.specs.Label.{Label}
 use Rattle.rv64_asm.specs.Numbers.{◌>>=◌}
 use Rattle.rv64_asm.specs.Statements.{line_of, label_of}
-use Rattle.rv64_asm.specs.Places.{Layout, behind, next_place, address, after, after_item, further, bytes_in, is_twice, HasFault, StandBelow}
-use Rattle.rv64_asm.specs.Written.{resolve, target_address, offset_in, distance, item_of, emit, IsPiece, StandsAt, IsWritten, WrittenBelow, Appends, place_of_line, HasTargetFault}
+use Rattle.rv64_asm.specs.Places.{Layout, next_place, address, after, after_item, further, bytes_in, is_twice}
+use Rattle.rv64_asm.specs.Written.{resolve, target_address, offset_in, distance, item_of, emit, IsPiece, StandsAt, IsWritten, place_of_line}
 
 -- what stands keeps standing where more is put behind
 pub stands_on : (xs : List ℕ) (i : ℕ) (ys zs : List ℕ) → StandsAt xs i ys → StandsAt (xs ++ zs) i ys

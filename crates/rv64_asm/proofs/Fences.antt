@@ -1,5 +1,5 @@
 -- The word of a FENCE.
-use Rattle.std.proofs.Common.{◌≡◌, ℕ, ◌<◌, ◌+◌, ◌*◌, ◌/◌, ◌%◌, ◌^◌, arith}
+use Rattle.std.proofs.Common.{ℕ, ◌<◌, ◌^◌, arith}
 use Rattle.rv64_decode.specs.declared.insn.Insn.TheVariants as insns
 use Rattle.rv64_decode.specs.Spelling.{Spells}
 use Rattle.rv64_asm.specs.Shown.{fence_word}

@@ -1,19 +1,18 @@
 -- Forms of operands that are written are read again.
-use Rattle.std.proofs.Common.{◌≡◌, ℕ, ◌<◌, ◌≤◌, ◌^◌, ◌+◌, ◌-◌, ◌*◌, ◌%◌, ◌==◌, ◌&&◌, not, Bool, true, false, cond, List, [], ◌∷◌, ◌++◌, length, take, drop, Option, Some, None, Result, Ok, Err, codes, ℤ, pos, negsuc, ◌≤ℤ◌, unsigned_abs, refl, sym, ap, ◌∙◌, arith, rules, nat_le, ltb, append_assoc}
+use Rattle.std.proofs.Common.{◌≡◌, ℕ, ◌<◌, ◌≤◌, ◌^◌, ◌-◌, ◌==◌, true, false, List, [], ◌∷◌, ◌++◌, length, Some, Ok, codes, ℤ, refl, arith, ltb}
 use Rattle.std.specs.List.{list_all, position_or_len}
 use Rattle.std.specs.Fmt.{decimal, signed_decimal}
 use Rattle.std.proofs.Math.Seq.{take-append_seam, drop-append-add}
-use Rattle.std.proofs.lemmas.Bool.{lt-ltb, and_parts}
+use Rattle.std.proofs.lemmas.Bool.{lt-ltb}
 use Rattle.std.proofs.lemmas.List.{length-append}
 use Rattle.std.proofs.lemmas.List.Folds.{list_all-append}
-use Rattle.std.proofs.lemmas.Int.{ints}
 use Rattle.std.proofs.lemmas.Grind.{common_steps}
 use Rattle.rv64_decode.specs.declared.insn.BranchCondition.{BranchCondition}
 use Rattle.rv64_asm.specs.declared.lexing.Operands.TheVariants.{Two, Three}
 use Rattle.rv64_asm.specs.declared.statement.Target.TheVariants.{Address}
 use Rattle.rv64_asm.specs.declared.statement.Statement.TheVariants.{Branch, Jump}
 use Rattle.rv64_asm.specs.Lexing.{cut}
-use Rattle.rv64_asm.specs.Statements.{three_registers, with_immediate, with_amount, with_place, with_upper, place_of, target_of, branch, jal, register}
+use Rattle.rv64_asm.specs.Statements.{three_registers, with_immediate, with_amount, with_place, with_upper, place_of, target_of, branch, jal}
 use Rattle.rv64_asm.specs.Shown.{reg, hex, place, IsImmediate}
 use Rattle.rv64_asm.proofs.Plain.{IsPlain, plain, first_at}
 use Rattle.rv64_asm.proofs.Numerals.{decimal_read, hex_read, immediate_read, natural_read, register_read, bare_signed, bare_reg, bare, plain_signed, plain_reg, immediate_small}

@@ -1,14 +1,13 @@
 -- Eight hexadecimal digits are read again.
-use Rattle.std.proofs.Common.{◌≡◌, ℕ, suc, ◌<◌, ◌≤◌, ◌^◌, ◌+◌, ◌*◌, ◌/◌, ◌%◌, ◌==◌, Bool, true, false, List, [], ◌∷◌, ◌++◌, length, Option, Some, None, codes, pos, refl, sym, ap, ◌∙◌, arith, rules, ltb, fold}
+use Rattle.std.proofs.Common.{◌≡◌, ℕ, ◌<◌, ◌^◌, ◌/◌, ◌%◌, ◌==◌, Bool, true, false, List, [], ◌∷◌, ◌++◌, Some, codes, pos, refl, arith}
 use Rattle.std.specs.List.{list_all}
 use Rattle.std.specs.Char.{digit_value}
 use Rattle.std.specs.Fmt.{digits}
-use Rattle.std.specs.Str.Parse.{AllDigits, IsNumeral, digits_value}
-use Rattle.std.proofs.lemmas.Bool.{lt-ltb, eqb-true}
-use Rattle.std.proofs.lemmas.Grind.{common_steps}
+use Rattle.std.specs.Str.Parse.{AllDigits, digits_value}
+use Rattle.std.proofs.lemmas.Bool.{eqb-true}
 use Rattle.rv64_asm.specs.Numbers.{number_of, magnitude, numeral}
 use Rattle.rv64_asm.specs.Shown.{digit, hex_word}
-use Rattle.rv64_asm.proofs.Plain.{IsPlain, plain}
+use Rattle.rv64_asm.proofs.Plain.{IsPlain}
 use Rattle.rv64_asm.proofs.Numerals.{range, within_range, numeral_is, digits_plain}
 
 -- one digit, of that value

@@ -1,5 +1,5 @@
 -- Every mnemonic that is written is a plain word, and names its kind.
-use Rattle.std.proofs.Common.{◌≡◌, ℕ, ◌<◌, Bool, true, List, length, Option, Some, codes, refl, ltb}
+use Rattle.std.proofs.Common.{◌≡◌, ℕ, true, List, length, Some, codes, refl, ltb}
 use Rattle.std.specs.List.{list_all}
 use Rattle.std.proofs.lemmas.Bool.{ltb-true}
 use Rattle.rv64_decode.specs.declared.insn.BranchCondition.{BranchCondition}

@@ -1,8 +1,7 @@
 -- Numbers and registers that are written are read again.
-use Rattle.std.proofs.Common.{◌≡◌, ℕ, suc, zero, ◌<◌, ◌≤◌, ◌^◌, ◌+◌, ◌*◌, ◌-◌, ◌%◌, ◌==◌, ◌&&◌, not, Bool, true, false, cond, List, [], ◌∷◌, ◌++◌, length, take, drop, Option, Some, None, Result, Ok, Err, codes, ℤ, pos, negsuc, neg_ℤ, ◌≤ℤ◌, unsigned_abs, refl, sym, ap, ◌∙◌, arith, rules, fold, nat_eq, nat_lt, nat_le, leb, ltb, eqb, inl, inr}
+use Rattle.std.proofs.Common.{◌≡◌, ℕ, suc, zero, ◌<◌, ◌≤◌, ◌^◌, ◌+◌, ◌*◌, ◌==◌, ◌&&◌, Bool, true, false, List, [], ◌∷◌, length, Option, Some, None, Ok, codes, ℤ, pos, negsuc, unsigned_abs, refl, ap, arith, fold, nat_eq, nat_le, ltb, eqb, inl, inr}
 use Rattle.std.specs.List.{list_all, starts_with}
 use Rattle.std.specs.Char.{digit_value}
-use Rattle.std.specs.Prelude.{int_le}
 use Rattle.std.specs.Fmt.{decimal, signed_decimal, digits}
 use Rattle.std.specs.Str.Parse.{AllDigits, IsNumeral, digits_value, digits_value_after}
 use Rattle.std.proofs.lemmas.Fmt.{decimal_is_IsNumeral, digits_is_IsNumeral}
@@ -10,12 +9,11 @@ use Rattle.std.proofs.lemmas.Bool.{lt-ltb, le-leb, and_parts, cases_Bool, ltb-tr
 use Rattle.std.proofs.lemmas.Bool.Decides.{eqb_tells}
 use Rattle.std.proofs.lemmas.Int.{ints}
 use Rattle.std.proofs.lemmas.Grind.{common_steps}
-use Rattle.rv64_asm.specs.declared.fault.LineFault.{LineFault}
-use Rattle.rv64_asm.specs.Numbers.{◌>>=◌, numeral, all_digits, magnitude, number_of, number_in, in_range, natural}
+use Rattle.rv64_asm.specs.Numbers.{numeral, all_digits, magnitude, number_of, in_range, natural}
 use Rattle.rv64_asm.specs.Words.{register_of}
 use Rattle.rv64_asm.specs.Statements.{immediate, register}
 use Rattle.rv64_asm.specs.Shown.{reg, hex, IsImmediate}
-use Rattle.rv64_asm.proofs.Plain.{IsPlain, plain, each}
+use Rattle.rv64_asm.proofs.Plain.{IsPlain, plain}
 
 all_same : (radix : ℕ) (ds : List ℕ) → AllDigits radix ds → all_digits radix ds ≡ true
 all_same radix [] h = refl

@@ -1,22 +1,19 @@
 -- Words without blanks and marks, and the lines that they make.
-use Rattle.std.proofs.Common.{◌≡◌, ℕ, suc, ◌<◌, ◌≤◌, ◌+◌, ◌==◌, ◌||◌, ◌&&◌, not, Bool, true, false, cond, List, [], ◌∷◌, ◌++◌, reverse, length, get_or, map, take, drop, Option, Some, None, option_map, Result, Ok, Err, refl, sym, ap, subst, ◌∙◌, arith, rules, ltb, nat_le, nat_lt, codes, append_assoc, append-nil}
-use Rattle.std.specs.List.{list_all, slice_split, All, before_first, position, position_or_len}
+use Rattle.std.proofs.Common.{◌≡◌, ℕ, suc, ◌<◌, ◌==◌, ◌||◌, ◌&&◌, not, Bool, true, false, List, [], ◌∷◌, ◌++◌, reverse, length, Option, None, Result, refl, sym, ap, ◌∙◌, arith, ltb, nat_le, append_assoc, append-nil}
+use Rattle.std.specs.List.{list_all, slice_split, position_or_len}
 use Rattle.std.specs.Option.{ok_or}
-use Rattle.std.proofs.lemmas.Bool.{and_parts, lt-ltb}
+use Rattle.std.proofs.lemmas.Bool.{and_parts}
 use Rattle.std.proofs.lemmas.List.{reverse-reverse, reverse-append, length-reverse}
 use Rattle.std.proofs.lemmas.List.Folds.{list_all-append}
-use Rattle.std.proofs.lemmas.List.Splits.{slice_split_at, slice_split_none}
 use Rattle.std.proofs.Math.Seq.{take-length, drop-length, take-append_seam, drop-append_seam}
 use Rattle.std.proofs.lemmas.Grind.{common_steps}
 use Rattle.rv64_asm.specs.declared.fault.LineFault.{LineFault}
 use Rattle.rv64_asm.specs.declared.fault.LineFault.TheVariants.{UnknownWord}
-use Rattle.rv64_asm.specs.declared.lexing.Operands.TheVariants.{Zero, One, Two, Three}
 use Rattle.rv64_asm.specs.declared.statement.Statement.{Statement}
 use Rattle.rv64_asm.specs.declared.words.Part.{Part}
-use Rattle.rv64_asm.specs.declared.words.Kind.{Kind}
 use Rattle.rv64_asm.specs.Numbers.{◌>>=◌}
 use Rattle.rv64_asm.specs.Words.{kind_of}
-use Rattle.rv64_asm.specs.Lexing.{is_blank, skip_blanks, trim, parts, operands, code_of, cut, word_of, shape_of}
+use Rattle.rv64_asm.specs.Lexing.{is_blank, skip_blanks, trim, operands, code_of, cut, word_of, shape_of}
 use Rattle.rv64_asm.specs.Statements.{body_of, split_line, line_of, label_of, statement_of}
 use Rattle.rv64_asm.specs.Shown.{two, three}
 

@@ -1,5 +1,5 @@
 -- Each pass refuses by the text's fault.
-use Rattle.std.proofs.Common.{◌≡◌, ℕ, List, inl, inr}
+use Rattle.std.proofs.Common.{ℕ, List, inl, inr}
 use Rattle.rv64_asm.specs.declared.fault.AsmFault.{AsmFault}
 use Rattle.rv64_asm.specs.declared.fault.AsmFault.TheVariants.{At, OutOfMemory}
 use Rattle.rv64_asm.specs.Assembled.{IsOwnRefusal, IsTargetRefusal, IsRefusal}

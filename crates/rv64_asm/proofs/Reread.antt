@@ -1,15 +1,12 @@
 -- What `show` writes reads back.
-use Rattle.std.proofs.Common.{◌≡◌, ℕ, suc, ◌<◌, ◌≤◌, ◌^◌, ◌+◌, ◌-◌, ◌*◌, ◌/◌, ◌%◌, ◌==◌, ◌&&◌, ◌≤ℤ◌, Bool, true, false, cond, List, [], ◌∷◌, ◌++◌, Option, Some, None, Result, Ok, Err, codes, ℤ, pos, negsuc, unsigned_abs, refl, sym, ap, ◌∙◌, arith, rules, w64}
-use Rattle.std.specs.Int.{cast_signed, cast_unsigned}
+use Rattle.std.proofs.Common.{◌≡◌, ℕ, suc, ◌<◌, ◌≤◌, ◌^◌, ◌+◌, ◌-◌, ◌%◌, ◌==◌, ◌&&◌, ◌≤ℤ◌, Bool, true, false, cond, List, [], ◌∷◌, ◌++◌, Ok, codes, ℤ, pos, negsuc, refl, ap, ◌∙◌, arith}
 use Rattle.std.specs.Fmt.{decimal, signed_decimal}
 use Rattle.std.proofs.lemmas.Bool.{lt-ltb, le-ltb, le-leb, and_parts, eqb-true}
 use Rattle.std.proofs.lemmas.Int.{ints}
-use Rattle.std.proofs.lemmas.Grind.{common_steps}
 use Rattle.rv64_decode.specs.declared.insn.Insn.{Insn}
 use Rattle.rv64_decode.specs.declared.insn.Insn.TheVariants as insns
 use Rattle.rv64_decode.specs.declared.insn.BranchCondition.{BranchCondition}
 use Rattle.rv64_decode.specs.declared.insn.StoreWidth.TheVariants as widths
-use Rattle.rv64_asm.specs.declared.fault.LineFault.{LineFault}
 use Rattle.rv64_asm.specs.declared.statement.Target.TheVariants.{Address}
 use Rattle.rv64_asm.specs.declared.statement.Item.TheVariants.{Instruction, Word}
 use Rattle.rv64_asm.specs.declared.statement.Statement.{Statement}
@@ -20,8 +17,7 @@ use Rattle.rv64_asm.specs.declared.words.Kind.{Kind}
 use Rattle.rv64_asm.specs.declared.words.Shape.TheVariants as shapes
 use Rattle.rv64_asm.specs.declared.words.Kind.TheVariants as kinds
 use Rattle.rv64_asm.specs.Label.{Label}
-use Rattle.rv64_asm.specs.Numbers.{◌>>=◌}
-use Rattle.rv64_asm.specs.Statements.{line_of, statement_of, text_statement, instruction_of, fence, number, number_of_width}
+use Rattle.rv64_asm.specs.Statements.{statement_of, text_statement, instruction_of, fence, number, number_of_width}
 use Rattle.rv64_asm.specs.Written.{resolve, distance, offset_in}
 use Rattle.rv64_asm.specs.Shown.{shown, reg, hex, place, two, three, target, IsRanged, IsOffset, IsImmediate, Rereads, is_full_fence, fence_word, hex_word, condition_name, load_name, store_name, imm_name, shift_name, shift_word_name, alu_name, word_name}
 use Rattle.rv64_asm.proofs.Plain.{Reads, lone_reads, one_reads, two_reads, three_reads, statement_by}

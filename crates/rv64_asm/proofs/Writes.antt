@@ -1,6 +1,5 @@
 -- The second pass, from line to line.
-use Rattle.std.proofs.Common.{◌≡◌, ℕ, ◌<◌, ◌+◌, List, [], ◌∷◌, ◌++◌, length, get_or, take, Option, Some, None, Result, Ok, Err, refl, sym, ap, subst, ◌∙◌, arith, below_more}
-use Rattle.std.specs.List.{slice_get}
+use Rattle.std.proofs.Common.{◌≡◌, ℕ, ◌<◌, ◌+◌, List, ◌++◌, length, get_or, take, Some, None, Result, Ok, Err, refl, sym, ap, ◌∙◌, arith, below_more}
 use Rattle.std.specs.Result.{result_err}
 use Rattle.std.proofs.lemmas.List.{length-append}
 use Rattle.rv64_asm.specs.declared.fault.LineFault.{LineFault}
@@ -9,10 +8,10 @@ use Rattle.rv64_asm.specs.declared.statement.Item.{Item}
 use Rattle.rv64_asm.specs.Label.{Label}
 use Rattle.rv64_asm.specs.Statements.{label_of}
 use Rattle.rv64_asm.specs.Places.{Layout, behind, next_place, with_label, address, StandBelow}
-use Rattle.rv64_asm.specs.Written.{item_of, emit, IsWritten, WrittenBelow, Appends, place_of_line, HasTargetFault}
+use Rattle.rv64_asm.specs.Written.{item_of, emit, IsWritten, WrittenBelow, Appends, HasTargetFault}
 use Rattle.rv64_asm.specs.Assembled.{IsTargetFault}
 use Rattle.rv64_asm.proofs.Turns.{behind_more, line_here, stepped}
-use Rattle.rv64_asm.proofs.Emitting.{stands_new, written_on, statement_grows, Emitted, emitted, goes, target_fault, item_is}
+use Rattle.rv64_asm.proofs.Emitting.{stands_new, written_on, statement_grows, emitted, goes, target_fault, item_is}
 
 ok_of : (r : Result Place LineFault) → result_err r ≡ None → (next : Place) × (r ≡ Ok next)
 ok_of (Ok next) e = (next, refl)

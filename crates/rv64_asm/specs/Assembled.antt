@@ -1,5 +1,5 @@
 -- What the assembler makes of a text, or the text's fault.
-use Rattle.std.specs.Prelude.{◌≡◌, ℕ, ◌+◌, ◌<◌, ◌⊎◌, List, [], length, Option, Some, None, Result, Ok, Err}
+use Rattle.std.specs.Prelude.{◌≡◌, ℕ, ◌+◌, ◌<◌, ◌⊎◌, List, length, Some, None}
 use Rattle.rv64_asm.specs.declared.fault.LineFault.{LineFault}
 use Rattle.rv64_asm.specs.declared.fault.AsmFault.{AsmFault}
 use Rattle.rv64_asm.specs.declared.fault.AsmFault.TheVariants.{At, OutOfMemory}

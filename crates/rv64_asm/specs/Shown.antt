@@ -1,5 +1,5 @@
 -- The line that shows an instruction.
-use Rattle.std.specs.Prelude.{◌≡◌, Bool, ℕ, ℤ, pos, negsuc, unsigned_abs, ◌<◌, ◌≤ℤ◌, ◌+◌, ◌*◌, ◌/◌, ◌%◌, ◌^◌, ◌==◌, ◌&&◌, List, [], ◌∷◌, ◌++◌, false, if◌then◌else◌, codes, None, Result, Ok}
+use Rattle.std.specs.Prelude.{◌≡◌, Bool, ℕ, ℤ, pos, negsuc, unsigned_abs, ◌<◌, ◌≤ℤ◌, ◌+◌, ◌*◌, ◌/◌, ◌%◌, ◌^◌, ◌==◌, ◌&&◌, List, ◌++◌, false, if◌then◌else◌, codes, None, Ok}
 use Rattle.std.specs.Fmt.{decimal, signed_decimal, digits}
 use Rattle.std.specs.Int.{cast_unsigned, w64}
 use Rattle.rv64_decode.specs.declared.insn.Insn.{Insn}

@@ -1,5 +1,5 @@
 -- What a line says.
-use Rattle.std.specs.Prelude.{◌≡◌, ℕ, suc, ℤ, pos, negsuc, ◌+◌, ◌*◌, ◌-◌, ◌^◌, ◌<◌, ◌≤◌, ◌==◌, ◌||◌, ◌&&◌, Bool, true, false, List, [], ◌∷◌, length, nat_le, if◌then◌else◌, Option, Some, None, option_map, Result, Ok, Err}
+use Rattle.std.specs.Prelude.{◌≡◌, ℕ, ℤ, pos, negsuc, ◌+◌, ◌*◌, ◌-◌, ◌^◌, ◌==◌, ◌||◌, ◌&&◌, Bool, false, List, [], ◌∷◌, length, nat_le, if◌then◌else◌, Option, Some, None, Result, Ok, Err}
 use Rattle.std.specs.List.{list_all}
 use Rattle.std.specs.Option.{ok_or}
 use denote.Ref.{Bor}
@@ -15,12 +15,11 @@ use Rattle.rv64_decode.specs.declared.insn.ShiftOp.{ShiftOp}
 use Rattle.rv64_decode.specs.declared.insn.AluOp.{AluOp}
 use Rattle.rv64_decode.specs.declared.insn.AluOp.TheVariants as alus
 use Rattle.rv64_asm.specs.declared.fault.LineFault.{LineFault}
-use Rattle.rv64_asm.specs.declared.fault.LineFault.TheVariants.{UnknownWord, OperandForm, OutOfRange}
+use Rattle.rv64_asm.specs.declared.fault.LineFault.TheVariants.{UnknownWord, OperandForm}
 use Rattle.rv64_asm.specs.declared.lexing.Operands.{Operands}
 use Rattle.rv64_asm.specs.declared.lexing.Operands.TheVariants.{Zero, One, Two, Three}
 use Rattle.rv64_asm.specs.declared.statement.Target.{Target}
 use Rattle.rv64_asm.specs.declared.statement.Target.TheVariants.{Label, Address}
-use Rattle.rv64_asm.specs.declared.statement.Item.{Item}
 use Rattle.rv64_asm.specs.declared.statement.Item.TheVariants.{Nothing, Instruction, Word, Number, Zeros}
 use Rattle.rv64_asm.specs.declared.statement.Statement.{Statement}
 use Rattle.rv64_asm.specs.declared.statement.Statement.TheVariants.{Enter, Give, Branch, Jump}
@@ -71,7 +70,7 @@ is_name (b ∷ bs) = is_name_start b && list_all is_name_byte bs
 abbrev pub register : List ℕ → Result ℕ LineFault
 register text = ok_or (register_of text) OperandForm
 
--- the immediate of loads, stores, JALR and register-immediate instructions: twelve bits with a sign
+-- the immediate of loads, stores, JALR and register-immediate instructions: twelve bits with a sign (section 2.3)
 abbrev pub immediate : List ℕ → Result ℤ LineFault
 immediate text = number_in (negsuc 2047) (pos 2047) text
 
@@ -118,7 +117,7 @@ with_immediate (Three d s n) = do
   Ok (rd, rs1, number)
 with_immediate _ = Err OperandForm
 
--- `rd, rs1, amount`, the amount at most high
+-- `rd, rs1, amount`, the amount at most high (sections 5.2 and 2.4)
 unfoldable pub with_amount : ℕ → Operands (List ℕ) → Result (ℕ × ℕ × ℕ) LineFault
 with_amount high (Three d s n) = do
   rd ← register d
@@ -135,7 +134,7 @@ with_place (Two r p) = do
   Ok (register, place.0, place.1)
 with_place _ = Err OperandForm
 
--- `rd, number`, the number one of twenty bits
+-- `rd, number`, the number one of twenty bits (section 2.4)
 unfoldable pub with_upper : Operands (List ℕ) → Result (ℕ × ℕ) LineFault
 with_upper (Two d n) = do
   rd ← register d
@@ -151,7 +150,7 @@ jalr operands = with_immediate operands
 abbrev pub fence_set : List ℕ → Result ℕ LineFault
 fence_set text = ok_or (fence_set_of text) OperandForm
 
--- no operand: all of `iorw` before and after; or the two sets
+-- no operand: all of `iorw` before and after; or the two sets (section 2.7)
 unfoldable pub fence : Operands (List ℕ) → Result ℕ LineFault
 fence Zero = Ok 255
 fence (Two p s) = do

@@ -1,5 +1,5 @@
 -- What words name: mnemonics, directives, registers, and the sets of a fence.
-use Rattle.std.specs.Prelude.{◌≡◌, ℕ, Bool, List, [], ◌∷◌, Option, option_map, codes}
+use Rattle.std.specs.Prelude.{ℕ, List, [], ◌∷◌, Option, option_map, codes}
 use Rattle.std.specs.List.{find}
 use Rattle.std.specs.Str.{bytes_eq}
 use Rattle.rv64_decode.specs.declared.insn.BranchCondition.TheVariants as conditions
@@ -19,7 +19,7 @@ abbrev pub lookup : {T : Type 0} → List ℕ → List (List ℕ × T) → Optio
 lookup word rows = option_map (λ r. r.1) (find (λ r. bytes_eq r.0 word) rows)
 
 -- the directives, the mnemonics of RV64I (chapter 24 of the RISC-V Unprivileged ISA, document 20191213), and the
--- pseudo-instructions
+-- pseudo-instructions (tables 25.2 and 25.3)
 abbrev pub mnemonics : List (List ℕ × Kind)
 mnemonics =
     (codes ".text", Enter parts.Text) ∷

@@ -1,5 +1,5 @@
 -- What the lines of a text give once the labels are known.
-use Rattle.std.specs.Prelude.{◌≡◌, ℕ, ℤ, pos, negsuc, ◌+◌, ◌-◌, ◌%◌, ◌^◌, ◌<◌, ◌==◌, ◌&&◌, Bool, true, false, List, [], ◌∷◌, ◌++◌, length, take, drop, replicate, int_le, unsigned_abs, if◌then◌else◌, Option, Some, None, Result, Ok, Err, slice_get}
+use Rattle.std.specs.Prelude.{◌≡◌, ℕ, ℤ, pos, negsuc, ◌+◌, ◌-◌, ◌%◌, ◌^◌, ◌<◌, ◌==◌, ◌&&◌, List, [], ◌∷◌, ◌++◌, length, take, drop, replicate, int_le, unsigned_abs, if◌then◌else◌, Option, Some, Result, Ok, Err, slice_get}
 use Rattle.std.specs.Int.{cast_signed, to_le_bytes, w64}
 use Rattle.std.specs.Option.{ok_or}
 use Rattle.std.specs.Result.{result_err}

@@ -1,6 +1,6 @@
 //! The whole text, in two passes.
 
-ghost use Rattle.std.specs.Prelude.{◌≡◌, IfOk, IfErr};
+ghost use Rattle.std.specs.Prelude.{IfOk, IfErr};
 ghost use Rattle.std.specs.Str.Lines.{lines};
 ghost use Rattle.rv64_asm.specs.Assembled.{IsAssembly, IsRefusal};
 

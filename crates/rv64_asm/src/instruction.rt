@@ -1,6 +1,6 @@
 //! Instructions without a target, by their mnemonics and operands.
 
-ghost use Rattle.std.specs.Prelude.{◌≡◌, ◌≤ℤ◌, pos, negsuc, Ok, Err};
+ghost use Rattle.std.specs.Prelude.{◌≡◌, ◌≤ℤ◌, pos, negsuc};
 ghost use Rattle.rv64_asm.specs.Statements as spec;
 ghost use Rattle.rv64_asm.specs.Lexing.{seen};
 

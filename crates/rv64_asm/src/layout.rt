@@ -1,6 +1,6 @@
 //! The first pass: where each line goes, and the labels.
 
-ghost use Rattle.std.specs.Prelude.{◌≡◌, Ok, Err, None, true, false, length, IfOk, IfErr, OnOk, option_map};
+ghost use Rattle.std.specs.Prelude.{◌≡◌, Ok, Err, false, length, IfOk, IfErr, OnOk};
 ghost use Rattle.std.specs.Str.Lines.{lines};
 ghost use Rattle.rv64_asm.specs.Places as spec;
 ghost use Rattle.rv64_asm.specs.Statements.{label_of};

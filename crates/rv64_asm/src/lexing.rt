@@ -1,7 +1,7 @@
 //! A line in its parts.
 
-ghost use Rattle.std.specs.Prelude.{◌≡◌, ℕ, ◌+◌, ◌*◌, ◌^◌, ◌==◌, ◌||◌, ◌<◌, ◌≤◌, length, reverse, min, MatchOption, option_map, Option, Some, None, List, [], ◌∷◌, Bool};
-ghost use Rattle.std.specs.List.{before_first, after_first, slice_split, position, position_or_len};
+ghost use Rattle.std.specs.Prelude.{◌≡◌, ◌==◌, reverse, option_map, List};
+ghost use Rattle.std.specs.List.{position};
 ghost use Rattle.rv64_asm.specs.Lexing as spec;
 ghost use Rattle.rv64_asm.specs.Lexing.{skip_blanks, seen};
 

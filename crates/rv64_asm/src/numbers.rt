@@ -1,13 +1,15 @@
 //! Numbers of an operand.
 
-ghost use Rattle.std.specs.Prelude.{◌≡◌, ℕ, ℤ, pos, negsuc, neg_ℤ, ◌+◌, ◌*◌, ◌^◌, ◌==◌, ◌<◌, ◌≤◌, ◌≤ℤ◌, ◌<ℤ◌, length, min, MatchOption, IfOk, unsigned_abs, option_map, Option, Some, None, true, false, if◌then◌else◌};
-ghost use Rattle.rv64_asm.specs.Numbers.{all_digits, value_of, numeral, magnitude, number_of, number_in, natural, number_between, IsClipped};
+ghost use Rattle.std.specs.Prelude.{◌≡◌, ℤ, pos, negsuc, ◌^◌, ◌≤◌, ◌≤ℤ◌, IfOk, unsigned_abs, Some, None, if◌then◌else◌};
+ghost use Rattle.std.specs.Char.{digit_value};
+ghost use Rattle.rv64_asm.specs.Numbers.{all_digits, value_of, numeral, magnitude, number_in, natural, number_between, IsClipped};
 
 use crate::fault::LineFault;
 
 /// Greater numbers are read as this one.
 const MOST: u128 = 1 << 65;
 
+/// The value of a digit, or 36 where the byte is none.
 fn digit_of(b: u8) -> u8
     ensures value { result ≡ digit_value b }
     ensures small { result ≤ 36 }
@@ -20,9 +22,7 @@ fn digit_of(b: u8) -> u8
     }
 }
 
-ghost use Rattle.std.specs.Char.{digit_value};
-
-// The number that the digits write.
+/// The number that the digits write.
 fn size_of(digits: &[u8], radix: u8) -> Option<u128>
     requires { radix ≤ 16 }
     ensures clipped { IsClipped result (if all_digits radix digits.now then Some (value_of radix digits.now) else None) }

@@ -1,6 +1,6 @@
 //! The forms of operands. Registers are read before numbers, so a wrong form comes before a range.
 
-ghost use Rattle.std.specs.Prelude.{◌≡◌, ℕ, ℤ, pos, negsuc, ◌+◌, ◌*◌, ◌-◌, ◌^◌, ◌<◌, ◌≤◌, ◌≤ℤ◌, length, Option, Some, None, true, false, if◌then◌else◌, Ok, Err, IfOk};
+ghost use Rattle.std.specs.Prelude.{◌≡◌, ◌<◌, ◌≤◌, Ok, IfOk};
 ghost use Rattle.rv64_asm.specs.Statements as spec;
 ghost use Rattle.rv64_asm.specs.Statements.{Gives, target_named};
 ghost use Rattle.rv64_asm.specs.Lexing.{seen};

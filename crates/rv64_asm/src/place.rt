@@ -1,6 +1,6 @@
 //! Where the next line goes.
 
-ghost use Rattle.std.specs.Prelude.{◌≡◌, ◌≤◌, IfSome, IfOk, OnOk, Ok, Err, true, false, option_map};
+ghost use Rattle.std.specs.Prelude.{◌≡◌, ◌≤◌, IfSome, IfOk, OnOk, Ok, false, option_map};
 ghost use Rattle.rv64_asm.specs.Places as spec;
 ghost use Rattle.rv64_asm.specs.Statements.{label_of};
 ghost use Rattle.rv64_asm.specs.Places.{IsWithin};

@@ -1,6 +1,6 @@
 //! One instruction as one line of assembler text.
 
-ghost use Rattle.std.specs.Prelude.{◌≡◌, ◌+◌, ◌*◌, ◌^◌, ◌<◌, codes, IfOk, IfErr, string_bytes};
+ghost use Rattle.std.specs.Prelude.{◌≡◌, IfOk, IfErr, string_bytes};
 ghost use Rattle.rv64_asm.specs.Shown as spec;
 ghost use Rattle.rv64_asm.specs.Shown.{IsRanged, Rereads};
 

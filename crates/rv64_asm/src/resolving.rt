@@ -1,8 +1,7 @@
 //! Statements with their targets found.
 
-ghost use Rattle.std.specs.Prelude.{◌≡◌, ℤ, pos, negsuc, ◌+◌, ◌-◌, ◌%◌, ◌^◌, ◌≤ℤ◌, Ok, Err, IfOk, unsigned_abs, option_map};
+ghost use Rattle.std.specs.Prelude.{◌≡◌, ℤ, ◌%◌, ◌≤ℤ◌, Ok, IfOk, unsigned_abs};
 ghost use Rattle.rv64_asm.specs.Written as spec;
-ghost use Rattle.rv64_asm.specs.Places.{IsWithin};
 ghost use Rattle.rv64_asm.specs.Statements.{named, target_named};
 
 use crate::fault::LineFault;

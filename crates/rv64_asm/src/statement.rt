@@ -1,6 +1,6 @@
 //! What a line says: the item that it gives, or a branch or a jump to a target.
 
-ghost use Rattle.std.specs.Prelude.{◌≡◌, ℕ, ℤ, pos, negsuc, ◌+◌, ◌*◌, ◌-◌, ◌^◌, ◌<◌, ◌≤◌, ◌≤ℤ◌, length, Option, Some, None, true, false, if◌then◌else◌, Ok, Err, IfOk, option_map};
+ghost use Rattle.std.specs.Prelude.{◌≡◌, ◌^◌, ◌<◌, Ok, IfOk, option_map};
 ghost use Rattle.rv64_asm.specs.Statements as spec;
 ghost use Rattle.rv64_asm.specs.Statements.{Gives, named};
 ghost use Rattle.rv64_asm.specs.Lexing.{seen};

@@ -1,6 +1,5 @@
 //! Branches and jumps, whose targets are labels or addresses.
 
-ghost use Rattle.std.specs.Prelude.{◌≡◌, Ok, Err};
 ghost use Rattle.rv64_asm.specs.Statements as spec;
 ghost use Rattle.rv64_asm.specs.Statements.{Gives, named};
 ghost use Rattle.rv64_asm.specs.Lexing.{seen};

@@ -210,11 +210,14 @@ fn data(rt: HostRuntime) {
 }
 
 #[test]
-fn accepted_lines(rt: HostRuntime) {
+fn accepted_lines(rt: HostRuntime) -> Result<(), Fail> {
     gives(&rt, "a:nop", &[0x13], &[]);
     gives(&rt, "ra: beq x0, x0, ra", &[0x0000_0063], &[]);
     gives(&rt, "addi: addi t0 ,\tt1,1", &[0x0013_0293], &[]);
-    gives(&rt, ".data\n.zero 1048576\n.zero 0\n", &[], &[0; 1_048_576]);
+    let assembly = assemble(rt.alloc(), ".data\n.zero 1048576\n.zero 0\n")?;
+    assert_eq!(rt; assembly.program.bytes().len(), 1_048_576);
+    assert!(rt; assembly.program.bytes().iter().all(|byte| *byte == 0));
+    Ok(())
 }
 
 #[test]

@@ -1,9 +1,7 @@
-use Rattle.std.proofs.Common.{◌≡◌, ◌+◌, ◌-◌, ◌++◌, [], length, take, replicate, refl, sym, ap, ◌∙◌, append-nil, arith, rules, w64, vec_len}
+use Rattle.std.proofs.Common.{◌≡◌, ◌+◌, ◌-◌, [], take, replicate, refl, sym, ◌∙◌, append-nil, arith, w64, vec_len}
 use Rattle.std.specs.Int.{to_le_bytes}
 use Rattle.std.proofs.lemmas.Grind.{common_steps}
-use Rattle.std.proofs.Math.Seq.{take-length}
 use Rattle.rv64_asm.specs.Places.{bytes_in}
-use Rattle.rv64_asm.specs.Written.{Appends}
 use Rattle.rv64_asm.proofs.writing.write.Goals as goal
 
 pub returns-in-Nothing : goal.returns-in-Nothing

@@ -1,12 +1,12 @@
-use Rattle.std.proofs.Common.{◌≡◌, ℕ, ◌+◌, ◌<◌, List, length, get_or, take, Option, Some, None, Result, Ok, Err, refl, sym, ap, ◌∙◌, arith}
+use Rattle.std.proofs.Common.{◌≡◌, ℕ, List, length, take, Ok, Err, refl, sym, ap, ◌∙◌, arith}
 use Rattle.std.specs.Str.Lines.{lines}
 use Rattle.std.proofs.lemmas.List.{length_push}
 use Rattle.std.proofs.Math.Seq.{take-length}
 use Rattle.std.proofs.lemmas.Iterator.Splits.{YieldsList-from_lines}
 use Rattle.std.proofs.lemmas.Iterator.Consumers.{YieldsList-turn, YieldsList-end}
-use Rattle.rv64_asm.specs.Places.{Layout, behind}
-use Rattle.rv64_asm.specs.Written.{emit, WrittenBelow}
-use Rattle.rv64_asm.proofs.Writes.{turned, fault_here, Turned}
+use Rattle.rv64_asm.specs.Places.{behind}
+use Rattle.rv64_asm.specs.Written.{emit}
+use Rattle.rv64_asm.proofs.Writes.{turned, fault_here}
 use Rattle.rv64_asm.proofs.writing.write_lines.Goals as goal
 
 pub loop-line-preserved : goal.loop-line-preserved

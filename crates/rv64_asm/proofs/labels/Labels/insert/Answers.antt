@@ -1,5 +1,5 @@
-use Rattle.std.proofs.Common.{◌≡◌, ◌∙◌, ap, ◌++◌, ◌∷◌, [], None}
-use Rattle.rv64_asm.specs.Label.{Label, address_of}
+use Rattle.std.proofs.Common.{◌≡◌, None}
+use Rattle.rv64_asm.specs.Label.{address_of}
 use Rattle.rv64_asm.proofs.LabelMap.{added, labels_of}
 use Rattle.rv64_asm.proofs.labels.Labels.insert.Goals as goal
 
