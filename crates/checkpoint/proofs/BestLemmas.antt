@@ -4,9 +4,8 @@ use Rattle.std.proofs.lemmas.List.Elements.{Contains-push, Contains-append_left,
 use Rattle.checkpoint.specs.Best.{IsBest, AreBest}
 use Rattle.checkpoint.specs.Further.{MarkKin, further, mark_laws, same_parts}
 use Rattle.checkpoint.specs.MarkValue.{MarkValue}
-use Rattle.join_law.proofs.EightPlaces.{Contains-unmap}
-use Rattle.join_law.specs.Eight.{EightKin, place_of}
-use Rattle.join_law.specs.JoinOf.{AllKin, IsJoinOf, IsWithin}
+use Rattle.join_law.specs.Eight.{place_of}
+use Rattle.join_law.specs.JoinOf.{IsJoinOf, IsWithin}
 use Rattle.join_law.specs.declared.places.Eight.{Eight}
 
 Contains-nil : (x : MarkValue) → Contains [] x → ⊥
@@ -60,16 +59,17 @@ below_within x y k h = (k, same_parts _ _ _ _ _ _ k.origin k.context (omega arit
 within_below : (x y : MarkValue) → IsWithin MarkKin further x y → x.count ≤ y.count
 within_below x y w = omega (arith, count_of_same _ _ w.1)
 
--- no mark is kin to all, so that the join is one of some
-pub IsBest-join : (marks : List MarkValue) (r : MarkValue) → AllKin MarkKin marks → IsJoinOf MarkKin further marks r → IsBest marks r
-IsBest-join [] r kin p =
+-- marks within one are kin, and no mark is kin to all, so that the join is one of them
+pub IsBest-join : (marks : List MarkValue) (r : MarkValue) → IsJoinOf MarkKin further marks r → IsBest marks r
+IsBest-join [] r p =
     let other : MarkValue = record { origin = r.origin; context = suc r.context; count = 0 } in
     let within = p.least other (λ x c. absurd (Contains-nil x c)) in
     absurd (omega (arith, within.0.context))
-IsBest-join (m ∷ ms) r kin p =
+IsBest-join (m ∷ ms) r p =
     let g = greatest m ms in
     let up = p.above g.0 g.1.there in
-    let down = p.least g.0 (λ x c. below_within x g.0 (kin x g.0 c g.1.there) (g.1.above x c)) in
+    let kin : (x : MarkValue) → Contains (m ∷ ms) x → MarkKin x g.0 = λ x c. mark_laws.kin_along x r g.0 (p.above x c).0 (mark_laws.kin_back g.0 r up.0) in
+    let down = p.least g.0 (λ x c. below_within x g.0 (kin x c) (g.1.above x c)) in
     let same : g.0 ≡ r = sym down.1 ∙ mark_laws.commutative r g.0 down.0 ∙ up.1 in
     record {
       there = subst (Contains (m ∷ ms)) same g.1.there;
@@ -77,10 +77,5 @@ IsBest-join (m ∷ ms) r kin p =
     }
 
 -- the same at each place of eights
-pub AreBest-join : (eights : List (Eight MarkValue)) (r : Eight MarkValue) → AllKin (EightKin MarkKin) eights → ((i : ℕ) → i < 8 → IsJoinOf MarkKin further (map (λ eight. place_of eight i) eights) (place_of r i)) → AreBest eights r
-AreBest-join eights r kin joins i h =
-    let kin_there : AllKin MarkKin (map (λ eight. place_of eight i) eights) = λ x y a b.
-    let s = Contains-unmap (λ eight. place_of eight i) eights x a in
-    let t = Contains-unmap (λ eight. place_of eight i) eights y b in
-    subst (λ v. MarkKin v y) s.2 (subst (λ v. MarkKin (place_of s.0 i) v) t.2 (kin s.0 t.0 s.1 t.1 i h)) in
-    IsBest-join (map (λ eight. place_of eight i) eights) (place_of r i) kin_there (joins i h)
+pub AreBest-join : (eights : List (Eight MarkValue)) (r : Eight MarkValue) → ((i : ℕ) → i < 8 → IsJoinOf MarkKin further (map (λ eight. place_of eight i) eights) (place_of r i)) → AreBest eights r
+AreBest-join eights r joins i h = IsBest-join (map (λ eight. place_of eight i) eights) (place_of r i) (joins i h)

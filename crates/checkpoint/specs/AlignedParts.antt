@@ -1,9 +1,10 @@
--- Eight marks of one origin, place by place as they are tested.
+-- Eight marks of one origin, place by place.
 use Rattle.checkpoint.specs.Aligned.{IsMarkOf}
 use Rattle.checkpoint.specs.MarkValue.{MarkValue}
 use Rattle.join_law.specs.declared.places.Eight.{Eight}
 use Rattle.origin_set.specs.OriginValue.{OriginValue}
 
+-- `AreMarksOf`, as the eight facts that a program tests one by one
 pub record EachIsMarkOf (origin : OriginValue) (marks : Eight MarkValue) : Type 0 where
   pub at_0 : IsMarkOf origin 0 marks.c0
   pub at_1 : IsMarkOf origin 1 marks.c1

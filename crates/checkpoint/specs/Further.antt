@@ -26,6 +26,7 @@ IsUnjoinable a b OutOfMemory = ⊥
 pub same_parts : (o p : OriginValue) (c d m n : ℕ) → o ≡ p → c ≡ d → m ≡ n → ◌≡◌ {A = MarkValue} (record { origin = o; context = c; count = m }) (record { origin = p; context = d; count = n })
 same_parts o p c d m n e f g = rw (e, f, g) refl
 
+-- so marks of one origin and context are kin, and join to the further
 pub mark_laws : JoinLaws MarkKin further
 mark_laws = record {
   kin_self = λ x. record { origin = refl; context = refl };

@@ -6,6 +6,7 @@ use Rattle.hart_step.specs.declared.stop.Stop.{Stop}
 use Rattle.origin_set.specs.OriginValue.{OriginValue}
 use Rattle.origin_set.specs.Start.{start}
 
+-- a context of an origin, so many instructions from its start
 pub record MarkValue : Type 0 where
   pub origin : OriginValue
   pub context : ℕ

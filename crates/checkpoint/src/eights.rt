@@ -1,5 +1,5 @@
 //! Eight marks that belong together.
-ghost use Rattle.std.specs.Prelude.{◌≡◌, ◌↔◌, IsTrue};
+ghost use Rattle.std.specs.Prelude.{◌↔◌, IsTrue};
 ghost use Rattle.checkpoint.specs.Aligned.{IsAligned, IsMarkOf};
 ghost use Rattle.checkpoint.specs.AlignedParts.{EachIsMarkOf};
 

@@ -1,10 +1,12 @@
 //! Marks: how far contexts have come, each always on its trajectory of plain RV64I.
 #![tactic(auto)]
 
-ghost use Rattle.std.specs.Prelude.{◌≡◌, ◌↔◌, ◌+◌, ◌^◌, ◌≤◌, IsTrue, IsOk, IfOk, IfErr, OnErr, Some, Err};
+ghost use Rattle.std.specs.Prelude.{◌≡◌, ◌↔◌, ◌+◌, ◌^◌, ◌≤◌, ℕ, max, IsTrue, IsOk, IfOk, IfErr, OnErr, Some, Err};
 ghost use Rattle.std.specs.Arc.{arc_value};
 ghost use Rattle.checkpoint.specs.Further.{MarkKin, IsUnjoinable, further, mark_laws};
+ghost use Rattle.checkpoint.specs.Furthest.{IsFurthest};
 ghost use Rattle.checkpoint.specs.MarkValue.{Advances, state_of};
+ghost use Rattle.origin_set.specs.OriginValue.{OriginValue};
 
 mod best;
 mod eights;
@@ -143,6 +145,7 @@ impl<A: Allocator> Mark<A> {
         requires { self.old.count + n ≤ 2 ^ 60 }
         ensures works { IsOk result }
         ensures ok { IfOk result (λ ran. Advances n self.old ran.0 ran.1 self.new) }
+        ensures furthest { IfOk result (λ _. self.old.count ≡ 0 → IsFurthest self.old.origin self.old.context n self.new) }
         ensures err { IfErr result (λ fault. (fault ≡ MarkFault.OutOfMemory) × (self.new ≡ self.old)) }
     {
         let (done, why) = self.hart.run(n);
@@ -154,6 +157,9 @@ impl<A: Allocator> Mark<A> {
     /// differ, and with C2 where they agree and the contexts differ.
     pub fn try_join(self, other: Mark<A>) -> Result<Mark<A>, (Mark<A>, Mark<A>, MarkFault)>
         ensures joined { IfOk result (λ mark. MarkKin self other × (mark ≡ further self other)) }
+        ensures furthest { IfOk result (λ mark. (origin : OriginValue) (context n m : ℕ) →
+            IsFurthest origin context n self → IsFurthest origin context m other →
+            IsFurthest origin context (max n m) mark) }
         ensures refused { IfErr result (λ back. (back.0 ≡ self) × (back.1 ≡ other) × IsUnjoinable self other back.2) }
     {
         if !self.same_origin(&other) {

@@ -95,6 +95,25 @@ fn stops(rt: HostRuntime) -> Result<(), Fail> {
     Ok(())
 }
 
+/// Also run with `rt try --test --fail-alloc N`, which refuses the Nth growth: C3 is the answer, and the mark stays.
+#[test]
+fn answers_c3_for_refused_growths(rt: HostRuntime) -> Result<(), Fail> {
+    let alloc = rt.alloc();
+    let origin = origin_of(alloc, 1)?;
+    let [first, ..] = Ctx::all();
+    let Ok(mark) = Mark::start(alloc, &origin, first) else {
+        return Ok(());
+    };
+    if let Err(fault) = mark.try_clone(alloc) {
+        assert_eq!(rt; fault, MarkFault::OutOfMemory);
+    }
+    if let Err(fault) = mark.hart(alloc) {
+        assert_eq!(rt; fault, MarkFault::OutOfMemory);
+    }
+    assert_eq!(rt; shown(&mark), (0, 0x10000, 0));
+    Ok(())
+}
+
 /// What the join of two marks of a context shows, where they are kin.
 fn joined(
     alloc: Global,

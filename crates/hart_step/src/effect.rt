@@ -1,4 +1,5 @@
-// The effect of an instruction on the values of its sources.
+//! The effect of an instruction on the values of its sources.
+
 ghost use Rattle.std.specs.Prelude.{◌≡◌, ◌+◌, ◌%◌, ◌^◌};
 ghost use Rattle.hart_step.specs.State.{following as following_of};
 ghost use Rattle.hart_step.specs.Values.{bits as bits_of};
@@ -111,6 +112,7 @@ pub fn following(pc: u64) -> u64
     pc.wrapping_add(4)
 }
 
+/// A value, and on to the next instruction in line.
 #[inline(always)]
 fn value_at(pc: u64, value: u64) -> Effect
     ensures { result ≡ value_at_of pc value }
@@ -121,6 +123,7 @@ fn value_at(pc: u64, value: u64) -> Effect
     }
 }
 
+/// On at a target, which four has to divide.
 #[inline(always)]
 fn went_to(target: u64) -> Effect
     ensures { result ≡ went_to_of target }
@@ -134,6 +137,7 @@ fn went_to(target: u64) -> Effect
     }
 }
 
+/// The same, with the address of the next instruction in line as the value.
 #[inline(always)]
 fn linked_to(pc: u64, target: u64) -> Effect
     ensures { result ≡ linked_to_of pc target }

@@ -1,4 +1,5 @@
-// Environments.
+//! Environments.
+
 ghost use Rattle.std.specs.Prelude.{◌≡◌};
 ghost use Rattle.hart_step.specs.State.{environment_number};
 

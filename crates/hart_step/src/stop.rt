@@ -1,4 +1,5 @@
-// Why a hart stops.
+//! Why a hart stops.
+
 ghost use Rattle.std.specs.Prelude.{◌≡◌};
 ghost use Rattle.hart_step.specs.Causes.{cause_of};
 

@@ -1,4 +1,5 @@
-// Programs whose end is known from the standard's text.
+//! Programs whose end is known from the standard's text.
+
 ghost use Rattle.std.specs.Prelude.{◌≤◌, length};
 
 use crate::{

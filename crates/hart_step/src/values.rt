@@ -1,4 +1,5 @@
-// What instructions compute on 64-bit values.
+//! What instructions compute on 64-bit values.
+
 ghost use Rattle.std.specs.Prelude.{◌≡◌, ◌<◌};
 ghost use Rattle.hart_step.specs.Values.{condition_holds, extended as extended_of, low as low_of, shifted_right as shifted_right_of, shifted_right_word as shifted_right_word_of, imm_result, shift_result, shift_word_result, alu_result, word_result, loaded as loaded_of};
 
@@ -35,6 +36,7 @@ pub fn low(x: u64) -> u32
     (x % 0x1_0000_0000) as u32
 }
 
+/// A right shift into which the sign comes.
 #[inline(always)]
 fn shifted_right(x: u64, by: u32) -> u64
     requires { by < 64 }
@@ -43,6 +45,7 @@ fn shifted_right(x: u64, by: u32) -> u64
     (x.cast_signed() >> by).cast_unsigned()
 }
 
+/// The same on 32 bits.
 #[inline(always)]
 fn shifted_right_word(x: u32, by: u32) -> u32
     requires { by < 32 }

@@ -30,6 +30,7 @@ EightKin is_kin x y = (i : ℕ) → i < 8 → is_kin (place_of x i) (place_of y 
 abbrev pub eight_joined : {J : Type 0} → (J → J → J) → Eight J → Eight J → Eight J
 eight_joined joined x y = eight_from (λ i. joined (place_of x i) (place_of y i))
 
+-- eights of equal parts are equal
 same_parts : {J : Type 0} (a0 a1 a2 a3 a4 a5 a6 a7 b0 b1 b2 b3 b4 b5 b6 b7 : J) → a0 ≡ b0 → a1 ≡ b1 → a2 ≡ b2 → a3 ≡ b3 → a4 ≡ b4 → a5 ≡ b5 → a6 ≡ b6 → a7 ≡ b7 → ◌≡◌ {A = Eight J} (record { c0 = a0; c1 = a1; c2 = a2; c3 = a3; c4 = a4; c5 = a5; c6 = a6; c7 = a7 }) (record { c0 = b0; c1 = b1; c2 = b2; c3 = b3; c4 = b4; c5 = b5; c6 = b6; c7 = b7 })
 same_parts a0 a1 a2 a3 a4 a5 a6 a7 b0 b1 b2 b3 b4 b5 b6 b7 p0 p1 p2 p3 p4 p5 p6 p7 = rw (p0, p1, p2, p3, p4, p5, p6, p7) refl
 

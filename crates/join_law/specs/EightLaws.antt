@@ -22,9 +22,11 @@ module _ {J : Type 0} (is_kin : J → J → Type 0) (joined : J → J → J) whe
   pub place_of-eight_joined : (x y : Eight J) (i : ℕ) → i < 8 → place_of (eight_joined joined x y) i ≡ joined (place_of x i) (place_of y i)
   place_of-eight_joined x y i h = place_of-eight_from (λ i. joined (place_of x i) (place_of y i)) i h
 
+  -- the join of two eights
   abbrev both : Eight J → Eight J → Eight J
   both = eight_joined joined
 
+  -- the laws at each context are those of eights
   pub eight_laws : JoinLaws is_kin joined → JoinLaws (EightKin is_kin) (eight_joined joined)
   eight_laws l = record {
     kin_self = λ x i h. l.kin_self (place_of x i);

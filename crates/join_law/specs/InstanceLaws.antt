@@ -4,6 +4,7 @@ use Rattle.std.proofs.Common.{arith, ap}
 use Rattle.join_law.specs.Laws.{JoinLaws}
 use Rattle.join_law.specs.Instances.{AlwaysKin, option_max, PairKin, pair_joined}
 
+-- numbers, which join to the greater
 pub number_laws : JoinLaws {J = ℕ} AlwaysKin max
 number_laws = record {
   kin_self = λ x. tt;
@@ -15,6 +16,7 @@ number_laws = record {
   associative = λ x y z h k. omega arith;
 }
 
+-- optional numbers, law by law
 option_idempotent : (x : Option ℕ) → option_max x x ≡ x
 option_idempotent None = refl
 option_idempotent (Some x) = ap Some (omega arith)
@@ -31,6 +33,7 @@ option_associative (Some x) None z = refl
 option_associative (Some x) (Some y) None = refl
 option_associative (Some x) (Some y) (Some z) = ap Some (omega arith)
 
+-- optional numbers, of which `None` is neutral
 pub option_laws : JoinLaws AlwaysKin option_max
 option_laws = record {
   kin_self = λ x. tt;

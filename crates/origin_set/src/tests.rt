@@ -1,5 +1,5 @@
 use crate::{Origin, OriginFault};
-use hart_step::{Environment, Stop};
+use hart_step::{Environment, Hart, Stop};
 use join_law::Ctx;
 use paged_memory::{Fault, Width};
 use rv64_asm::Program;
@@ -25,33 +25,40 @@ fn outer(first: Option<Program>, last: Option<Program>) -> Result<Origin, Origin
     )
 }
 
+/// The digest of the origin with a program at context 0 and another at context 7.
+fn digest_of(first: Option<Program>, last: Option<Program>) -> Result<[u8; 32], Fail> {
+    Ok(outer(first, last)?.digest())
+}
+
 #[test]
 fn digests(rt: HostRuntime) -> Result<(), Fail> {
     let alloc = rt.alloc();
-    let empty = outer(None, None)?;
     assert_eq!(rt;
-        empty.digest(),
+        digest_of(None, None)?,
         [
             0xa5, 0x36, 0xaa, 0x3c, 0xed, 0xe6, 0xea, 0x3c, 0x1f, 0x3e, 0x03, 0x57, 0xc3, 0xc6,
             0x0e, 0x0f, 0x21, 0x6a, 0x8c, 0x89, 0xb8, 0x53, 0xdf, 0x13, 0xb2, 0x9d, 0xaa, 0x8f,
             0x85, 0x06, 0x5d, 0xfb,
         ]
     );
-    let one = outer(Some(program(alloc, &COUNTDOWN, &[])?), None)?;
+    let countdown = program(alloc, &COUNTDOWN, &[])?;
     assert_eq!(rt;
-        one.digest(),
+        digest_of(Some(countdown), None)?,
         [
             0xd5, 0xaf, 0x67, 0x45, 0x16, 0xf8, 0x32, 0x5f, 0x59, 0x35, 0x52, 0xca, 0xca, 0x3c,
             0x9c, 0x37, 0xbb, 0xfa, 0x70, 0x8a, 0x31, 0xc4, 0x33, 0xa7, 0xa3, 0x37, 0xba, 0x9d,
             0x51, 0x95, 0x16, 0xf5,
         ]
     );
-    let two = outer(
-        Some(program(alloc, &COUNTDOWN, &[])?),
-        Some(program(alloc, &[0x0000_0073], &[1, 2, 3])?),
-    )?;
+    Ok(())
+}
+
+#[test]
+fn digest_of_two_programs(rt: HostRuntime) -> Result<(), Fail> {
+    let countdown = program(rt.alloc(), &COUNTDOWN, &[])?;
+    let ecall = program(rt.alloc(), &[0x0000_0073], &[1, 2, 3])?;
     assert_eq!(rt;
-        two.digest(),
+        digest_of(Some(countdown), Some(ecall))?,
         [
             104, 224, 59, 120, 185, 228, 53, 78, 116, 241, 171, 35, 30, 21, 33, 124, 135, 4, 82,
             199, 162, 74, 10, 171, 244, 53, 1, 90, 28, 164, 155, 83,
@@ -60,55 +67,88 @@ fn digests(rt: HostRuntime) -> Result<(), Fail> {
     Ok(())
 }
 
+/// The origin whose only program, of these words and bytes, is that of context 7.
+fn last(alloc: Global, words: &[u32], bytes: &[u8]) -> Result<Origin, Fail> {
+    let program = program(alloc, words, bytes)?;
+    Ok(outer(None, Some(program))?)
+}
+
+/// Whether this program and the countdown with the data 1, 2 make the same origin at context 7.
+fn is_countdown(alloc: Global, words: &[u32], bytes: &[u8]) -> Result<bool, Fail> {
+    let countdown = last(alloc, &COUNTDOWN, &[1, 2])?;
+    let origin = last(alloc, words, bytes)?;
+    Ok(origin.same(&countdown))
+}
+
 #[test]
-fn compares_all_contents(rt: HostRuntime) -> Result<(), Fail> {
+fn compares_programs(rt: HostRuntime) -> Result<(), Fail> {
     let alloc = rt.alloc();
-    let origin = outer(None, Some(program(alloc, &COUNTDOWN, &[1, 2])?))?;
-    let same = outer(None, Some(program(alloc, &COUNTDOWN, &[1, 2])?))?;
-    let other_byte = outer(None, Some(program(alloc, &COUNTDOWN, &[1, 3])?))?;
-    let other_word = outer(None, Some(program(alloc, &COUNTDOWN[..3], &[1, 2])?))?;
-    let other_place = outer(Some(program(alloc, &COUNTDOWN, &[1, 2])?), None)?;
-    let empty_program = outer(None, Some(program(alloc, &[], &[])?))?;
-    assert!(rt; origin.same(&same) && same.same(&origin));
-    assert!(rt; !origin.same(&other_byte));
-    assert!(rt; !origin.same(&other_word));
-    assert!(rt; !origin.same(&other_place));
-    assert!(rt; !outer(None, None)?.same(&empty_program));
-    assert_eq!(rt; origin.environment(), Environment::One);
+    assert!(rt; is_countdown(alloc, &COUNTDOWN, &[1, 2])?);
+    assert!(rt; !is_countdown(alloc, &COUNTDOWN, &[1, 3])?);
+    assert!(rt; !is_countdown(alloc, &COUNTDOWN[..3], &[1, 2])?);
     Ok(())
 }
 
 #[test]
-fn limits(rt: HostRuntime) -> Result<(), Fail> {
-    let alloc = rt.alloc();
-    let words = [0x0000_0013u32; 1024];
-    let bytes = [0u8; 4096];
+fn compares_contexts(rt: HostRuntime) -> Result<(), Fail> {
+    let at_last = last(rt.alloc(), &[], &[])?;
+    let program = program(rt.alloc(), &[], &[])?;
+    let at_first = outer(Some(program), None)?;
+    assert!(rt; !at_last.same(&at_first));
+    let empty = outer(None, None)?;
+    assert!(rt; !at_last.same(&empty));
+    assert_eq!(rt; empty.environment(), Environment::One);
+    Ok(())
+}
+
+/// A program of so many words `addi x0, x0, 0` and bytes of 0.
+fn sized(alloc: Global, words: usize, bytes: usize) -> Result<Program, Fail> {
     let mut text = Vec::new(alloc);
-    for _ in 0..64 {
-        text.extend_from_slice(&words)?;
-    }
+    text.resize(words, 0x0000_0013)?;
     let mut data = Vec::new(alloc);
-    for _ in 0..256 {
-        data.extend_from_slice(&bytes)?;
-    }
-    let full = outer(Some(program(alloc, &text, &data)?), None)?;
-    let Some(context) = Ctx::new(0) else {
+    data.resize(bytes, 0)?;
+    Ok(Program::new(text, data))
+}
+
+/// What context 7 starts from with a program of so many words and bytes.
+fn started(alloc: Global, words: usize, bytes: usize) -> Result<Hart, Fail> {
+    let Some(context) = Ctx::new(7) else {
         unreachable!();
     };
-    let hart = full.hart(alloc, context)?;
+    let program = sized(alloc, words, bytes)?;
+    let origin = outer(None, Some(program))?;
+    Ok(origin.hart(alloc, context)?)
+}
+
+#[test]
+fn full_pages(rt: HostRuntime) -> Result<(), Fail> {
+    let hart = started(rt.alloc(), 65_536, 1_048_576)?;
     let memory = hart.memory();
     assert_eq!(rt; memory.load(0x4FFFC, Width::Word), Ok(0x13));
     assert_eq!(rt; memory.load(0x50000, Width::Word), Err(Fault::LoadAccess));
     assert_eq!(rt; memory.load(0x1F_FFF8, Width::Double), Ok(0));
     assert_eq!(rt; memory.load(0x20_0000, Width::Byte), Err(Fault::LoadAccess));
-    let mut longer = Vec::from_slice(alloc, &text)?;
-    longer.push(0x0000_0013)?;
-    let mut wider = Vec::from_slice(alloc, &data)?;
-    wider.push(0)?;
-    let over_text = outer(None, Some(program(alloc, &longer, &[])?));
-    assert_eq!(rt; over_text.err(), Some(OriginFault::TooManyPages));
-    let over_data = outer(None, Some(program(alloc, &[], &wider)?));
-    assert_eq!(rt; over_data.err(), Some(OriginFault::TooManyPages));
+    Ok(())
+}
+
+/// Why a program of so many words and bytes has no origin.
+fn refusal_of(alloc: Global, words: usize, bytes: usize) -> Result<Option<OriginFault>, Fail> {
+    let program = sized(alloc, words, bytes)?;
+    Ok(outer(None, Some(program)).err())
+}
+
+#[test]
+fn one_page_too_many(rt: HostRuntime) -> Result<(), Fail> {
+    let alloc = rt.alloc();
+    assert_eq!(rt;
+        refusal_of(alloc, 65_537, 0)?,
+        Some(OriginFault::TooManyPages)
+    );
+    assert_eq!(rt;
+        refusal_of(alloc, 0, 1_048_577)?,
+        Some(OriginFault::TooManyPages)
+    );
+    assert_eq!(rt; refusal_of(alloc, 65_536, 1_048_576)?, None);
     Ok(())
 }
 

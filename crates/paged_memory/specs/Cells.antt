@@ -24,11 +24,13 @@ abbrev pub coded_cell : Coded Cell
 coded_cell =
     code_by (ℕ × (Bool × Bool)) (coded× coded_ℕ (coded× coded_bool coded_bool)) (λ c. (c.byte, (c.writable, c.executable))) (λ p. record { byte = p.0; writable = p.1.0; executable = p.1.1 }) (λ _. refl)
 
+-- which cell stands at each mapped address
 abbrev pub Cells : Type 0
 Cells = FinMap nat_cmp Cell
 
 -- ---- bytes
 
+-- the byte of a cell, 0 where there is none
 abbrev pub byte_of : Option Cell → ℕ
 byte_of None = 0
 byte_of (Some c) = c.byte
@@ -50,14 +52,16 @@ pub record Rights : Type 0 where
   pub writable : Bool
   pub executable : Bool
 
--- a mapped byte is readable
+-- the rights of a cell: a mapped byte is readable
 abbrev pub rights_of : Option Cell → Rights
 rights_of None = record { readable = false; writable = false; executable = false }
 rights_of (Some c) = record { readable = true; writable = c.writable; executable = c.executable }
 
+-- the rights at an address
 abbrev pub rights_at : Cells → ℕ → Rights
 rights_at m x = rights_of (get m x)
 
+-- each right by itself
 abbrev pub is_readable : Rights → Bool
 is_readable r = r.readable
 

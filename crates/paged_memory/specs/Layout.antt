@@ -11,6 +11,7 @@ use Rattle.paged_memory.specs.Pages.{PageValue}
 abbrev pub page_in : List PageValue → ℕ → PageValue
 page_in pages p = slice_index_or pages p (record { address = 0; bytes = [] })
 
+-- its bytes
 abbrev pub page_bytes : List PageValue → ℕ → List ℕ
 page_bytes pages p = (page_in pages p).bytes
 
@@ -38,6 +39,7 @@ pub record IsLaidOut (text : ℕ) (pages : List PageValue) : Type 0 where
   pub addresses : (p : ℕ) → p < length pages → (page_in pages p).address ≡ address_of text p
   pub full : (p : ℕ) → p < length pages → length (page_bytes pages p) ≡ 4096
 
+-- and both together
 pub record IsSound (text : ℕ) (pages : List PageValue) : Type 0 where
   pub sized : IsSized text (length pages)
   pub laid_out : IsLaidOut text pages
@@ -50,10 +52,11 @@ cell_in text pages offset None = None
 cell_in text pages offset (Some p) =
     Some (record { byte = slice_index (page_bytes pages p) offset; writable = nat_le text p; executable = nat_lt p text })
 
+-- the cell at an address
 unfoldable pub cell_at : ℕ → List PageValue → ℕ → Option Cell
 cell_at text pages a = cell_in text pages (a % 4096) (place_of text (length pages) (a / 4096))
 
--- no page lies at 0x200000 or above
+-- the map of all; no page lies at 0x200000 or above
 unfoldable pub cells_of : ℕ → List PageValue → Cells
 cells_of text pages = tabulated (cell_at text pages) 0x200000
 

@@ -13,6 +13,7 @@ unfoldable pub bytes_from : (ℕ → ℕ) → ℕ → ℕ → List ℕ
 bytes_from bytes a zero = []
 bytes_from bytes a (suc k) = bytes a ∷ bytes_from bytes (a + 1) k
 
+-- the page that begins at an address
 unfoldable pub page_at : Cells → ℕ → PageValue
 page_at m a = record { address = a; bytes = bytes_from (byte_at m) a 4096 }
 

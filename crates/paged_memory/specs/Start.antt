@@ -17,6 +17,7 @@ text_byte words j = byte_of_number (j % 4) (slice_index words (j / 4))
 abbrev pub data_byte : List ℕ → ℕ → ℕ
 data_byte bytes j = slice_index bytes j
 
+-- the cell at an address: text may be executed, data may be written
 abbrev pub start_cell : List ℕ → List ℕ → ℕ → Option Cell
 start_cell words bytes a =
     if within 0x10000 (4096 * pages_for (4 * length words)) a
@@ -25,6 +26,6 @@ start_cell words bytes a =
     then Some (record { byte = data_byte bytes (a - 0x100000); writable = true; executable = false })
     else None)
 
--- at most 64 pages of text and 256 of data end below 0x200000
+-- the map of all: at most 64 pages of text and 256 of data end below 0x200000
 unfoldable pub start_cells : List ℕ → List ℕ → Cells
 start_cells words bytes = tabulated (start_cell words bytes) 0x200000

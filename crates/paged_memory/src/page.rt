@@ -1,6 +1,6 @@
 //! A page: its address and its 4096 bytes.
 
-ghost use Rattle.std.specs.Prelude.{◌≡◌, ◌+◌, ◌≤◌, length, replicate, slice_index};
+ghost use Rattle.std.specs.Prelude.{◌≡◌, ◌+◌, ◌≤◌, replicate, slice_index};
 ghost use Rattle.paged_memory.specs.Cells.{bytes_of, number_at};
 ghost use Rattle.paged_memory.specs.Layout.{put_number};
 

@@ -221,3 +221,20 @@ fn holds_none_and_the_most(rt: HostRuntime) -> Result<(), Fail> {
     );
     Ok(())
 }
+
+/// Also run with `rt try --test --fail-alloc N`, which refuses the Nth growth: a refusal is told, and the memory that
+/// was to be copied stays.
+#[test]
+fn tells_refused_growths(rt: HostRuntime) {
+    let Ok(memory) = Memory::new(rt.alloc(), &COUNTDOWN, &DATA) else {
+        return;
+    };
+    if let Ok(copy) = memory.try_clone(rt.alloc()) {
+        assert_eq!(rt; copy.pages().len(), 2);
+    }
+    assert_eq!(rt; memory.fetch(0x1_0004), Ok(0xFFF2_8293));
+    assert_eq!(rt;
+        memory.load(0x10_0000, Width::Double),
+        Ok(0x1122_3344_5566_7788)
+    );
+}

@@ -20,7 +20,8 @@ use Rattle.rv64_asm.specs.Label.{Label}
 use Rattle.rv64_asm.specs.Numbers.{◌>>=◌}
 use Rattle.rv64_asm.specs.Statements.{line_of, label_of}
 use Rattle.rv64_asm.specs.Places.{Layout, next_place, address, after, after_item, further, bytes_in, is_twice}
-use Rattle.rv64_asm.specs.Written.{resolve, target_address, offset_in, distance, item_of, emit, IsPiece, StandsAt, IsWritten, place_of_line}
+use Rattle.rv64_asm.specs.Written.{resolve, target_address, offset_in, distance, item_of, IsPiece, StandsAt, IsWritten, place_of_line}
+use Rattle.rv64_asm.specs.Passes.{emit}
 
 -- what stands keeps standing where more is put behind
 pub stands_on : (xs : List ℕ) (i : ℕ) (ys zs : List ℕ) → StandsAt xs i ys → StandsAt (xs ++ zs) i ys

@@ -12,7 +12,7 @@ use Rattle.std.proofs.lemmas.Grind.{common_steps}
 use Rattle.rv64_asm.specs.Numbers.{numeral, all_digits, magnitude, number_of, in_range, natural}
 use Rattle.rv64_asm.specs.Words.{register_of}
 use Rattle.rv64_asm.specs.Statements.{immediate, register}
-use Rattle.rv64_asm.specs.Shown.{reg, hex, IsImmediate}
+use Rattle.rv64_asm.specs.Shown.{register_text, hex, IsImmediate}
 use Rattle.rv64_asm.proofs.Plain.{IsPlain, plain}
 
 all_same : (radix : ℕ) (ds : List ℕ) → AllDigits radix ds → all_digits radix ds ≡ true
@@ -100,7 +100,7 @@ is_read None n = false
 is_read (Some m) n = m == n
 
 reads_back : ℕ → Bool
-reads_back n = is_read (register_of (reg n)) n
+reads_back n = is_read (register_of (register_text n)) n
 
 pub within_range : (p : ℕ → Bool) (k m n : ℕ) → list_all p (range k m) ≡ true → k ≤ n → n < k + m → p n ≡ true
 unfolding range
@@ -146,9 +146,9 @@ read_is None n h = absurd cc
 read_is (Some m) n h = ap Some (eqb-true m n h)
 
 -- a register is read by the name that is written
-pub register_read : (n : ℕ) → n < 32 → register (reg n) ≡ Ok n
+pub register_read : (n : ℕ) → n < 32 → register (register_text n) ≡ Ok n
 unfolding reads_back
-register_read n h = rw (read_is (register_of (reg n)) n (all_read n h)) refl
+register_read n h = rw (read_is (register_of (register_text n)) n (all_read n h)) refl
 
 -- digits are plain
 digit_plain : (d : ℕ) → digit_value d < 16 → plain d ≡ true
@@ -165,7 +165,7 @@ pub plain_signed : (z : ℤ) → unsigned_abs z < 2 ^ 64 → IsPlain (signed_dec
 plain_signed (pos n) small = plain_decimal n small
 plain_signed (negsuc n) small = let d = plain_decimal (suc n) small in record { some = omega arith; bytes = rw d.bytes refl }
 
-pub plain_reg : (n : ℕ) → n < 32 → IsPlain (reg n)
+pub plain_reg : (n : ℕ) → n < 32 → IsPlain (register_text n)
 plain_reg n h = let d = plain_decimal n (omega arith) in record { some = omega arith; bytes = rw d.bytes refl }
 
 pub plain_hex : (n : ℕ) → n < 2 ^ 64 → IsPlain (hex n)
@@ -191,5 +191,5 @@ pub bare_signed : (z : ℤ) → unsigned_abs z < 2 ^ 64 → list_all bare (signe
 bare_signed (pos n) small = bare_decimal n small
 bare_signed (negsuc n) small = rw (bare_decimal (suc n) small) refl
 
-pub bare_reg : (n : ℕ) → n < 32 → list_all bare (reg n) ≡ true
+pub bare_reg : (n : ℕ) → n < 32 → list_all bare (register_text n) ≡ true
 bare_reg n h = rw (bare_decimal n (omega arith)) refl

@@ -19,7 +19,7 @@ use Rattle.rv64_asm.specs.declared.words.Kind.TheVariants as kinds
 use Rattle.rv64_asm.specs.Label.{Label}
 use Rattle.rv64_asm.specs.Statements.{statement_of, text_statement, instruction_of, fence, number, number_of_width}
 use Rattle.rv64_asm.specs.Written.{resolve, distance, offset_in}
-use Rattle.rv64_asm.specs.Shown.{shown, reg, hex, place, two, three, target, IsRanged, IsOffset, IsImmediate, Rereads, is_full_fence, fence_word, hex_word, condition_name, load_name, store_name, imm_name, shift_name, shift_word_name, alu_name, word_name}
+use Rattle.rv64_asm.specs.Shown.{shown, register_text, hex, place, two, three, target, IsRanged, IsOffset, IsImmediate, Rereads, is_full_fence, fence_word, hex_word, condition_name, load_name, store_name, imm_name, shift_name, shift_word_name, alu_name, word_name}
 use Rattle.rv64_asm.proofs.Plain.{Reads, lone_reads, one_reads, two_reads, three_reads, statement_by}
 use Rattle.rv64_asm.proofs.Numerals.{plain_reg, plain_signed, plain_decimal, plain_hex, immediate_small}
 use Rattle.rv64_asm.proofs.Forms.{three_form, immediate_form, amount_form, upper_form, place_form, branch_form, jal_form, plain_place}
@@ -73,20 +73,20 @@ target_fits : (pc : ℕ) (o : ℤ) → target pc o < 2 ^ 64
 target_fits pc o = omega arith
 
 -- each form with its name
-two_places : (name : List ℕ) (d r : ℕ) (z : ℤ) (insn : Insn) (pc : ℕ) (kind : Kind) → IsNamed name kind → d < 32 → r < 32 → IsImmediate z → statement_of Text kind (Two (reg d) (place z r)) ≡ Ok (Give (Instruction insn)) → Rereads (two name (reg d) (place z r)) insn pc
-two_places name d r z insn pc kind n h i j e = gives_it (two name (reg d) (place z r)) name (reg d ∷ place z r ∷ []) insn pc (two_reads Text name (reg d) (place z r) n.word (plain_reg d h) (plain_place z r j i)) (rw n.names e)
+two_places : (name : List ℕ) (d r : ℕ) (z : ℤ) (insn : Insn) (pc : ℕ) (kind : Kind) → IsNamed name kind → d < 32 → r < 32 → IsImmediate z → statement_of Text kind (Two (register_text d) (place z r)) ≡ Ok (Give (Instruction insn)) → Rereads (two name (register_text d) (place z r)) insn pc
+two_places name d r z insn pc kind n h i j e = gives_it (two name (register_text d) (place z r)) name (register_text d ∷ place z r ∷ []) insn pc (two_reads Text name (register_text d) (place z r) n.word (plain_reg d h) (plain_place z r j i)) (rw n.names e)
 
-two_hexes : (name : List ℕ) (d n : ℕ) (insn : Insn) (pc : ℕ) (kind : Kind) → IsNamed name kind → d < 32 → n < 1048576 → statement_of Text kind (Two (reg d) (hex n)) ≡ Ok (Give (Instruction insn)) → Rereads (two name (reg d) (hex n)) insn pc
-two_hexes name d n insn pc kind k h i e = gives_it (two name (reg d) (hex n)) name (reg d ∷ hex n ∷ []) insn pc (two_reads Text name (reg d) (hex n) k.word (plain_reg d h) (plain_hex n (omega (arith, i)))) (rw k.names e)
+two_hexes : (name : List ℕ) (d n : ℕ) (insn : Insn) (pc : ℕ) (kind : Kind) → IsNamed name kind → d < 32 → n < 1048576 → statement_of Text kind (Two (register_text d) (hex n)) ≡ Ok (Give (Instruction insn)) → Rereads (two name (register_text d) (hex n)) insn pc
+two_hexes name d n insn pc kind k h i e = gives_it (two name (register_text d) (hex n)) name (register_text d ∷ hex n ∷ []) insn pc (two_reads Text name (register_text d) (hex n) k.word (plain_reg d h) (plain_hex n (omega (arith, i)))) (rw k.names e)
 
-three_regs : (name : List ℕ) (d s t : ℕ) (insn : Insn) (pc : ℕ) (kind : Kind) → IsNamed name kind → d < 32 → s < 32 → t < 32 → statement_of Text kind (Three (reg d) (reg s) (reg t)) ≡ Ok (Give (Instruction insn)) → Rereads (three name (reg d) (reg s) (reg t)) insn pc
-three_regs name d s t insn pc kind n h i j e = gives_it (three name (reg d) (reg s) (reg t)) name (reg d ∷ reg s ∷ reg t ∷ []) insn pc (three_reads Text name (reg d) (reg s) (reg t) n.word (plain_reg d h) (plain_reg s i) (plain_reg t j)) (rw n.names e)
+three_regs : (name : List ℕ) (d s t : ℕ) (insn : Insn) (pc : ℕ) (kind : Kind) → IsNamed name kind → d < 32 → s < 32 → t < 32 → statement_of Text kind (Three (register_text d) (register_text s) (register_text t)) ≡ Ok (Give (Instruction insn)) → Rereads (three name (register_text d) (register_text s) (register_text t)) insn pc
+three_regs name d s t insn pc kind n h i j e = gives_it (three name (register_text d) (register_text s) (register_text t)) name (register_text d ∷ register_text s ∷ register_text t ∷ []) insn pc (three_reads Text name (register_text d) (register_text s) (register_text t) n.word (plain_reg d h) (plain_reg s i) (plain_reg t j)) (rw n.names e)
 
-with_number : (name : List ℕ) (d s : ℕ) (z : ℤ) (insn : Insn) (pc : ℕ) (kind : Kind) → IsNamed name kind → d < 32 → s < 32 → IsImmediate z → statement_of Text kind (Three (reg d) (reg s) (signed_decimal z)) ≡ Ok (Give (Instruction insn)) → Rereads (three name (reg d) (reg s) (signed_decimal z)) insn pc
-with_number name d s z insn pc kind n h i j e = gives_it (three name (reg d) (reg s) (signed_decimal z)) name (reg d ∷ reg s ∷ signed_decimal z ∷ []) insn pc (three_reads Text name (reg d) (reg s) (signed_decimal z) n.word (plain_reg d h) (plain_reg s i) (plain_signed z (immediate_small z j))) (rw n.names e)
+with_number : (name : List ℕ) (d s : ℕ) (z : ℤ) (insn : Insn) (pc : ℕ) (kind : Kind) → IsNamed name kind → d < 32 → s < 32 → IsImmediate z → statement_of Text kind (Three (register_text d) (register_text s) (signed_decimal z)) ≡ Ok (Give (Instruction insn)) → Rereads (three name (register_text d) (register_text s) (signed_decimal z)) insn pc
+with_number name d s z insn pc kind n h i j e = gives_it (three name (register_text d) (register_text s) (signed_decimal z)) name (register_text d ∷ register_text s ∷ signed_decimal z ∷ []) insn pc (three_reads Text name (register_text d) (register_text s) (signed_decimal z) n.word (plain_reg d h) (plain_reg s i) (plain_signed z (immediate_small z j))) (rw n.names e)
 
-with_count : (name : List ℕ) (d s a : ℕ) (insn : Insn) (pc : ℕ) (kind : Kind) → IsNamed name kind → d < 32 → s < 32 → a < 64 → statement_of Text kind (Three (reg d) (reg s) (decimal a)) ≡ Ok (Give (Instruction insn)) → Rereads (three name (reg d) (reg s) (decimal a)) insn pc
-with_count name d s a insn pc kind n h i j e = gives_it (three name (reg d) (reg s) (decimal a)) name (reg d ∷ reg s ∷ decimal a ∷ []) insn pc (three_reads Text name (reg d) (reg s) (decimal a) n.word (plain_reg d h) (plain_reg s i) (plain_decimal a (omega (arith, j)))) (rw n.names e)
+with_count : (name : List ℕ) (d s a : ℕ) (insn : Insn) (pc : ℕ) (kind : Kind) → IsNamed name kind → d < 32 → s < 32 → a < 64 → statement_of Text kind (Three (register_text d) (register_text s) (decimal a)) ≡ Ok (Give (Instruction insn)) → Rereads (three name (register_text d) (register_text s) (decimal a)) insn pc
+with_count name d s a insn pc kind n h i j e = gives_it (three name (register_text d) (register_text s) (decimal a)) name (register_text d ∷ register_text s ∷ decimal a ∷ []) insn pc (three_reads Text name (register_text d) (register_text s) (decimal a) n.word (plain_reg d h) (plain_reg s i) (plain_decimal a (omega (arith, j)))) (rw n.names e)
 
 alone : (name : List ℕ) (insn : Insn) (pc : ℕ) (kind : Kind) → IsNamed name kind → statement_of Text kind Zero ≡ Ok (Give (Instruction insn)) → Rereads name insn pc
 alone name insn pc kind n e = gives_it name name [] insn pc (lone_reads Text name n.word) (rw n.names e)
@@ -131,11 +131,11 @@ rereads (insns.Lui rd n) pc fits h = two_hexes (codes "lui") rd n (insns.Lui rd 
 rereads (insns.Auipc rd n) pc fits h = two_hexes (codes "auipc") rd n (insns.Auipc rd n) pc (kinds.Plain shapes.Auipc) (named (codes "auipc") (kinds.Plain shapes.Auipc) refl refl refl) h.0 h.1 (rw (upper_form rd n h.0 h.1) refl)
 rereads (insns.Jal rd o) pc fits h =
     let name = named (codes "jal") kinds.Jal refl refl refl in
-    goes_to (two (codes "jal") (reg rd) (hex (target pc o))) (codes "jal") (reg rd ∷ hex (target pc o) ∷ []) (Jump rd (Address (target pc o))) (insns.Jal rd o) pc (two_reads Text (codes "jal") (reg rd) (hex (target pc o)) name.word (plain_reg rd h.0) (plain_hex (target pc o) (target_fits pc o))) (rw (jal_form rd (target pc o) h.0 (target_fits pc o)) refl) (jal_goes rd pc o fits h.1)
+    goes_to (two (codes "jal") (register_text rd) (hex (target pc o))) (codes "jal") (register_text rd ∷ hex (target pc o) ∷ []) (Jump rd (Address (target pc o))) (insns.Jal rd o) pc (two_reads Text (codes "jal") (register_text rd) (hex (target pc o)) name.word (plain_reg rd h.0) (plain_hex (target pc o) (target_fits pc o))) (rw (jal_form rd (target pc o) h.0 (target_fits pc o)) refl) (jal_goes rd pc o fits h.1)
 rereads (insns.Jalr rd rs1 z) pc fits h = two_places (codes "jalr") rd rs1 z (insns.Jalr rd rs1 z) pc (kinds.Plain shapes.Jalr) (named (codes "jalr") (kinds.Plain shapes.Jalr) refl refl refl) h.0 h.1 h.2 (rw (place_form rd rs1 z h.0 h.1 h.2) refl)
 rereads (insns.Branch c s t o) pc fits h =
     let name = condition_named c in
-    goes_to (three (condition_name c) (reg s) (reg t) (hex (target pc o))) (condition_name c) (reg s ∷ reg t ∷ hex (target pc o) ∷ []) (Branch c s t (Address (target pc o))) (insns.Branch c s t o) pc (three_reads Text (condition_name c) (reg s) (reg t) (hex (target pc o)) name.word (plain_reg s h.0) (plain_reg t h.1) (plain_hex (target pc o) (target_fits pc o))) (rw (name.names, branch_form c s t (target pc o) h.0 h.1 (target_fits pc o)) refl) (branch_goes c s t pc o fits h.2)
+    goes_to (three (condition_name c) (register_text s) (register_text t) (hex (target pc o))) (condition_name c) (register_text s ∷ register_text t ∷ hex (target pc o) ∷ []) (Branch c s t (Address (target pc o))) (insns.Branch c s t o) pc (three_reads Text (condition_name c) (register_text s) (register_text t) (hex (target pc o)) name.word (plain_reg s h.0) (plain_reg t h.1) (plain_hex (target pc o) (target_fits pc o))) (rw (name.names, branch_form c s t (target pc o) h.0 h.1 (target_fits pc o)) refl) (branch_goes c s t pc o fits h.2)
 rereads (insns.Load k d r z) pc fits h = two_places (load_name k) d r z (insns.Load k d r z) pc (kinds.Plain (shapes.Load k)) (load_named k) h.0 h.1 h.2 (rw (place_form d r z h.0 h.1 h.2) refl)
 rereads (insns.Store w r s z) pc fits h = two_places (store_name w) s r z (insns.Store w r s z) pc (kinds.Plain (shapes.Store w)) (store_named w) h.1 h.0 h.2 (rw (place_form s r z h.1 h.0 h.2) refl)
 rereads (insns.Imm op d s z) pc fits h = with_number (imm_name op) d s z (insns.Imm op d s z) pc (kinds.Plain (shapes.Imm op)) (imm_named op) h.0 h.1 h.2 (rw (immediate_form d s z h.0 h.1 h.2) refl)

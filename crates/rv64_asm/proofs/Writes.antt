@@ -8,7 +8,8 @@ use Rattle.rv64_asm.specs.declared.statement.Item.{Item}
 use Rattle.rv64_asm.specs.Label.{Label}
 use Rattle.rv64_asm.specs.Statements.{label_of}
 use Rattle.rv64_asm.specs.Places.{Layout, behind, next_place, with_label, address, StandBelow}
-use Rattle.rv64_asm.specs.Written.{item_of, emit, IsWritten, WrittenBelow, Appends, HasTargetFault}
+use Rattle.rv64_asm.specs.Written.{item_of, IsWritten, WrittenBelow, HasTargetFault}
+use Rattle.rv64_asm.specs.Passes.{emit, Appends}
 use Rattle.rv64_asm.specs.Assembled.{IsTargetFault}
 use Rattle.rv64_asm.proofs.Turns.{behind_more, line_here, stepped}
 use Rattle.rv64_asm.proofs.Emitting.{stands_new, written_on, statement_grows, emitted, goes, target_fault, item_is}

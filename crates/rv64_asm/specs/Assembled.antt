@@ -26,16 +26,6 @@ pub record IsTargetFault (lines : List (List ℕ)) (fault : LineFault) (k : ℕ)
   pub reach : (j : ℕ) → j < k → HasTargetFault lines (behind lines).labels j None
   pub has_fault : HasTargetFault lines (behind lines).labels k (Some fault)
 
--- a refusal by a line itself and those before it; want of memory says nothing
-abbrev pub IsOwnRefusal : List (List ℕ) → AsmFault → Type 0
-IsOwnRefusal lines (At fault number) = (k : ℕ) × (number ≡ k + 1) × IsLowestFault lines fault k
-IsOwnRefusal lines OutOfMemory = Unit {0}
-
--- a refusal by a target
-abbrev pub IsTargetRefusal : List (List ℕ) → AsmFault → Type 0
-IsTargetRefusal lines (At fault number) = (k : ℕ) × (number ≡ k + 1) × IsTargetFault lines fault k
-IsTargetRefusal lines OutOfMemory = Unit {0}
-
 -- the fault of a text, its line counted from 1: the lowest line with a fault by itself and those before it, or, where
 -- there is none, the lowest line whose target has one
 abbrev pub IsRefusal : List (List ℕ) → AsmFault → Type 0

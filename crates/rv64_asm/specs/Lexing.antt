@@ -5,9 +5,11 @@ use denote.Ref.{Bor}
 use Rattle.rv64_asm.specs.declared.lexing.Operands.{Operands}
 use Rattle.rv64_asm.specs.declared.lexing.Operands.TheVariants.{Zero, One, Two, Three, More}
 
+-- a space or a tab
 abbrev pub is_blank : ℕ → Bool
 is_blank b = b == 32 || b == 9
 
+-- without the blanks before it
 abbrev pub skip_blanks : List ℕ → List ℕ
 skip_blanks [] = []
 skip_blanks (b ∷ bs) = if is_blank b then skip_blanks bs else b ∷ bs
@@ -24,6 +26,7 @@ cut c bs = option_map (λ i. (take i bs, drop (i + 1) bs)) (position (λ b. b ==
 abbrev pub code_of : List ℕ → List ℕ
 code_of line = before_first (λ b. b == 35) line
 
+-- the word at the front, up to a blank, and what stands behind the blanks after it
 abbrev pub word_of : List ℕ → List ℕ × List ℕ
 word_of bs = (before_first is_blank bs, skip_blanks (drop (position_or_len is_blank bs) bs))
 
@@ -31,6 +34,7 @@ word_of bs = (before_first is_blank bs, skip_blanks (drop (position_or_len is_bl
 abbrev pub parts : List ℕ → List (List ℕ)
 parts bs = map trim (slice_split (λ x. x == 44) bs)
 
+-- none where nothing stands behind the word
 abbrev pub operands : List ℕ → List (List ℕ)
 operands bs = if length bs == 0 then [] else parts bs
 
@@ -41,11 +45,3 @@ shape_of (a ∷ []) = One a
 shape_of (a ∷ b ∷ []) = Two a b
 shape_of (a ∷ b ∷ c ∷ []) = Three a b c
 shape_of (a ∷ b ∷ c ∷ d ∷ more) = More
-
--- the operands behind their references
-abbrev pub seen : Operands (Bor (List ℕ)) → Operands (List ℕ)
-seen Zero = Zero
-seen (One a) = One a.now
-seen (Two a b) = Two a.now b.now
-seen (Three a b c) = Three a.now b.now c.now
-seen More = More

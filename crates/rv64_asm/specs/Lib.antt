@@ -10,3 +10,5 @@ pub mod Assembled
 pub mod Written
 pub mod Shown
 pub mod LabelIter
+pub mod Returned
+pub mod Passes

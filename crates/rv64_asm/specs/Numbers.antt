@@ -6,9 +6,11 @@ use Rattle.std.specs.Char.{digit_value}
 use Rattle.rv64_asm.specs.declared.fault.LineFault.{LineFault}
 use Rattle.rv64_asm.specs.declared.fault.LineFault.TheVariants.{OperandForm, OutOfRange}
 
+-- each byte is a digit of the radix
 abbrev pub all_digits : ℕ → List ℕ → Bool
 all_digits radix = list_all (λ b. nat_lt (digit_value b) radix)
 
+-- the number that digits write, the highest first
 abbrev pub value_of : ℕ → List ℕ → ℕ
 value_of radix = fold (λ n b. n * radix + digit_value b) 0
 
@@ -29,9 +31,11 @@ abbrev pub ◌>>=◌ : {A B : Type 0} → Result A LineFault → (A → Result B
 (Ok x) >>= f = f x
 (Err e) >>= f = Err e
 
+-- the number, unless it is below low or above high
 abbrev pub in_range : ℤ → ℤ → ℤ → Result ℤ LineFault
 in_range low high z = if int_le low z && int_le z high then Ok z else Err OutOfRange
 
+-- a number in a range: its form comes before its range
 abbrev pub number_in : ℤ → ℤ → List ℕ → Result ℤ LineFault
 number_in low high bs = ok_or (number_of bs) OperandForm >>= in_range low high
 
@@ -47,7 +51,3 @@ wrapped high (negsuc n) = high - n
 -- the bits of a number in a range
 abbrev pub number_between : ℤ → ℕ → List ℕ → Result ℕ LineFault
 number_between low high text = number_in low (pos high) text >>= λ z. Ok (wrapped high z)
-
--- m is the magnitude n, or 2^65 where n is greater
-abbrev pub IsClipped : Option ℕ → Option ℕ → Type 0
-IsClipped m n = m ≡ option_map (λ k. min k (2 ^ 65)) n

@@ -17,6 +17,7 @@ use Rattle.rv64_asm.specs.Label.{Label, address_of}
 use Rattle.rv64_asm.specs.Numbers.{◌>>=◌}
 use Rattle.rv64_asm.specs.Statements.{line_of, label_of}
 
+-- the address behind so many words of text, or behind so many bytes of data
 abbrev pub address_in : Part → ℕ → ℕ → ℕ
 address_in Text words bytes = 0x10000 + 4 * words
 address_in Data words bytes = 0x100000 + bytes
@@ -26,8 +27,8 @@ abbrev pub address : Place → ℕ
 address p = address_in p.part p.words p.bytes
 
 -- within 64 pages of text and 256 of data
-abbrev pub IsWithin : Place → Type 0
-IsWithin p = (p.words ≤ 65536) × (p.bytes ≤ 1048576)
+abbrev pub IsWithinPages : Place → Type 0
+IsWithinPages p = (p.words ≤ 65536) × (p.bytes ≤ 1048576)
 
 -- so many words and bytes more, unless they go over
 abbrev pub further : Place → ℕ → ℕ → Option Place
@@ -40,6 +41,7 @@ bytes_in widths.Half = 2
 bytes_in widths.Word = 4
 bytes_in widths.Double = 8
 
+-- the place behind what a line gives
 abbrev pub after_item : Place → Item → Option Place
 after_item p Nothing = Some p
 after_item p (Instruction insn) = further p 1 0
@@ -59,6 +61,7 @@ pub record Layout : Type 0 where
   pub place : Place
   pub labels : List Label
 
+-- a line before has the label
 abbrev pub is_twice : List Label → Option (List ℕ) → Bool
 is_twice labels None = false
 is_twice labels (Some name) = is_some (address_of labels name)
@@ -69,6 +72,7 @@ next_place s line = do
   statement ← line_of s.place.part line
   if is_twice s.labels (label_of line) then Err LabelTwice else ok_or (after s.place statement) TooManyPages
 
+-- the labels, and behind them the line's own, where it has one
 abbrev pub with_label : List Label → ℕ → Option (List ℕ) → List Label
 with_label labels address None = labels
 with_label labels address (Some name) = labels ++ (name, address) ∷ []

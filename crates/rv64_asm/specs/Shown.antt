@@ -26,6 +26,7 @@ use Rattle.rv64_asm.specs.Numbers.{◌>>=◌}
 use Rattle.rv64_asm.specs.Statements.{line_of, label_of}
 use Rattle.rv64_asm.specs.Written.{resolve, IsPiece}
 
+-- the mnemonic of a branch
 abbrev pub condition_name : BranchCondition → List ℕ
 condition_name conditions.Equal = codes "beq"
 condition_name conditions.NotEqual = codes "bne"
@@ -34,6 +35,7 @@ condition_name conditions.NotLess = codes "bge"
 condition_name conditions.LessUnsigned = codes "bltu"
 condition_name conditions.NotLessUnsigned = codes "bgeu"
 
+-- the mnemonic of a load
 abbrev pub load_name : LoadKind → List ℕ
 load_name loads.Byte = codes "lb"
 load_name loads.Half = codes "lh"
@@ -43,12 +45,14 @@ load_name loads.ByteUnsigned = codes "lbu"
 load_name loads.HalfUnsigned = codes "lhu"
 load_name loads.WordUnsigned = codes "lwu"
 
+-- the mnemonic of a store
 abbrev pub store_name : StoreWidth → List ℕ
 store_name widths.Byte = codes "sb"
 store_name widths.Half = codes "sh"
 store_name widths.Word = codes "sw"
 store_name widths.Double = codes "sd"
 
+-- the mnemonic of an operation with an immediate
 abbrev pub imm_name : ImmOp → List ℕ
 imm_name imms.Add = codes "addi"
 imm_name imms.SetLess = codes "slti"
@@ -57,16 +61,19 @@ imm_name imms.Xor = codes "xori"
 imm_name imms.Or = codes "ori"
 imm_name imms.And = codes "andi"
 
+-- the mnemonic of a shift by an amount
 abbrev pub shift_name : ShiftOp → List ℕ
 shift_name shifts.Left = codes "slli"
 shift_name shifts.Right = codes "srli"
 shift_name shifts.RightArithmetic = codes "srai"
 
+-- the mnemonic of a shift of 32 bits by an amount
 abbrev pub shift_word_name : ShiftOp → List ℕ
 shift_word_name shifts.Left = codes "slliw"
 shift_word_name shifts.Right = codes "srliw"
 shift_word_name shifts.RightArithmetic = codes "sraiw"
 
+-- the mnemonic of an operation of two registers
 abbrev pub alu_name : AluOp → List ℕ
 alu_name alus.Add = codes "add"
 alu_name alus.Sub = codes "sub"
@@ -79,6 +86,7 @@ alu_name alus.ShiftRightArithmetic = codes "sra"
 alu_name alus.Or = codes "or"
 alu_name alus.And = codes "and"
 
+-- the mnemonic of an operation of 32 bits of two registers
 abbrev pub word_name : WordOp → List ℕ
 word_name words.Add = codes "addw"
 word_name words.Sub = codes "subw"
@@ -87,8 +95,8 @@ word_name words.ShiftRight = codes "srlw"
 word_name words.ShiftRightArithmetic = codes "sraw"
 
 -- `x` and the number
-abbrev pub reg : ℕ → List ℕ
-reg n = codes "x" ++ decimal n
+abbrev pub register_text : ℕ → List ℕ
+register_text n = codes "x" ++ decimal n
 
 -- `0x` and lower-case digits without leading zeros
 abbrev pub hex : ℕ → List ℕ
@@ -96,7 +104,7 @@ hex n = codes "0x" ++ digits 16 false n
 
 -- `number(register)`
 abbrev pub place : ℤ → ℕ → List ℕ
-place number base = signed_decimal number ++ (codes "(" ++ (reg base ++ codes ")"))
+place number base = signed_decimal number ++ (codes "(" ++ (register_text base ++ codes ")"))
 
 -- the address at that distance from pc
 abbrev pub target : ℕ → ℤ → ℕ
@@ -128,19 +136,19 @@ is_full_fence rd rs1 bits = rd == 0 && rs1 == 0 && bits == 255
 
 -- the first form of each instruction; `fence` for the one of all sets, and any other FENCE by its word
 unfoldable pub shown : Insn → ℕ → List ℕ
-shown (insns.Lui rd n) pc = two (codes "lui") (reg rd) (hex n)
-shown (insns.Auipc rd n) pc = two (codes "auipc") (reg rd) (hex n)
-shown (insns.Jal rd offset) pc = two (codes "jal") (reg rd) (hex (target pc offset))
-shown (insns.Jalr rd rs1 n) pc = two (codes "jalr") (reg rd) (place n rs1)
-shown (insns.Branch condition rs1 rs2 offset) pc = three (condition_name condition) (reg rs1) (reg rs2) (hex (target pc offset))
-shown (insns.Load kind rd rs1 n) pc = two (load_name kind) (reg rd) (place n rs1)
-shown (insns.Store width rs1 rs2 n) pc = two (store_name width) (reg rs2) (place n rs1)
-shown (insns.Imm op rd rs1 n) pc = three (imm_name op) (reg rd) (reg rs1) (signed_decimal n)
-shown (insns.ShiftImm op rd rs1 amount) pc = three (shift_name op) (reg rd) (reg rs1) (decimal amount)
-shown (insns.Alu op rd rs1 rs2) pc = three (alu_name op) (reg rd) (reg rs1) (reg rs2)
-shown (insns.AddImmWord rd rs1 n) pc = three (codes "addiw") (reg rd) (reg rs1) (signed_decimal n)
-shown (insns.ShiftImmWord op rd rs1 amount) pc = three (shift_word_name op) (reg rd) (reg rs1) (decimal amount)
-shown (insns.AluWord op rd rs1 rs2) pc = three (word_name op) (reg rd) (reg rs1) (reg rs2)
+shown (insns.Lui rd n) pc = two (codes "lui") (register_text rd) (hex n)
+shown (insns.Auipc rd n) pc = two (codes "auipc") (register_text rd) (hex n)
+shown (insns.Jal rd offset) pc = two (codes "jal") (register_text rd) (hex (target pc offset))
+shown (insns.Jalr rd rs1 n) pc = two (codes "jalr") (register_text rd) (place n rs1)
+shown (insns.Branch condition rs1 rs2 offset) pc = three (condition_name condition) (register_text rs1) (register_text rs2) (hex (target pc offset))
+shown (insns.Load kind rd rs1 n) pc = two (load_name kind) (register_text rd) (place n rs1)
+shown (insns.Store width rs1 rs2 n) pc = two (store_name width) (register_text rs2) (place n rs1)
+shown (insns.Imm op rd rs1 n) pc = three (imm_name op) (register_text rd) (register_text rs1) (signed_decimal n)
+shown (insns.ShiftImm op rd rs1 amount) pc = three (shift_name op) (register_text rd) (register_text rs1) (decimal amount)
+shown (insns.Alu op rd rs1 rs2) pc = three (alu_name op) (register_text rd) (register_text rs1) (register_text rs2)
+shown (insns.AddImmWord rd rs1 n) pc = three (codes "addiw") (register_text rd) (register_text rs1) (signed_decimal n)
+shown (insns.ShiftImmWord op rd rs1 amount) pc = three (shift_word_name op) (register_text rd) (register_text rs1) (decimal amount)
+shown (insns.AluWord op rd rs1 rs2) pc = three (word_name op) (register_text rd) (register_text rs1) (register_text rs2)
 shown (insns.Fence rd rs1 bits) pc = if is_full_fence rd rs1 bits then codes "fence" else codes ".word 0x" ++ hex_word (fence_word rd rs1 bits)
 shown insns.Ecall pc = codes "ecall"
 shown insns.Ebreak pc = codes "ebreak"

@@ -33,32 +33,19 @@ use Rattle.rv64_asm.specs.Words.{kind_of, register_of, fence_set_of}
 use Rattle.rv64_asm.specs.Lexing.{cut, trim, code_of, word_of, shape_of, operands}
 use Rattle.rv64_asm.specs.Numbers.{◌>>=◌, number_in, natural, number_between}
 
--- a target behind its reference
-abbrev pub target_named : Target (Bor (List ℕ)) → Target (List ℕ)
-target_named (Label n) = Label n.now
-target_named (Address a) = Address a
-
--- a statement behind its reference
-abbrev pub named : Statement (Bor (List ℕ)) → Statement (List ℕ)
-named (Enter part) = Enter part
-named (Give item) = Give item
-named (Branch condition rs1 rs2 target) = Branch condition rs1 rs2 (target_named target)
-named (Jump rd target) = Jump rd (target_named target)
-
--- what a function returned, seen by view, is what reading gives
-abbrev pub Gives : {X Y : Type 0} → (X → Y) → Result X LineFault → Result Y LineFault → Type 0
-Gives view (Ok x) read = read ≡ Ok (view x)
-Gives view (Err e) read = read ≡ Err e
-
+-- an ASCII letter
 abbrev pub is_letter : ℕ → Bool
 is_letter b = (nat_le 65 b && nat_le b 90) || (nat_le 97 b && nat_le b 122)
 
+-- an ASCII digit
 abbrev pub is_digit : ℕ → Bool
 is_digit b = nat_le 48 b && nat_le b 57
 
+-- a letter, a digit, `_` or `.`
 abbrev pub is_name_byte : ℕ → Bool
 is_name_byte b = (is_letter b || is_digit b) || (b == 95 || b == 46)
 
+-- a letter or `_`
 abbrev pub is_name_start : ℕ → Bool
 is_name_start b = is_letter b || b == 95
 
@@ -67,6 +54,7 @@ abbrev pub is_name : List ℕ → Bool
 is_name [] = false
 is_name (b ∷ bs) = is_name_start b && list_all is_name_byte bs
 
+-- a register by its name
 abbrev pub register : List ℕ → Result ℕ LineFault
 register text = ok_or (register_of text) OperandForm
 
@@ -74,6 +62,7 @@ register text = ok_or (register_of text) OperandForm
 abbrev pub immediate : List ℕ → Result ℤ LineFault
 immediate text = number_in (negsuc 2047) (pos 2047) text
 
+-- what stands before the closing parenthesis, behind which nothing stands
 abbrev pub inner_of : Option (List ℕ × List ℕ) → Result (List ℕ) LineFault
 inner_of None = Err OperandForm
 inner_of (Some halves) = if length halves.1 == 0 then Ok halves.0 else Err OperandForm
@@ -147,6 +136,7 @@ abbrev pub jalr : Operands (List ℕ) → Result (ℕ × ℕ × ℤ) LineFault
 jalr (Two d p) = with_place (Two d p)
 jalr operands = with_immediate operands
 
+-- one of the sets of a fence
 abbrev pub fence_set : List ℕ → Result ℕ LineFault
 fence_set text = ok_or (fence_set_of text) OperandForm
 
@@ -159,35 +149,45 @@ fence (Two p s) = do
   Ok (before * 16 + behind)
 fence _ = Err OperandForm
 
+-- `rs`
 abbrev pub one_register : Operands (List ℕ) → Result ℕ LineFault
 one_register (One s) = register s
 one_register _ = Err OperandForm
 
+-- no operand
 abbrev pub alone : {X : Type 0} → X → Operands (List ℕ) → Result X LineFault
 alone x Zero = Ok x
 alone x _ = Err OperandForm
 
+-- an instruction of `rd, number`
 abbrev pub upper : (ℕ → ℕ → Insn) → Operands (List ℕ) → Result Insn LineFault
 upper insn o = with_upper o >>= λ x. Ok (insn x.0 x.1)
 
+-- an instruction of `rd, rs1, rs2`
 abbrev pub with_registers : (ℕ → ℕ → ℕ → Insn) → Operands (List ℕ) → Result Insn LineFault
 with_registers insn o = three_registers o >>= λ x. Ok (insn x.0 x.1 x.2)
 
+-- `rd, number(rs1)`
 abbrev pub load : LoadKind → Operands (List ℕ) → Result Insn LineFault
 load kind o = with_place o >>= λ x. Ok (insns.Load kind x.0 x.1 x.2)
 
+-- `rs2, number(rs1)`
 abbrev pub store : StoreWidth → Operands (List ℕ) → Result Insn LineFault
 store width o = with_place o >>= λ x. Ok (insns.Store width x.1 x.0 x.2)
 
+-- `rd, rs1, number`
 abbrev pub imm : ImmOp → Operands (List ℕ) → Result Insn LineFault
 imm op o = with_immediate o >>= λ x. Ok (insns.Imm op x.0 x.1 x.2)
 
+-- `rd, rs1, amount`, the amount one of six bits (section 5.2)
 abbrev pub shift_imm : ShiftOp → Operands (List ℕ) → Result Insn LineFault
 shift_imm op o = with_amount 63 o >>= λ x. Ok (insns.ShiftImm op x.0 x.1 x.2)
 
+-- `rd, rs1, amount`, the amount one of five bits (section 5.2)
 abbrev pub shift_imm_word : ShiftOp → Operands (List ℕ) → Result Insn LineFault
 shift_imm_word op o = with_amount 31 o >>= λ x. Ok (insns.ShiftImmWord op x.0 x.1 x.2)
 
+-- FENCE with x0 in its two fields of registers
 abbrev pub any_fence : Operands (List ℕ) → Result Insn LineFault
 any_fence o = fence o >>= λ bits. Ok (insns.Fence 0 0 bits)
 
@@ -199,12 +199,15 @@ fixed_imm op number o = two_registers o >>= λ x. Ok (insns.Imm op x.0 x.1 numbe
 abbrev pub from_zero : AluOp → Operands (List ℕ) → Result Insn LineFault
 from_zero op o = two_registers o >>= λ x. Ok (insns.Alu op x.0 0 x.1)
 
+-- JALR in either form
 abbrev pub jump_register : Operands (List ℕ) → Result Insn LineFault
 jump_register o = jalr o >>= λ x. Ok (insns.Jalr x.0 x.1 x.2)
 
+-- ADDIW, `rd, rs1, number`
 abbrev pub add_imm_word : Operands (List ℕ) → Result Insn LineFault
 add_imm_word o = with_immediate o >>= λ x. Ok (insns.AddImmWord x.0 x.1 x.2)
 
+-- `jr s` is JALR with x0 and no offset
 abbrev pub jr : Operands (List ℕ) → Result Insn LineFault
 jr o = one_register o >>= λ s. Ok (insns.Jalr 0 s (pos 0))
 
@@ -291,6 +294,7 @@ text_statement kinds.Jal o = jal o
 text_statement kinds.J o = jump o
 text_statement _ o = Err OperandForm
 
+-- what a word and its operands say in a part: the data has directives alone
 unfoldable pub statement_of : Part → Kind → Operands (List ℕ) → Result (Statement (List ℕ)) LineFault
 statement_of part (kinds.Enter next) o = alone (Enter next) o
 statement_of part (kinds.Number width) o = number part width o
@@ -304,6 +308,7 @@ body_of part body = if length body == 0 then Ok (Give Nothing) else (do
   kind ← ok_or (kind_of (word_of body).0) UnknownWord
   statement_of part kind (shape_of (operands (word_of body).1)))
 
+-- of the halves round the first colon the first is the label, where it is a name
 abbrev pub label_in : List ℕ → Option (List ℕ × List ℕ) → Option (List ℕ) × List ℕ
 label_in body None = (None, body)
 label_in body (Some halves) = if is_name halves.0 then (Some halves.0, trim halves.1) else (None, body)
@@ -312,6 +317,7 @@ label_in body (Some halves) = if is_name halves.0 then (Some halves.0, trim halv
 unfoldable pub split_line : List ℕ → Option (List ℕ) × List ℕ
 split_line line = label_in (trim (code_of line)) (cut 58 (trim (code_of line)))
 
+-- the label of a line, if it has one
 abbrev pub label_of : List ℕ → Option (List ℕ)
 label_of line = (split_line line).0
 

@@ -184,11 +184,14 @@ fence_sets =
     (codes "iorw", 15) ∷
     []
 
+-- what a mnemonic or a directive asks for
 abbrev pub kind_of : List ℕ → Option Kind
 kind_of word = lookup word mnemonics
 
+-- the number of a register
 abbrev pub register_of : List ℕ → Option ℕ
 register_of word = lookup word registers
 
+-- the four bits of a set
 abbrev pub fence_set_of : List ℕ → Option ℕ
 fence_set_of word = lookup word fence_sets

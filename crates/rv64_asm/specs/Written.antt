@@ -27,6 +27,7 @@ distance pc target = cast_signed w64 ((target + (2 ^ 64 - pc)) % 2 ^ 64)
 abbrev pub offset_in : ℤ → ℤ → ℤ → Result ℤ LineFault
 offset_in low high offset = if int_le low offset && int_le offset high && unsigned_abs offset % 2 == 0 then Ok offset else Err OffsetOutOfRange
 
+-- the address of a target
 abbrev pub target_address : List Label → Target (List ℕ) → Result ℕ LineFault
 target_address labels (targets.Label name) = ok_or (address_of labels name) UnknownLabel
 target_address labels (targets.Address address) = Ok address
@@ -83,19 +84,3 @@ WrittenBelow lines labels words bytes n = (k : ℕ) → k < n → IsWritten line
 -- line k has this fault of its target, or none
 abbrev pub HasTargetFault : List (List ℕ) → List Label → ℕ → Option LineFault → Type 0
 HasTargetFault lines labels k fault = (line : List ℕ) × (slice_get lines k ≡ Some line) × (result_err (item_of (place_of_line lines k) labels line) ≡ fault)
-
--- the place behind a line, and what it gives
-unfoldable pub emit : Place → List Label → List ℕ → Result (Place × Item) LineFault
-emit place labels line = do
-  statement ← line_of place.part line
-  item ← resolve labels (address place) statement
-  next ← ok_or (after place statement) TooManyPages
-  Ok (next, item)
-
--- an item's words and bytes put behind those that are there
-pub record Appends (item : Item) (words new_words bytes new_bytes : List ℕ) : Type 0 where
-  pub piece_words : List ℕ
-  pub piece_bytes : List ℕ
-  pub is_piece : IsPiece item piece_words piece_bytes
-  pub words_grow : new_words ≡ words ++ piece_words
-  pub bytes_grow : new_bytes ≡ bytes ++ piece_bytes

@@ -2,7 +2,7 @@
 
 ghost use Rattle.std.specs.Prelude.{◌≡◌, ◌≤ℤ◌, pos, negsuc};
 ghost use Rattle.rv64_asm.specs.Statements as spec;
-ghost use Rattle.rv64_asm.specs.Lexing.{seen};
+ghost use Rattle.rv64_asm.specs.Returned.{seen};
 
 use crate::fault::LineFault;
 use crate::lexing::Operands;

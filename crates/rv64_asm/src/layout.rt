@@ -4,8 +4,8 @@ ghost use Rattle.std.specs.Prelude.{◌≡◌, Ok, Err, false, length, IfOk, IfE
 ghost use Rattle.std.specs.Str.Lines.{lines};
 ghost use Rattle.rv64_asm.specs.Places as spec;
 ghost use Rattle.rv64_asm.specs.Statements.{label_of};
-ghost use Rattle.rv64_asm.specs.Places.{IsWithin, StandBelow};
-ghost use Rattle.rv64_asm.specs.Assembled.{IsOwnRefusal};
+ghost use Rattle.rv64_asm.specs.Places.{IsWithinPages, StandBelow};
+ghost use Rattle.rv64_asm.specs.Passes.{IsOwnRefusal};
 
 use crate::fault::AsmFault;
 use crate::labels::Labels;
@@ -17,7 +17,7 @@ use std::alloc::{AllocError, Allocator};
 /// A text starts in the text part.
 pub fn start() -> Place
     ensures same { result ≡ spec.start.place }
-    ensures within { IsWithin result }
+    ensures within { IsWithinPages result }
 {
     Place {
         part: Part::Text,
@@ -33,7 +33,7 @@ fn add_label<A: Allocator + Copy>(
     place: Place,
     line: &[u8],
 ) -> Result<(), AllocError>
-    requires within { IsWithin place }
+    requires within { IsWithinPages place }
     requires new { spec.is_twice labels.old (label_of line.now) ≡ false }
     ensures { OnOk result (labels.new ≡ spec.with_label labels.old (spec.address place) (label_of line.now)) }
 {

@@ -1,9 +1,10 @@
 //! A line in its parts.
 
-ghost use Rattle.std.specs.Prelude.{◌≡◌, ◌==◌, reverse, option_map, List};
+ghost use Rattle.std.specs.Prelude.{◌≡◌, ◌==◌, reverse, option_map};
 ghost use Rattle.std.specs.List.{position};
 ghost use Rattle.rv64_asm.specs.Lexing as spec;
-ghost use Rattle.rv64_asm.specs.Lexing.{skip_blanks, seen};
+ghost use Rattle.rv64_asm.specs.Lexing.{skip_blanks};
+ghost use Rattle.rv64_asm.specs.Returned.{seen};
 
 pub fn is_blank(b: u8) -> bool
     ensures { result ≡ spec.is_blank b }

@@ -2,12 +2,13 @@
 
 ghost use Rattle.std.specs.Prelude.{◌≡◌, ℤ, pos, negsuc, ◌^◌, ◌≤◌, ◌≤ℤ◌, IfOk, unsigned_abs, Some, None, if◌then◌else◌};
 ghost use Rattle.std.specs.Char.{digit_value};
-ghost use Rattle.rv64_asm.specs.Numbers.{all_digits, value_of, numeral, magnitude, number_in, natural, number_between, IsClipped};
+ghost use Rattle.rv64_asm.specs.Numbers.{all_digits, value_of, numeral, magnitude, number_in, natural, number_between};
+ghost use Rattle.rv64_asm.specs.Returned.{IsClipped};
 
 use crate::fault::LineFault;
 
 /// Greater numbers are read as this one.
-const MOST: u128 = 1 << 65;
+const CLIP: u128 = 1 << 65;
 
 /// The value of a digit, or 36 where the byte is none.
 fn digit_of(b: u8) -> u8
@@ -23,7 +24,7 @@ fn digit_of(b: u8) -> u8
 }
 
 /// The number that the digits write.
-fn size_of(digits: &[u8], radix: u8) -> Option<u128>
+fn clipped_value(digits: &[u8], radix: u8) -> Option<u128>
     requires { radix ≤ 16 }
     ensures clipped { IsClipped result (if all_digits radix digits.now then Some (value_of radix digits.now) else None) }
 {
@@ -33,7 +34,7 @@ fn size_of(digits: &[u8], radix: u8) -> Option<u128>
         if digit >= radix {
             return None;
         }
-        size = (size * u128::from(radix) + u128::from(digit)).min(MOST);
+        size = (size * u128::from(radix) + u128::from(digit)).min(CLIP);
     }
     Some(size)
 }
@@ -45,7 +46,7 @@ fn numeral(digits: &[u8], radix: u8) -> Option<u128>
     if digits.is_empty() {
         return None;
     }
-    size_of(digits, radix)
+    clipped_value(digits, radix)
 }
 
 #[tactic(auto, unfolding(crate::specs::Numbers::magnitude))]

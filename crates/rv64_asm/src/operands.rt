@@ -2,8 +2,8 @@
 
 ghost use Rattle.std.specs.Prelude.{◌≡◌, ◌<◌, ◌≤◌, Ok, IfOk};
 ghost use Rattle.rv64_asm.specs.Statements as spec;
-ghost use Rattle.rv64_asm.specs.Statements.{Gives, target_named};
-ghost use Rattle.rv64_asm.specs.Lexing.{seen};
+ghost use Rattle.rv64_asm.specs.Returned.{Gives, target_named};
+ghost use Rattle.rv64_asm.specs.Returned.{seen};
 
 use crate::fault::LineFault;
 use crate::lexing::{Operands, cut};

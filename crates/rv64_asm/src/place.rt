@@ -3,7 +3,7 @@
 ghost use Rattle.std.specs.Prelude.{◌≡◌, ◌≤◌, IfSome, IfOk, OnOk, Ok, false, option_map};
 ghost use Rattle.rv64_asm.specs.Places as spec;
 ghost use Rattle.rv64_asm.specs.Statements.{label_of};
-ghost use Rattle.rv64_asm.specs.Places.{IsWithin};
+ghost use Rattle.rv64_asm.specs.Places.{IsWithinPages};
 
 use crate::fault::LineFault;
 use crate::labels::Labels;
@@ -41,7 +41,7 @@ pub fn bytes_in(width: StoreWidth) -> usize
 impl Place {
     /// The address of what follows.
     pub fn address(self) -> u64
-        requires { IsWithin self }
+        requires { IsWithinPages self }
         ensures { result ≡ spec.address self }
     {
         match self.part {
@@ -52,9 +52,9 @@ impl Place {
 
     /// The place behind so many words and bytes more, unless they go over.
     fn further(self, words: usize, bytes: usize) -> Option<Place>
-        requires { IsWithin self }
+        requires { IsWithinPages self }
         ensures place { result ≡ spec.further self words bytes }
-        ensures within { IfSome result IsWithin }
+        ensures within { IfSome result IsWithinPages }
     {
         if words > MOST_WORDS - self.words || bytes > MOST_BYTES - self.bytes {
             return None;
@@ -67,9 +67,9 @@ impl Place {
     }
 
     fn after_item(self, item: Item) -> Option<Place>
-        requires { IsWithin self }
+        requires { IsWithinPages self }
         ensures place { result ≡ spec.after_item self item }
-        ensures within { IfSome result IsWithin }
+        ensures within { IfSome result IsWithinPages }
     {
         match item {
             Item::Nothing => Some(self),
@@ -82,9 +82,9 @@ impl Place {
 
     /// The place behind a statement, unless it goes over.
     pub fn after<N>(self, statement: &Statement<N>) -> Option<Place>
-        requires { IsWithin self }
+        requires { IsWithinPages self }
         ensures place { result ≡ spec.after self statement.now }
-        ensures within { IfSome result IsWithin }
+        ensures within { IfSome result IsWithinPages }
     {
         match statement {
             Statement::Enter(part) => Some(Place {
@@ -115,9 +115,9 @@ pub fn next_place<A: Allocator>(
     labels: &Labels<A>,
     line: &[u8],
 ) -> Result<Place, LineFault>
-    requires { IsWithin place }
+    requires { IsWithinPages place }
     ensures next { result ≡ spec.next_place (record { place = place; labels = labels.now }) line.now }
-    ensures within { IfOk result IsWithin }
+    ensures within { IfOk result IsWithinPages }
     ensures new { OnOk result (spec.is_twice labels.now (label_of line.now) ≡ false) }
 {
     match statement_at(place.part, line) {

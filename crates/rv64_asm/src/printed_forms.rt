@@ -15,7 +15,7 @@ pub fn three_registers<A: Allocator + Copy>(
     b: Register,
     c: Register,
 ) -> Result<String<A>, AllocError>
-    ensures text { IfOk result (λ t. string_bytes t ≡ spec.three name.now (spec.reg a) (spec.reg b) (spec.reg c)) }
+    ensures text { IfOk result (λ t. string_bytes t ≡ spec.three name.now (spec.register_text a) (spec.register_text b) (spec.register_text c)) }
     ensures a { a < 32 }
     ensures b { b < 32 }
     ensures c { c < 32 }
@@ -34,7 +34,7 @@ pub fn with_number<A: Allocator + Copy>(
     b: Register,
     number: Immediate,
 ) -> Result<String<A>, AllocError>
-    ensures text { IfOk result (λ t. string_bytes t ≡ spec.three name.now (spec.reg a) (spec.reg b) (signed_decimal number)) }
+    ensures text { IfOk result (λ t. string_bytes t ≡ spec.three name.now (spec.register_text a) (spec.register_text b) (signed_decimal number)) }
     ensures a { a < 32 }
     ensures b { b < 32 }
     ensures low { negsuc 2047 ≤ℤ number }
@@ -54,7 +54,7 @@ pub fn with_place<A: Allocator + Copy>(
     number: Immediate,
     base: Register,
 ) -> Result<String<A>, AllocError>
-    ensures text { IfOk result (λ t. string_bytes t ≡ spec.two name.now (spec.reg a) (spec.place number base)) }
+    ensures text { IfOk result (λ t. string_bytes t ≡ spec.two name.now (spec.register_text a) (spec.place number base)) }
     ensures a { a < 32 }
     ensures base { base < 32 }
     ensures low { negsuc 2047 ≤ℤ number }
@@ -73,7 +73,7 @@ pub fn with_hex<A: Allocator + Copy>(
     a: Register,
     number: u64,
 ) -> Result<String<A>, AllocError>
-    ensures text { IfOk result (λ t. string_bytes t ≡ spec.two name.now (spec.reg a) (spec.hex number)) }
+    ensures text { IfOk result (λ t. string_bytes t ≡ spec.two name.now (spec.register_text a) (spec.hex number)) }
     ensures a { a < 32 }
 {
     let a = a.index();
@@ -88,7 +88,7 @@ pub fn with_target<A: Allocator + Copy>(
     b: Register,
     number: u64,
 ) -> Result<String<A>, AllocError>
-    ensures text { IfOk result (λ t. string_bytes t ≡ spec.three name.now (spec.reg a) (spec.reg b) (spec.hex number)) }
+    ensures text { IfOk result (λ t. string_bytes t ≡ spec.three name.now (spec.register_text a) (spec.register_text b) (spec.hex number)) }
     ensures a { a < 32 }
     ensures b { b < 32 }
 {
@@ -105,7 +105,7 @@ pub fn with_amount<A: Allocator + Copy>(
     b: Register,
     amount: u8,
 ) -> Result<String<A>, AllocError>
-    ensures text { IfOk result (λ t. string_bytes t ≡ spec.three name.now (spec.reg a) (spec.reg b) (decimal amount)) }
+    ensures text { IfOk result (λ t. string_bytes t ≡ spec.three name.now (spec.register_text a) (spec.register_text b) (decimal amount)) }
     ensures a { a < 32 }
     ensures b { b < 32 }
 {

@@ -2,7 +2,7 @@
 
 ghost use Rattle.std.specs.Prelude.{◌≡◌, ℤ, ◌%◌, ◌≤ℤ◌, Ok, IfOk, unsigned_abs};
 ghost use Rattle.rv64_asm.specs.Written as spec;
-ghost use Rattle.rv64_asm.specs.Statements.{named, target_named};
+ghost use Rattle.rv64_asm.specs.Returned.{named, target_named};
 
 use crate::fault::LineFault;
 use crate::labels::Labels;

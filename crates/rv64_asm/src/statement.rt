@@ -2,8 +2,8 @@
 
 ghost use Rattle.std.specs.Prelude.{◌≡◌, ◌^◌, ◌<◌, Ok, IfOk, option_map};
 ghost use Rattle.rv64_asm.specs.Statements as spec;
-ghost use Rattle.rv64_asm.specs.Statements.{Gives, named};
-ghost use Rattle.rv64_asm.specs.Lexing.{seen};
+ghost use Rattle.rv64_asm.specs.Returned.{Gives, named};
+ghost use Rattle.rv64_asm.specs.Returned.{seen};
 
 use crate::fault::LineFault;
 use crate::instruction::instruction_of;

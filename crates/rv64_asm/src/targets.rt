@@ -1,8 +1,8 @@
 //! Branches and jumps, whose targets are labels or addresses.
 
 ghost use Rattle.rv64_asm.specs.Statements as spec;
-ghost use Rattle.rv64_asm.specs.Statements.{Gives, named};
-ghost use Rattle.rv64_asm.specs.Lexing.{seen};
+ghost use Rattle.rv64_asm.specs.Returned.{Gives, named};
+ghost use Rattle.rv64_asm.specs.Returned.{seen};
 
 use crate::fault::LineFault;
 use crate::lexing::Operands;

@@ -419,3 +419,5 @@ fn shown_lines(rt: HostRuntime) -> Result<(), Fail> {
     }
     Ok(())
 }
+
+mod malformed;

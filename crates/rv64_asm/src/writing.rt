@@ -2,10 +2,11 @@
 
 ghost use Rattle.std.specs.Prelude.{◌≡◌, ◌≤◌, Ok, Err, length, vec_len, IfOk, IfErr, OnOk};
 ghost use Rattle.std.specs.Str.Lines.{lines};
-ghost use Rattle.rv64_asm.specs.Places.{IsWithin, StandBelow, behind};
-ghost use Rattle.rv64_asm.specs.Written as spec;
-ghost use Rattle.rv64_asm.specs.Written.{Appends};
-ghost use Rattle.rv64_asm.specs.Assembled.{IsProgram, IsTargetRefusal};
+ghost use Rattle.rv64_asm.specs.Places.{IsWithinPages, StandBelow, behind};
+ghost use Rattle.rv64_asm.specs.Passes as spec;
+ghost use Rattle.rv64_asm.specs.Passes.{Appends};
+ghost use Rattle.rv64_asm.specs.Assembled.{IsProgram};
+ghost use Rattle.rv64_asm.specs.Passes.{IsTargetRefusal};
 
 use crate::fault::{AsmFault, LineFault};
 use crate::labels::Labels;
@@ -18,15 +19,15 @@ use rv64_decode::encode;
 use std::alloc::{AllocError, Allocator};
 
 /// The place behind a line, and what it gives.
-#[tactic(auto, unfolding(crate::specs::Written::emit))]
+#[tactic(auto, unfolding(crate::specs::Passes::emit))]
 fn emit<A: Allocator>(
     place: Place,
     labels: &Labels<A>,
     line: &[u8],
 ) -> Result<(Place, Item), LineFault>
-    requires { IsWithin place }
+    requires { IsWithinPages place }
     ensures given { result ≡ spec.emit place labels.now line.now }
-    ensures within { IfOk result (λ x. IsWithin x.0) }
+    ensures within { IfOk result (λ x. IsWithinPages x.0) }
 {
     match statement_at(place.part, line) {
         Err(fault) => Err(fault),

@@ -2,7 +2,7 @@
 //!
 //! `new` asks for the range. Who has a number from outside tests it first.
 
-ghost use Rattle.std.specs.Prelude.{◌≡◌, ℕ, ℤ, pos, negsuc, ◌<◌, ◌≤◌, ◌≤ℤ◌, ◌<ℤ◌, ◌^◌, ◌%◌, unsigned_abs};
+ghost use Rattle.std.specs.Prelude.{◌≡◌, ℕ, ℤ, pos, negsuc, ◌<◌, ◌≤◌, ◌≤ℤ◌, ◌^◌, ◌%◌, unsigned_abs};
 ghost use Rattle.rv64_decode.specs.Bits.{signed};
 
 use std::marker::Model;

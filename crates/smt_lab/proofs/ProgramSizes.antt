@@ -13,59 +13,59 @@ use Rattle.rv64_asm.specs.declared.statement.Item.TheVariants.{Nothing, Instruct
 use Rattle.rv64_asm.specs.declared.statement.Statement.{Statement}
 use Rattle.rv64_asm.specs.declared.statement.Statement.TheVariants.{Enter, Give, Branch, Jump}
 use Rattle.rv64_asm.specs.Numbers.{◌>>=◌}
-use Rattle.rv64_asm.specs.Places.{IsWithin, Layout, address, after, after_item, behind, bytes_in, further, is_twice, next_place, start, step, with_label}
+use Rattle.rv64_asm.specs.Places.{IsWithinPages, Layout, address, after, after_item, behind, bytes_in, further, is_twice, next_place, start, step, with_label}
 use Rattle.rv64_asm.specs.ProgramValue.{ProgramValue}
 use Rattle.rv64_asm.specs.Statements.{label_of, line_of}
 use Rattle.smt_lab.specs.Engines.{IsProgramOf}
 
 -- a place that goes over is none
-IsWithin-further : (p : Place) (words bytes : ℕ) → IfSome (further p words bytes) IsWithin
-IsWithin-further p words bytes = go (nat_lt 65536 (p.words + words)) (nat_lt 1048576 (p.bytes + bytes)) refl refl
+IsWithinPages-further : (p : Place) (words bytes : ℕ) → IfSome (further p words bytes) IsWithinPages
+IsWithinPages-further p words bytes = go (nat_lt 65536 (p.words + words)) (nat_lt 1048576 (p.bytes + bytes)) refl refl
   where
     go : (over beyond : Bool) → nat_lt 65536 (p.words + words) ≡ over → nat_lt 1048576 (p.bytes + bytes) ≡ beyond
-        → IfSome (if over || beyond then None else Some (record { part = p.part; words = p.words + words; bytes = p.bytes + bytes })) IsWithin
+        → IfSome (if over || beyond then None else Some (record { part = p.part; words = p.words + words; bytes = p.bytes + bytes })) IsWithinPages
     go true beyond e f = tt
     go false true e f = tt
     go false false e f = (grind (arith, nat_tests), grind (arith, nat_tests))
 
-IsWithin-item : (p : Place) (item : Item) → IsWithin p → IfSome (after_item p item) IsWithin
-IsWithin-item p Nothing h = h
-IsWithin-item p (Instruction insn) h = IsWithin-further p 1 0
-IsWithin-item p (Word bits) h = IsWithin-further p 1 0
-IsWithin-item p (Number width bits) h = IsWithin-further p 0 (bytes_in width)
-IsWithin-item p (Zeros count) h = IsWithin-further p 0 count
+IsWithinPages-item : (p : Place) (item : Item) → IsWithinPages p → IfSome (after_item p item) IsWithinPages
+IsWithinPages-item p Nothing h = h
+IsWithinPages-item p (Instruction insn) h = IsWithinPages-further p 1 0
+IsWithinPages-item p (Word bits) h = IsWithinPages-further p 1 0
+IsWithinPages-item p (Number width bits) h = IsWithinPages-further p 0 (bytes_in width)
+IsWithinPages-item p (Zeros count) h = IsWithinPages-further p 0 count
 
-IsWithin-after : (p : Place) (statement : Statement (List ℕ)) → IsWithin p → IfSome (after p statement) IsWithin
-IsWithin-after p (Enter part) h = h
-IsWithin-after p (Give item) h = IsWithin-item p item h
-IsWithin-after p (Branch condition rs1 rs2 target) h = IsWithin-further p 1 0
-IsWithin-after p (Jump rd target) h = IsWithin-further p 1 0
+IsWithinPages-after : (p : Place) (statement : Statement (List ℕ)) → IsWithinPages p → IfSome (after p statement) IsWithinPages
+IsWithinPages-after p (Enter part) h = h
+IsWithinPages-after p (Give item) h = IsWithinPages-item p item h
+IsWithinPages-after p (Branch condition rs1 rs2 target) h = IsWithinPages-further p 1 0
+IsWithinPages-after p (Jump rd target) h = IsWithinPages-further p 1 0
 
-IsWithin-step : (s : Layout) (line : List ℕ) → IsWithin s.place → IsWithin (result_unwrap_or (step s line) s).place
+IsWithinPages-step : (s : Layout) (line : List ℕ) → IsWithinPages s.place → IsWithinPages (result_unwrap_or (step s line) s).place
 unfolding next_place
-IsWithin-step s line h = go (line_of s.place.part line)
+IsWithinPages-step s line h = go (line_of s.place.part line)
   where
-    at : (o : Option Place) → IfSome o IsWithin → IsWithin (result_unwrap_or (ok_or o TooManyPages >>= λ place. Ok (record { place = place; labels = with_label s.labels (address s.place) (label_of line) })) s).place
+    at : (o : Option Place) → IfSome o IsWithinPages → IsWithinPages (result_unwrap_or (ok_or o TooManyPages >>= λ place. Ok (record { place = place; labels = with_label s.labels (address s.place) (label_of line) })) s).place
     at None k = h
     at (Some place) k = k
 
-    twice : (t : Bool) (o : Option Place) → IfSome o IsWithin
-        → IsWithin (result_unwrap_or ((if t then Err LabelTwice else ok_or o TooManyPages) >>= λ place. Ok (record { place = place; labels = with_label s.labels (address s.place) (label_of line) })) s).place
+    twice : (t : Bool) (o : Option Place) → IfSome o IsWithinPages
+        → IsWithinPages (result_unwrap_or ((if t then Err LabelTwice else ok_or o TooManyPages) >>= λ place. Ok (record { place = place; labels = with_label s.labels (address s.place) (label_of line) })) s).place
     twice true o k = h
     twice false o k = at o k
 
     go : (r : Result (Statement (List ℕ)) LineFault)
-        → IsWithin (result_unwrap_or ((r >>= λ statement. if is_twice s.labels (label_of line) then Err LabelTwice else ok_or (after s.place statement) TooManyPages) >>= λ place. Ok (record { place = place; labels = with_label s.labels (address s.place) (label_of line) })) s).place
+        → IsWithinPages (result_unwrap_or ((r >>= λ statement. if is_twice s.labels (label_of line) then Err LabelTwice else ok_or (after s.place statement) TooManyPages) >>= λ place. Ok (record { place = place; labels = with_label s.labels (address s.place) (label_of line) })) s).place
     go (Err fault) = h
-    go (Ok statement) = twice (is_twice s.labels (label_of line)) (after s.place statement) (IsWithin-after s.place statement h)
+    go (Ok statement) = twice (is_twice s.labels (label_of line)) (after s.place statement) (IsWithinPages-after s.place statement h)
 
-IsWithin-behind : (ls : List (List ℕ)) (s : Layout) → IsWithin s.place → IsWithin (fold (λ s line. result_unwrap_or (step s line) s) s ls).place
-IsWithin-behind [] s h = h
-IsWithin-behind (line ∷ ls) s h = IsWithin-behind ls (result_unwrap_or (step s line) s) (IsWithin-step s line h)
+IsWithinPages-behind : (ls : List (List ℕ)) (s : Layout) → IsWithinPages s.place → IsWithinPages (fold (λ s line. result_unwrap_or (step s line) s) s ls).place
+IsWithinPages-behind [] s h = h
+IsWithinPages-behind (line ∷ ls) s h = IsWithinPages-behind ls (result_unwrap_or (step s line) s) (IsWithinPages-step s line h)
 
 -- at most 64 pages
 pub length-words : (text : List ℕ) (program : ProgramValue) → IsProgramOf text program → length program.words ≤ 65536
 length-words text program is =
-    let most : IsWithin (behind (lines text)).place = IsWithin-behind (lines text) start (omega arith, omega arith) in
+    let most : IsWithinPages (behind (lines text)).place = IsWithinPages-behind (lines text) start (omega arith, omega arith) in
     let count = is.is_assembly.is_program.word_count in
     omega (arith, most.0, count)

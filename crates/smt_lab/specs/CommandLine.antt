@@ -50,10 +50,12 @@ IsTaken text = IsUnsignedIn 0 GREATEST text
 abbrev pub IsNumber : List ℕ → ℕ → Type 0
 IsNumber text n = IsTaken text × (n ≡ digits_value 10 (without_leading_plus text))
 
+-- the text is there and writes this number
 abbrev pub HasNumber : Option (List ℕ) → ℕ → Type 0
 HasNumber None n = ⊥
 HasNumber (Some text) n = IsNumber text n
 
+-- the text writes this number, or neither is there
 abbrev pub MayHaveNumber : Option (List ℕ) → Option ℕ → Type 0
 MayHaveNumber None None = ⊤
 MayHaveNumber None (Some n) = ⊥
@@ -72,6 +74,7 @@ IsRequestOf rows (Step name count with) =
     (first_of (codes "file") rows ≡ Some name.now) × HasNumber (first_of (codes "count") rows) count
     × MayHaveNumber (first_of (codes "with") rows) with
 
+-- the text is there and writes a number from 0 to 2^40
 abbrev pub IsTextTaken : Option (List ℕ) → Type 0
 IsTextTaken None = ⊥
 IsTextTaken (Some text) = IsTaken text

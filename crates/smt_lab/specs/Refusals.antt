@@ -30,6 +30,7 @@ UnreadOf name (Unread text) = string_bytes text ≡ printed_name name
 UnreadOf name OutOfMemory = Unit {0}
 UnreadOf name _ = ⊥
 
+-- the same of a device that is written
 abbrev pub UnwrittenOf : {A : Type 0} → List ℕ → Refusal A → Type 0
 UnwrittenOf name (Unwritten text) = string_bytes text ≡ printed_name name
 UnwrittenOf name OutOfMemory = Unit {0}

@@ -1,6 +1,6 @@
 //! The text of one context: how far it has come, its registers and its memory.
 
-ghost use Rattle.std.specs.Prelude.{◌≡◌, ◌≤◌, ◌<◌, ◌++◌, IfOk, OnOk, Some, drop, length, string_bytes};
+ghost use Rattle.std.specs.Prelude.{◌≡◌, ◌<◌, ◌++◌, IfOk, OnOk, Some, drop, string_bytes};
 ghost use Rattle.checkpoint.specs.MarkValue.{state_of};
 ghost use Rattle.hart_step.specs.State.{State};
 ghost use Rattle.sha2.specs.Sha256.{sha256};

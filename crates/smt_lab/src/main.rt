@@ -7,7 +7,9 @@ pub mod device;
 mod lazy_file;
 pub mod run;
 
-ghost use Rattle.std.specs.Prelude.{◌≡◌, IfOk, false};
+ghost use Rattle.std.specs.Prelude.{◌≡◌, ◌≢◌, ◌≤◌, IfOk, OnOk, OnErr, false};
+ghost use Rattle.std.specs.Process.{exit_status};
+ghost use Rattle.clap.specs.Values.{kind_of};
 ghost use Rattle.smt_lab.specs.CommandLine.{IsBounded};
 ghost use Rattle.smt_lab.specs.Watched.{fails};
 
@@ -25,13 +27,20 @@ use std::{env, io};
 const STANDARD_OUTPUT: &str = "-";
 
 /// Prints a refusal.
-fn refuse<A: Allocator>(rt: &impl Eprint, refusal: Refusal<A>) -> ExitCode {
+fn refuse<A: Allocator>(rt: &impl Eprint, refusal: Refusal<A>) -> ExitCode
+    ensures { exit_status result ≡ 1 }
+{
     let _ = eprintln!(rt; "{refusal}");
     ExitCode::from(1)
 }
 
 /// Prints what is wrong with the words, or the help that they ask for.
-fn explain<R: Print + Eprint>(rt: &R, error: clap::Error) -> ExitCode {
+fn explain<R: Print + Eprint>(rt: &R, error: clap::Error) -> ExitCode
+    ensures memory { kind_of error ≡ ErrorKind.OutOfMemory → exit_status result ≡ 1 }
+    ensures mistake { kind_of error ≢ ErrorKind.OutOfMemory → kind_of error ≢ ErrorKind.DisplayHelp
+        → kind_of error ≢ ErrorKind.DisplayVersion → exit_status result ≡ 2 }
+    ensures help { kind_of error ≡ ErrorKind.DisplayHelp → exit_status result ≤ 1 }
+{
     if error.kind() == ErrorKind::OutOfMemory {
         return refuse(rt, Refusal::OutOfMemory::<Global>);
     }
@@ -107,6 +116,17 @@ fn answer<'a, 'b, R: Files + Print>(
     }
 }
 
+/// The status of a command that was run. A refusal is printed.
+fn status_of<A: Allocator>(rt: &impl Eprint, outcome: Result<(), Refusal<A>>) -> ExitCode
+    ensures ok { OnOk outcome (exit_status result ≡ 0) }
+    ensures err { OnErr outcome (exit_status result ≡ 1) }
+{
+    match outcome {
+        Ok(()) => ExitCode::SUCCESS,
+        Err(refusal) => refuse(rt, refusal),
+    }
+}
+
 fn main(rt: HostRuntime) -> ExitCode {
     let alloc = rt.alloc();
     let words = match arguments(&rt, alloc) {
@@ -117,8 +137,5 @@ fn main(rt: HostRuntime) -> ExitCode {
         Ok(request) => request,
         Err(error) => return explain(&rt, error),
     };
-    match answer(&rt, &alloc, request) {
-        Ok(()) => ExitCode::SUCCESS,
-        Err(refusal) => refuse(&rt, refusal),
-    }
+    status_of(&rt, answer(&rt, &alloc, request))
 }

@@ -1,6 +1,6 @@
 //! The command line, read with `clap`.
 
-ghost use Rattle.std.specs.Prelude.{◌≡◌, ◌≤◌, IfNone, IfOk, IfSome, IsSomeAnd, false, map, option_map};
+ghost use Rattle.std.specs.Prelude.{◌≡◌, IfNone, IfOk, IfSome, IsSomeAnd, false, map, option_map};
 ghost use Rattle.clap.specs.Words.{FailsBy, HasMatchesOf, app_of, fault_of, found_of, rows_of, rule_of, subcommand_rows_of};
 ghost use Rattle.smt_lab.specs.CommandLine as spec;
 
@@ -91,6 +91,7 @@ fn lab_command<'a>(alloc: Global) -> Result<Command<'a>, AllocError>
     let asm = asm_command(alloc)?;
     let step = step_command(alloc)?;
     Command::new(alloc, "smt-lab")
+        .bin_name("smt-lab")?
         .about("Runs RV64I programs and merges their checkpoints")
         .no_binary_name(true)
         .subcommand_required(true)

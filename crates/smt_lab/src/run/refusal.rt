@@ -18,7 +18,8 @@ pub enum Refusal<A: Allocator = Global> {
     Assembly(AsmFault),
     /// O1, O2: there is no origin of the program.
     Origin(OriginFault),
-    /// C3: a mark isn't made.
+    /// C3: there is no memory for a mark. A command joins marks of one origin and context, so
+    /// that C1 and C2 don't come.
     Mark(MarkFault),
     /// E1: memory was asked for and refused, where no other code tells it.
     OutOfMemory,

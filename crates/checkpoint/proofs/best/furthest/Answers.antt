@@ -3,4 +3,4 @@ use Rattle.checkpoint.proofs.BestLemmas.{IsBest-join}
 use Rattle.checkpoint.proofs.best.furthest.Goals as goal
 
 pub returns : goal.returns
-returns g c = IsBest-join (c.args.first ∷ c.args.others.items) c.join_all.result c.requires c.join_all.ensures.joined
+returns g c = IsBest-join (c.args.first ∷ c.args.others.items) c.join_all.result c.join_all.ensures.joined

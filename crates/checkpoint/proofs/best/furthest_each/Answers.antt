@@ -3,4 +3,4 @@ use Rattle.checkpoint.proofs.BestLemmas.{AreBest-join}
 use Rattle.checkpoint.proofs.best.furthest_each.Goals as goal
 
 pub returns : goal.returns
-returns g c = AreBest-join (c.args.first ∷ c.args.others.items) c.join_eights.result c.requires c.join_eights.ensures
+returns g c = AreBest-join (c.args.first ∷ c.args.others.items) c.join_eights.result c.join_eights.ensures

@@ -3,4 +3,4 @@ use Rattle.checkpoint.proofs.BestLemmas.{IsBest-join}
 use Rattle.checkpoint.proofs.best.furthest_leaf.Goals as goal
 
 pub returns : goal.returns
-returns g c = IsBest-join (leaves c.args.tree) c.fold_tree.result c.requires c.fold_tree.ensures.joined
+returns g c = IsBest-join (leaves c.args.tree) c.fold_tree.result c.fold_tree.ensures.joined

@@ -3,4 +3,4 @@ use Rattle.checkpoint.proofs.BestLemmas.{AreBest-join}
 use Rattle.checkpoint.proofs.best.furthest_leaf_each.Goals as goal
 
 pub returns : goal.returns
-returns g c = AreBest-join (leaves c.args.tree) c.fold_eights.result c.requires c.fold_eights.ensures
+returns g c = AreBest-join (leaves c.args.tree) c.fold_eights.result c.fold_eights.ensures

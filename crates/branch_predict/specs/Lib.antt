@@ -1,0 +1,2 @@
+pub mod Predictor
+pub mod Stated

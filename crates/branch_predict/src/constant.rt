@@ -1,0 +1,42 @@
+//! Guesses that learn nothing.
+
+ghost use Rattle.std.specs.Prelude.{◌≡◌, IsTrue};
+ghost use Rattle.hart_step.specs.State.{following as following_of};
+
+use crate::Guess;
+use hart_step::following;
+use join_law::Ctx;
+use rv64_decode::Insn;
+
+/// Answers one pc, whatever it is asked.
+#[derive(Clone, Copy, Debug, PartialEq, Eq)]
+pub struct Always(pub u64);
+
+impl Guess for Always {
+    ghost use Rattle.std.specs.Prelude.{◌==◌};
+
+    ghost may_answer = { λ s context pc insn next. next == s.0 };
+
+    fn guess(&mut self, _context: Ctx, _pc: u64, _insn: &Insn) -> u64 {
+        self.0
+    }
+
+    fn learn(&mut self, _context: Ctx, _pc: u64, _insn: &Insn, _next: u64) {}
+}
+
+/// Answers the next instruction in line, `pc + 4`.
+#[derive(Clone, Copy, Debug, PartialEq, Eq)]
+pub struct Sequential;
+
+impl Guess for Sequential {
+    ghost use Rattle.std.specs.Prelude.{◌==◌};
+    ghost use Rattle.hart_step.specs.State.{following};
+
+    ghost may_answer = { λ s context pc insn next. next == following pc };
+
+    fn guess(&mut self, _context: Ctx, pc: u64, _insn: &Insn) -> u64 {
+        following(pc)
+    }
+
+    fn learn(&mut self, _context: Ctx, _pc: u64, _insn: &Insn, _next: u64) {}
+}

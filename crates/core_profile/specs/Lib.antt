@@ -1,0 +1,5 @@
+pub mod Codes
+pub mod Fields
+pub mod Policies
+pub mod Refusals
+pub mod Tables

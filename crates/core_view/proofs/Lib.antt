@@ -1,0 +1,16 @@
+pub mod ByteNumbers
+pub mod SpanReads
+pub mod Stored
+pub mod Seen
+pub mod Steps
+pub mod Sound
+pub mod Retired
+pub mod Stamps
+pub mod Accesses
+pub mod Patient
+pub mod Loads
+pub mod Completed
+pub mod Cut
+pub mod Live
+pub mod Queues
+pub mod RingForm

@@ -1,0 +1,9 @@
+pub mod Spans
+pub mod Operations
+pub mod Outcomes
+pub mod Flight
+pub mod View
+pub mod Events
+pub mod Loads
+pub mod Queues
+pub mod ViewCode

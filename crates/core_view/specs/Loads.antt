@@ -1,0 +1,128 @@
+-- What a load sees of memory and of the older stores, byte by byte and store by store, and when it may issue.
+use Rattle.std.specs.Prelude.{◌≡◌, ℕ, ◌-◌, Bool, true, false, not, ◌&&◌, List, [], ◌∷◌, if◌then◌else◌, Option, Some, None}
+use Rattle.std.specs.Option.{option_or, option_map_or}
+use Rattle.std.specs.List.{list_any}
+use Rattle.std.specs.Int.{byte_at as byte_of_number}
+use Rattle.hart_step.specs.declared.effect.Effect.{Effect}
+use Rattle.hart_step.specs.declared.effect.Effect.TheVariants.{Loads}
+use Rattle.hart_step.specs.Values.{load_bytes}
+use Rattle.core_view.specs.declared.span.Span.{Span}
+use Rattle.core_view.specs.declared.span.Bytes.{Bytes}
+use Rattle.core_view.specs.declared.entry.Stage.{Stage}
+use Rattle.core_view.specs.declared.entry.Stage.TheVariants.{Fetched, Queued, Issued, Done}
+use Rattle.core_view.specs.declared.entry.Entry.{Entry}
+use Rattle.core_view.specs.Spans.{contains, shares, covers, number_in, part_of}
+use Rattle.core_view.specs.Operations.{is_load, is_store}
+use Rattle.core_view.specs.Outcomes.{load_span}
+use Rattle.core_view.specs.Flight.{bytes_done}
+
+-- ---- what is seen
+
+-- a store's bytes, where they pass a test
+abbrev pub passing : (Bytes → Bool) → Option Bytes → Option Bytes
+passing test None = None
+passing test (Some b) = if test b then Some b else None
+
+-- the newest store of these that is done without a stop and passes a test
+abbrev pub newest : (Bytes → Bool) → List Entry → Option Bytes
+newest test [] = None
+newest test (e ∷ es) = option_or (newest test es) (passing test (bytes_done e.stage))
+
+-- the newest that covers an address
+abbrev pub newest_at : List Entry → ℕ → Option Bytes
+newest_at es x = newest (λ b. contains b.span x) es
+
+-- the newest that shares a byte with a span
+abbrev pub newest_sharing : List Entry → Span → Option Bytes
+newest_sharing es s = newest (λ b. shares b.span s) es
+
+-- the byte at an address: of a store, else memory's
+abbrev pub byte_from : (ℕ → ℕ) → Option Bytes → ℕ → ℕ
+byte_from memory None x = memory x
+byte_from memory (Some b) x = byte_of_number (x - b.span.address) b.value
+
+-- the byte that is seen after these entries: that of the newest store that is done without a stop and covers it, else memory's
+abbrev pub seen_byte : (ℕ → ℕ) → List Entry → ℕ → ℕ
+seen_byte memory es x = byte_from memory (newest_at es x) x
+
+-- the number that is seen at a span
+abbrev pub seen_value : (ℕ → ℕ) → List Entry → Span → ℕ
+seen_value memory es s = number_in (seen_byte memory es) s
+
+-- ---- the answer to a load
+
+-- no store shares a byte with a span, or this one covers all of it
+abbrev pub is_clear_of : Option Bytes → Span → Bool
+is_clear_of None s = true
+is_clear_of (Some b) s = covers b.span s
+
+-- a load of a span after these entries is clear: no store that is done without a stop shares a byte with it, or the newest that does covers all
+abbrev pub is_clear : List Entry → Span → Bool
+is_clear es s = is_clear_of (newest_sharing es s) s
+
+-- the answer to a clear load: memory's number, or the part of that store's
+abbrev pub forwarded : (ℕ → ℕ) → Option Bytes → Span → ℕ
+forwarded memory None s = number_in memory s
+forwarded memory (Some b) s = part_of b s
+
+-- the number for a load, given the newest store that shares a byte with it: none yet where the load isn't clear of it
+abbrev pub answer_by : (ℕ → ℕ) → Option Bytes → Span → Option ℕ
+answer_by memory newest s = if is_clear_of newest s then Some (forwarded memory newest s) else None
+
+-- the span that a load asks for, whether or not it will stop
+abbrev pub span_asked : Effect → Option Span
+span_asked (Loads kind address) = Some (load_span address (load_bytes kind))
+span_asked _ = None
+
+-- the number that answers it after these entries, 0 where there is no load
+abbrev pub number_answered : (ℕ → ℕ) → List Entry → Effect → ℕ
+number_answered memory es e = option_map_or (λ s. forwarded memory (newest_sharing es s) s) (span_asked e) 0
+
+-- an effect may be issued after these entries: what is asked for is clear
+abbrev pub may_issue : List Entry → Effect → Bool
+may_issue es e = option_map_or (is_clear es) (span_asked e) true
+
+-- ---- while loads wait for every older store
+
+-- from the end of its execution on, with a stop or without
+abbrev pub is_done : Stage → Bool
+is_done Fetched = false
+is_done Queued = false
+is_done (Issued execution) = false
+is_done (Done execution) = true
+
+-- from its issue on
+abbrev pub is_issued : Stage → Bool
+is_issued Fetched = false
+is_issued Queued = false
+is_issued (Issued execution) = true
+is_issued (Done execution) = true
+
+-- a store that isn't done
+abbrev pub is_pending_store : Entry → Bool
+is_pending_store e = is_store e.operation && not (is_done e.stage)
+
+-- a load after these entries waits: a store of them isn't done
+abbrev pub waits : List Entry → Bool
+waits es = list_any is_pending_store es
+
+-- such a load is clear only where it doesn't wait
+abbrev pub is_clear_waiting : List Entry → Span → Bool
+is_clear_waiting es s = not (waits es) && is_clear es s
+
+abbrev pub may_issue_waiting : List Entry → Effect → Bool
+may_issue_waiting es e = option_map_or (is_clear_waiting es) (span_asked e) true
+
+-- a load that has issued
+abbrev pub is_issued_load : Entry → Bool
+is_issued_load e = is_load e.operation && is_issued e.stage
+
+-- none of these is one
+abbrev pub NoIssuedLoad : List Entry → Type 0
+NoIssuedLoad [] = Unit {0}
+NoIssuedLoad (e ∷ es) = (is_issued_load e ≡ false) × NoIssuedLoad es
+
+-- no load has issued past a store that isn't done
+abbrev pub IsPatient : List Entry → Type 0
+IsPatient [] = Unit {0}
+IsPatient (e ∷ es) = (is_pending_store e ≡ true → NoIssuedLoad es) × IsPatient es

@@ -1,0 +1,26 @@
+//! What an out-of-order core shows of itself: entries in flight with their outcomes, and notes of cycles.
+#![tactic(auto)]
+
+mod access;
+mod entry;
+mod fault;
+mod load;
+mod note;
+mod operation;
+mod outcome;
+mod span;
+mod status;
+
+pub use access::{access_fault, write_access};
+pub use entry::{Entry, Execution, Stage};
+pub use load::{load_answer, span_asked};
+pub use note::{CycleNote, EntryId, Issue};
+pub use operation::Operation;
+pub use outcome::{Access, Outcome, Step};
+pub use span::{Bytes, Span};
+pub use status::Status;
+
+#[cfg(test)]
+mod span_tests;
+#[cfg(test)]
+mod tests;

@@ -1,0 +1,194 @@
+// What an instruction does in flight.
+ghost use Rattle.std.specs.Prelude.{◌≡◌};
+ghost use Rattle.paged_memory.specs.Cells.{bytes_of};
+ghost use Rattle.core_view.specs.Outcomes.{goes_to as goes_to_of, loads_at as loads_at_of, stores_at as stores_at_of, outcome_with, bytes_written, span_of};
+ghost use Rattle.core_view.specs.Flight.{result_in, bytes_in, span_in};
+
+use crate::fault::stop_of_fault;
+use crate::span::{Bytes, Span};
+use hart_step::{Effect, Stop, following, load_width, loaded, store_width};
+use paged_memory::{Fault, Width};
+use rv64_decode::{LoadKind, StoreWidth};
+
+/// What an instruction reads or writes of memory.
+#[derive(Clone, Copy, Debug, PartialEq, Eq)]
+pub enum Access {
+    /// Nothing.
+    Free,
+    /// A load reads a span.
+    Reads { span: Span },
+    /// A store writes bytes.
+    Writes { bytes: Bytes },
+}
+
+impl Access {
+    /// The bytes of a store.
+    #[inline]
+    pub fn bytes(&self) -> Option<Bytes>
+        ensures { result ≡ bytes_written self.now }
+    {
+        match *self {
+            Access::Writes { bytes } => Some(bytes),
+            Access::Free | Access::Reads { .. } => None,
+        }
+    }
+
+    /// The span of a load.
+    #[inline]
+    pub fn span(&self) -> Option<Span>
+        ensures { result ≡ span_of self.now }
+    {
+        match *self {
+            Access::Reads { span } => Some(span),
+            Access::Free | Access::Writes { .. } => None,
+        }
+    }
+}
+
+/// What an instruction does that doesn't stop.
+#[derive(Clone, Copy, Debug, PartialEq, Eq)]
+pub struct Step {
+    /// The value for the destination, 0 where there is none.
+    pub result: u64,
+    /// The next pc.
+    pub next: u64,
+    /// What it reads or writes of memory.
+    pub access: Access,
+}
+
+/// What an instruction does: it goes on, or it stops its context once it is the oldest.
+#[derive(Clone, Copy, Debug, PartialEq, Eq)]
+pub enum Outcome {
+    /// It goes on.
+    Goes { step: Step },
+    /// It stops, and changes nothing.
+    Stops { why: Stop },
+}
+
+/// How many bytes a width has.
+#[inline(always)]
+fn size_of_width(width: Width) -> u8
+    ensures { result ≡ bytes_of width }
+{
+    match width {
+        Width::Byte => 1,
+        Width::Half => 2,
+        Width::Word => 4,
+        Width::Double => 8,
+    }
+}
+
+/// Gives a value and goes on at a target.
+#[inline(always)]
+fn goes_to(value: u64, target: u64) -> Outcome
+    ensures { result ≡ goes_to_of value target }
+{
+    Outcome::Goes {
+        step: Step {
+            result: value,
+            next: target,
+            access: Access::Free,
+        },
+    }
+}
+
+/// A load of a number at an address.
+#[inline(always)]
+fn loads_at(pc: u64, kind: LoadKind, address: u64, number: u64) -> Outcome
+    ensures { result ≡ loads_at_of pc kind address number }
+{
+    let span = Span {
+        address,
+        size: size_of_width(load_width(kind)),
+    };
+    Outcome::Goes {
+        step: Step {
+            result: loaded(kind, number),
+            next: following(pc),
+            access: Access::Reads { span },
+        },
+    }
+}
+
+/// A store of a value at an address.
+#[inline(always)]
+fn stores_at(pc: u64, width: StoreWidth, address: u64, value: u64) -> Outcome
+    ensures { result ≡ stores_at_of pc width address value }
+{
+    let span = Span {
+        address,
+        size: size_of_width(store_width(width)),
+    };
+    Outcome::Goes {
+        step: Step {
+            result: 0,
+            next: following(pc),
+            access: Access::Writes {
+                bytes: Bytes { span, value },
+            },
+        },
+    }
+}
+
+impl Outcome {
+    /// The outcome of an effect at a pc, with what was answered to its access: why it is refused,
+    /// or the number that a load reads (a store may be answered any).
+    pub fn of_effect(pc: u64, effect: Effect, answered: Result<u64, Fault>) -> Outcome
+        ensures { result ≡ outcome_with pc effect answered }
+    {
+        match effect {
+            Effect::Goes { target } => goes_to(0, target),
+            Effect::Writes { value, target } => goes_to(value, target),
+            Effect::Loads { kind, address } => match answered {
+                Ok(number) => loads_at(pc, kind, address, number),
+                Err(fault) => Outcome::Stops {
+                    why: stop_of_fault(fault),
+                },
+            },
+            Effect::Stores {
+                width,
+                address,
+                value,
+            } => match answered {
+                Ok(_) => stores_at(pc, width, address, value),
+                Err(fault) => Outcome::Stops {
+                    why: stop_of_fault(fault),
+                },
+            },
+            Effect::Stops { why } => Outcome::Stops { why },
+        }
+    }
+
+    /// The result that entries after it may use: a stop gives none.
+    #[inline]
+    pub fn result(&self) -> Option<u64>
+        ensures { result ≡ result_in self.now }
+    {
+        match *self {
+            Outcome::Goes { step } => Some(step.result),
+            Outcome::Stops { .. } => None,
+        }
+    }
+
+    /// The bytes that it writes.
+    #[inline]
+    pub fn bytes(&self) -> Option<Bytes>
+        ensures { result ≡ bytes_in self.now }
+    {
+        match *self {
+            Outcome::Goes { step } => step.access.bytes(),
+            Outcome::Stops { .. } => None,
+        }
+    }
+
+    /// The span that it read.
+    #[inline]
+    pub fn span(&self) -> Option<Span>
+        ensures { result ≡ span_in self.now }
+    {
+        match *self {
+            Outcome::Goes { step } => step.access.span(),
+            Outcome::Stops { .. } => None,
+        }
+    }
+}

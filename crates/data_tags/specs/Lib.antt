@@ -1,0 +1,4 @@
+pub mod Latency
+pub mod LatencyLaws
+pub mod Table
+pub mod Alternate

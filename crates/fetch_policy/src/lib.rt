@@ -1,0 +1,15 @@
+//! Which contexts fetch in a cycle: the five fetch policies, and the choice of contexts by any policy.
+#![tactic(auto)]
+
+mod choice;
+mod named;
+mod policies;
+mod view;
+
+pub use choice::choose;
+pub use named::NamedPick;
+pub use policies::{Brcount, Icount, Iqposn, Misscount, Pick, RoundRobin};
+pub use view::{FetchContext, FetchView};
+
+#[cfg(test)]
+mod tests;

@@ -1,0 +1,105 @@
+ghost use Rattle.std.specs.Prelude.{◌≤◌};
+
+use crate::{
+    Brcount, FetchContext, FetchView, Icount, Iqposn, Misscount, NamedPick, Pick, RoundRobin,
+    choose,
+};
+use core_profile::FetchPolicy;
+use join_law::{Ctx, Eight};
+
+/// An eligible context with nothing in flight.
+const IDLE: FetchContext = FetchContext {
+    eligible: true,
+    entries: 0,
+    guessed: 0,
+    missed_loads: 0,
+    oldest_place: None,
+};
+
+/// Eligible contexts with so many entries each.
+fn with_entries(cycle: u64, entries: [u64; 8]) -> FetchView {
+    let contexts = entries.map(|entries| FetchContext { entries, ..IDLE });
+    FetchView {
+        cycle,
+        contexts: Eight::from_array(contexts),
+    }
+}
+
+/// The view of cycle 6 with contexts 2, 2, 5, 0, 5 in the issue queue, of which these are eligible.
+fn with_queue(eligible: [bool; 8]) -> FetchView {
+    let places = [Some(3), None, Some(0), None, None, Some(2), None, None];
+    let mut contexts = [IDLE; 8];
+    for (i, place) in places.into_iter().enumerate() {
+        contexts[i].oldest_place = place;
+        contexts[i].eligible = eligible[i];
+    }
+    FetchView {
+        cycle: 6,
+        contexts: Eight::from_array(contexts),
+    }
+}
+
+/// The numbers of the picks, 9 where there is none.
+fn picked<P: Pick>(pick: &P, view: &FetchView, num1: u8) -> [usize; 4]
+    requires { num1 ≤ 4 }
+{
+    let picks = choose(pick, view, num1);
+    [0, 1, 2, 3].map(|i| picks.as_slice().get(i).map_or(9, |context| context.index()))
+}
+
+#[test]
+fn icount_takes_the_fewest_entries(rt: HostRuntime) {
+    let view = with_entries(3, [4, 0, 2, 0, 9, 9, 9, 9]);
+    assert_eq!(rt; picked(&Icount, &view, 2), [3, 1, 9, 9]);
+    assert_eq!(rt;
+        picked(&NamedPick::from(FetchPolicy::Icount), &view, 4),
+        [3, 1, 2, 0]
+    );
+}
+
+#[test]
+fn iqposn_takes_the_farthest_from_the_front(rt: HostRuntime) {
+    let all = with_queue([true; 8]);
+    assert_eq!(rt; picked(&Iqposn, &all, 4), [6, 7, 1, 3]);
+    let three = with_queue([true, false, true, false, false, true, false, false]);
+    assert_eq!(rt; picked(&Iqposn, &three, 4), [0, 5, 2, 9]);
+    assert_eq!(rt;
+        picked(&NamedPick::from(FetchPolicy::Iqposn), &three, 1),
+        [0, 9, 9, 9]
+    );
+}
+
+#[test]
+fn round_robin_takes_turns(rt: HostRuntime) {
+    let view = with_entries(11, [4, 0, 2, 0, 9, 9, 9, 9]);
+    assert_eq!(rt; picked(&RoundRobin, &view, 4), [3, 4, 5, 6]);
+    assert_eq!(rt;
+        picked(&NamedPick::from(FetchPolicy::RoundRobin), &view, 2),
+        [3, 4, 9, 9]
+    );
+    assert_eq!(rt;
+        picked(&RoundRobin, &with_queue([false; 8]), 4),
+        [9, 9, 9, 9]
+    );
+}
+
+#[test]
+fn counts_are_their_own(rt: HostRuntime) {
+    let [first, second, ..] = Ctx::all();
+    let busy = FetchContext {
+        guessed: 2,
+        missed_loads: 1,
+        ..IDLE
+    };
+    let guessing = FetchContext { guessed: 3, ..IDLE };
+    let contexts = [busy, guessing, IDLE, IDLE, IDLE, IDLE, IDLE, IDLE];
+    let view = FetchView {
+        cycle: 0,
+        contexts: Eight::from_array(contexts),
+    };
+    assert!(rt; Brcount.key(&view, first) == 2 && Brcount.key(&view, second) == 3);
+    assert!(rt; Misscount.key(&view, first) == 1 && Misscount.key(&view, second) == 0);
+    let brcount = NamedPick::from(FetchPolicy::Brcount);
+    let misscount = NamedPick::from(FetchPolicy::Misscount);
+    assert!(rt; brcount.key(&view, first) == 2 && misscount.key(&view, first) == 1);
+}

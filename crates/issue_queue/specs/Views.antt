@@ -1,0 +1,19 @@
+-- What is shown of an entry, and what an entry is made of.
+use Rattle.std.specs.Prelude.{false}
+use Rattle.std.specs.List.{filter_map}
+use Rattle.issue_queue.specs.declared.entry.QueueView.{QueueView}
+use Rattle.issue_queue.specs.declared.entry.Selected.{Selected}
+use Rattle.issue_queue.specs.declared.entry.Waiting.{Waiting}
+use Rattle.issue_queue.specs.Entry.{Entry}
+
+-- what an order sees
+abbrev pub view_of : Entry → QueueView
+view_of e = record { stamp = e.stamp; context = e.context; guessed = e.guessed; speculative = e.speculative }
+
+-- the name of an entry
+abbrev pub name_of : Entry → Selected
+name_of e = record { context = e.context; stamp = e.stamp }
+
+-- a new entry waits for each of its sources that is not ready, and is not held
+abbrev pub entry_of : Waiting → Entry
+entry_of w = record { stamp = w.stamp; context = w.context; guessed = w.guessed; speculative = w.speculative; held = false; waits = filter_map (λ source. source) w.sources }

@@ -1,0 +1,16 @@
+//! The issue queue that eight contexts share: entries that wait for their sources, and the order in which ready
+//! ones are issued.
+#![tactic(auto)]
+
+mod entry;
+mod marks;
+mod order;
+mod queue;
+mod selecting;
+mod stamps;
+#[cfg(test)]
+mod tests;
+
+pub use entry::{QueueView, Selected, Waiting};
+pub use order::{BranchFirst, NamedOrder, OldestFirst, Order, SpecLast};
+pub use queue::{Queue, QueueFault};

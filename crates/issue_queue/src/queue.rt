@@ -1,0 +1,180 @@
+//! The queue.
+
+ghost use Rattle.std.specs.Prelude.{◌≡◌, ◌↔◌, ◌<◌, ◌≤◌, ◌==◌, ◌&&◌, false, [], ◌∷◌, ◌++◌, length, map, filter, not, count_by, IsTrue, IfSome, IsOk, OnOk, OnErr, IfErr};
+ghost use Rattle.std.specs.List.{list_any};
+ghost use Rattle.issue_queue.specs.Entry.{is_named};
+ghost use Rattle.issue_queue.specs.IssueQueue.{awake, with_speculative, with_held, is_from};
+ghost use Rattle.issue_queue.specs.IsSelected.{IsSelected};
+ghost use Rattle.issue_queue.specs.Stamps.{place_of_oldest};
+ghost use Rattle.issue_queue.specs.Views.{entry_of, view_of};
+
+use crate::entry::Queued;
+use crate::{Order, Selected, Waiting, marks, selecting, stamps};
+use arrayvec::ArrayVec;
+use join_law::Ctx;
+use rename_file::PhysicalRegister;
+use std::marker::Model;
+
+/// Why an entry can't enter.
+#[derive(Clone, Copy, Debug, PartialEq, Eq)]
+pub enum QueueFault {
+    /// Q1: the queue holds as many entries as its capacity.
+    Full,
+}
+
+/// The issue queue of all contexts. No call takes memory.
+#[derive(Drop)]
+pub struct Queue {
+    capacity: usize,
+    entries: ArrayVec<Queued, 64>,
+}
+
+impl Model for Queue {
+    ghost use Rattle.issue_queue.specs.IssueQueue.{IssueQueue, IsSound};
+
+    ghost Value = { IssueQueue };
+
+    ghost view = { λ q. record { capacity = q.capacity; entries = q.entries.items } };
+
+    ghost invariant = { λ q. IsSound q.capacity q.entries.items };
+}
+
+impl Queue {
+    /// An empty queue of a capacity of at most 64 entries.
+    pub fn new(capacity: usize) -> Queue
+        requires { capacity ≤ 64 }
+        ensures { result ≡ record { capacity = capacity; entries = [] } }
+    {
+        Queue {
+            capacity,
+            entries: ArrayVec::new(),
+        }
+    }
+
+    /// How many entries it holds.
+    pub fn len(&self) -> usize
+        ensures value { result ≡ length self.now.entries }
+        ensures fits { result ≤ self.now.capacity }
+    {
+        self.entries.len()
+    }
+
+    /// Whether it holds no entry.
+    pub fn is_empty(&self) -> bool
+        ensures { IsTrue result ↔ (self.now.entries ≡ []) }
+    {
+        self.entries.is_empty()
+    }
+
+    /// How many entries it can hold.
+    pub fn capacity(&self) -> usize
+        ensures value { result ≡ self.now.capacity }
+        ensures bound { result ≤ 64 }
+    {
+        self.capacity
+    }
+
+    /// Whether it holds as many entries as it can.
+    pub fn is_full(&self) -> bool
+        ensures { IsTrue result ↔ (length self.now.entries ≡ self.now.capacity) }
+    {
+        self.len() == self.capacity
+    }
+
+    /// Whether it holds the entry of a context and stamp.
+    pub fn contains(&self, context: Ctx, stamp: u64) -> bool
+        ensures { result ≡ list_any (is_named context stamp) self.now.entries }
+    {
+        self.entries
+            .as_slice()
+            .iter()
+            .any(|entry| entry.is_named(context, stamp))
+    }
+
+    /// Puts an entry behind the others. It is not held.
+    ///
+    /// # Errors
+    ///
+    /// Q1, with the entry, exactly where the queue is full. The queue is then as it was.
+    pub fn put(&mut self, waiting: Waiting) -> Result<(), (Waiting, QueueFault)>
+        requires { list_any (is_named waiting.context waiting.stamp) self.old.entries ≡ false }
+        ensures variant { IsOk result ↔ (length self.old.entries < self.old.capacity) }
+        ensures ok { OnOk result (self.new ≡ record self.old { entries = self.old.entries ++ entry_of waiting ∷ [] }) }
+        ensures err { OnErr result (self.new ≡ self.old) }
+        ensures given_back { IfErr result (λ e. (e.0 ≡ waiting) × (e.1 ≡ QueueFault.Full)) }
+    {
+        if self.is_full() {
+            return Err((waiting, QueueFault::Full));
+        }
+        self.entries.push(Queued::new(waiting));
+        Ok(())
+    }
+
+    /// No entry waits for a register any more.
+    pub fn wake(&mut self, register: PhysicalRegister)
+        ensures { self.new ≡ record self.old { entries = map (awake register) self.old.entries } }
+    {
+        marks::wake_all(self.entries.as_mut_slice(), register);
+    }
+
+    /// Tells whether an older guessed entry of its context has not completed, of the entry of a context and stamp.
+    pub fn speculate(&mut self, context: Ctx, stamp: u64, speculative: bool)
+        ensures { self.new ≡ record self.old { entries = map (with_speculative context stamp speculative) self.old.entries } }
+    {
+        marks::mark_speculative(self.entries.as_mut_slice(), context, stamp, speculative);
+    }
+
+    /// Holds the load of a context and stamp, or lets it go. A held entry is not ready.
+    pub fn hold(&mut self, context: Ctx, stamp: u64, held: bool)
+        ensures { self.new ≡ record self.old { entries = map (with_held context stamp held) self.old.entries } }
+    {
+        marks::mark_held(self.entries.as_mut_slice(), context, stamp, held);
+    }
+
+    /// Removes the first ready entries by (key, stamp), at most `width` of them, and gives their names in that
+    /// order. The others stay in theirs.
+    pub fn select<O: Order>(&mut self, order: &O, width: usize) -> ArrayVec<Selected, 8>
+        requires { width ≤ 8 }
+        ensures capacity { self.new.capacity ≡ self.old.capacity }
+        ensures selected { IsSelected (λ e. O.key_of order.now (view_of e)) width self.old.entries self.new.entries result.items }
+    {
+        selecting::take_first(&mut self.entries, order, width)
+    }
+
+    /// Drops the entries of a context that have at least this stamp.
+    pub fn drop_from(&mut self, context: Ctx, stamp: u64)
+        ensures { self.new ≡ record self.old { entries = filter (λ e. not (is_from context stamp e)) self.old.entries } }
+    {
+        self.entries.retain(|entry| !entry.is_from(context, stamp));
+    }
+
+    /// How many entries of a context it holds.
+    pub fn count(&self, context: Ctx) -> usize
+        ensures { result ≡ count_by (λ e. e.context == context) self.now.entries }
+    {
+        self.entries
+            .as_slice()
+            .iter()
+            .filter(|entry| entry.context() == context)
+            .count()
+    }
+
+    /// How many guessed entries of a context it holds.
+    pub fn guessed_count(&self, context: Ctx) -> usize
+        ensures { result ≡ count_by (λ e. (e.context == context) && e.guessed) self.now.entries }
+    {
+        self.entries
+            .as_slice()
+            .iter()
+            .filter(|entry| entry.context() == context && entry.is_guessed())
+            .count()
+    }
+
+    /// How many entries are older than the oldest entry of a context, or `None` where it has none.
+    pub fn oldest_place(&self, context: Ctx) -> Option<usize>
+        ensures place { result ≡ place_of_oldest context self.now.entries }
+        ensures bound { IfSome result (λ place. place ≤ 64) }
+    {
+        stamps::oldest_place(self.entries.as_slice(), context)
+    }
+}

@@ -1,0 +1,7 @@
+pub mod Maps
+pub mod Uses
+pub mod Banks
+pub mod Files
+pub mod Sources
+pub mod Calls
+pub mod Starts

@@ -1,0 +1,6 @@
+pub mod FaultText
+pub mod File
+pub mod Fresh
+pub mod Newest
+pub mod ShownMap
+pub mod Shown

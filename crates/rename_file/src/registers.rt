@@ -1,0 +1,172 @@
+//! The physical registers of all contexts.
+
+ghost use Rattle.std.specs.Prelude.{◌≡◌, ◌↔◌, ◌+◌, ◌<◌, ◌≤◌, length, slice_get, slice_index, IfOk, OnOk, OnErr, IsOk, IsSome, IsTrue, Ok, Err, Some};
+ghost use Rattle.rename_file.specs.File.{IsFile, bank, cell, mapped, rename_count, with_cell, renamed, committed_one, undone, first};
+ghost use Rattle.rename_file.specs.Fresh.{IsFresh};
+ghost use Rattle.rename_file.specs.Newest.{IsNewest};
+
+use crate::rename_map::RenameMap;
+use crate::{PhysicalRegister, RenameFault};
+use circular_buffer::HeapCircularBuffer;
+use join_law::Ctx;
+use std::alloc::{AllocError, Allocator, Global};
+use std::marker::Model;
+
+/// The registers of eight contexts: 32 that are committed for each, and extra ones that they share.
+/// No call but `new` takes memory, and each is of one step.
+#[derive(Drop)]
+pub struct Registers<A: Allocator = Global> {
+    maps: Vec<RenameMap<A>, A>,
+    free: HeapCircularBuffer<PhysicalRegister, A>,
+    cells: Vec<Option<u64>, A>,
+}
+
+impl<A: Allocator> Model for Registers<A> {
+    ghost use Rattle.rename_file.specs.File.{File};
+    ghost use Rattle.rename_file.specs.Shown.{shown, IsShown};
+
+    ghost Value = { File };
+
+    ghost view = { shown };
+
+    ghost invariant = { IsShown };
+}
+
+impl<A: Allocator + Copy> Registers<A> {
+    /// Registers that all hold 0, and so many extra ones that are free.
+    pub fn new(alloc: A, extra: usize) -> Result<Self, RenameFault>
+        requires { (32 ≤ extra) × (extra ≤ 224) }
+        ensures made { IfOk result (λ r. IsFresh r extra) }
+        ensures err { OnErr result (result ≡ Err RenameFault.OutOfMemory) }
+    {
+        Registers::try_new(alloc, extra).map_err(|_| RenameFault::OutOfMemory)
+    }
+
+    fn try_new(alloc: A, extra: usize) -> Result<Self, AllocError>
+        requires { (32 ≤ extra) × (extra ≤ 224) }
+        ensures { IfOk result (λ r. IsFresh r extra) }
+    {
+        let mut maps = Vec::new(alloc);
+        for context in 0..8 {
+            maps.push(RenameMap::new(alloc, context, extra)?)
+                .map_err(AllocError::from)?;
+        }
+        let mut free = HeapCircularBuffer::with_capacity(alloc, extra)?;
+        for number in 256..256 + extra {
+            let _ = free.try_push_back(PhysicalRegister::at(number));
+        }
+        let cells = vec![in alloc; Some(0); 256 + extra]?;
+        Ok(Registers { maps, free, cells })
+    }
+}
+
+impl<A: Allocator> Registers<A> {
+    /// Sets the committed value of one of x1 to x31.
+    pub fn set_committed(&mut self, context: Ctx, rd: u8, value: u64)
+        requires { (0 < rd) × (rd < 32) }
+        ensures set { self.new ≡ with_cell self.old (slice_index (bank self.old context).committed rd) (Some value) }
+        ensures file { IsFile self.new }
+    {
+        let map = &self.maps[context.index()];
+        let committed = map.committed(rd);
+        self.cells[committed.index()] = Some(value);
+    }
+
+    /// How many registers are free.
+    pub fn free_count(&self) -> usize
+        ensures { result ≡ length self.now.free }
+    {
+        self.free.len()
+    }
+
+    /// The physical register that one of x0 to x31 stands for: its newest rename, else the committed one.
+    pub fn source(&self, context: Ctx, rs: u8) -> PhysicalRegister
+        requires { rs < 32 }
+        ensures source { result ≡ mapped (bank self.now context) rs }
+        ensures newest { IsNewest (bank self.now context) rs result }
+        ensures bound { result < length self.now.cells }
+    {
+        let map = &self.maps[context.index()];
+        map.source(rs)
+    }
+
+    /// The value of a register, once it is there.
+    pub fn value(&self, register: PhysicalRegister) -> Option<u64>
+        requires { register < length self.now.cells }
+        ensures { result ≡ cell self.now register }
+    {
+        self.cells[register.index()]
+    }
+
+    /// Whether a register has its value.
+    pub fn ready(&self, register: PhysicalRegister) -> bool
+        requires { register < length self.now.cells }
+        ensures { IsTrue result ↔ IsSome (cell self.now register) }
+    {
+        self.value(register).is_some()
+    }
+
+    /// The value that is committed for one of x0 to x31.
+    pub fn committed(&self, context: Ctx, rs: u8) -> u64
+        requires { rs < 32 }
+        ensures { Some result ≡ cell self.now (slice_index (bank self.now context).committed rs) }
+    {
+        let map = &self.maps[context.index()];
+        self.cells[map.committed(rs).index()].unwrap()
+    }
+
+    /// Gives a register its value. Registers 0 to 7 are the contexts' x0, which stay 0.
+    pub fn write(&mut self, register: PhysicalRegister, value: u64)
+        requires { (8 ≤ register) × (register < length self.old.cells) }
+        ensures written { self.new ≡ with_cell self.old register (Some value) }
+        ensures file { IsFile self.new }
+    {
+        let place = register.index();
+        self.cells[place] = Some(value);
+    }
+
+    /// Renames one of x1 to x31 to a register that was free, which has no value yet.
+    pub fn rename(&mut self, context: Ctx, rd: u8) -> Result<PhysicalRegister, RenameFault>
+        requires { (0 < rd) × (rd < 32) }
+        ensures none_free { (result ≡ Err RenameFault.NoneFree) ↔ (rename_count self.old + 256 ≡ length self.old.cells) }
+        ensures found { IsOk result ↔ (0 < length self.old.free) }
+        ensures renamed { IfOk result (λ p. self.new ≡ renamed self.old context rd p) }
+        ensures taken { IfOk result (λ p. slice_get self.old.free 0 ≡ Some p) }
+        ensures bound { IfOk result (λ p. (8 ≤ p) × (p < length self.old.cells)) }
+        ensures err { OnErr result ((result ≡ Err RenameFault.NoneFree) × (self.new ≡ self.old)) }
+        ensures file { IsFile self.new }
+    {
+        let Some(taken) = self.free.pop_front() else {
+            return Err(RenameFault::NoneFree);
+        };
+        self.cells[taken.index()] = None;
+        let map = &mut self.maps[context.index()];
+        map.push(rd, taken);
+        Ok(taken)
+    }
+
+    /// Makes the oldest rename of the context, which has its value, the committed register. The one that it replaces
+    /// is free.
+    pub fn commit(&mut self, context: Ctx)
+        requires some { 0 < length (bank self.old context).renames }
+        requires ready { IsSome (cell self.old (first (bank self.old context)).register) }
+        ensures committed { self.new ≡ committed_one self.old context }
+        ensures file { IsFile self.new }
+    {
+        let map = &mut self.maps[context.index()];
+        let freed = map.commit();
+        let _ = self.free.try_push_back(freed);
+    }
+
+    /// Takes the newest rename of the context off. Its register is free, and its name stands for what it stood for
+    /// before.
+    pub fn undo(&mut self, context: Ctx)
+        requires { 0 < length (bank self.old context).renames }
+        ensures undone { self.new ≡ undone self.old context }
+        ensures file { IsFile self.new }
+    {
+        let map = &mut self.maps[context.index()];
+        let freed = map.undo();
+        let _ = self.free.try_push_back(freed);
+    }
+}

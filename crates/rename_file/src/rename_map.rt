@@ -1,0 +1,117 @@
+//! What the registers of one context stand for.
+
+ghost use Rattle.std.specs.Prelude.{◌≡◌, ◌<◌, length, slice_index, IfOk};
+ghost use Rattle.rename_file.specs.File.{mapped, renamed_bank, committed_bank, undone_bank, first, last};
+ghost use Rattle.rename_file.specs.Fresh.{IsFirst};
+
+use crate::PhysicalRegister;
+use circular_buffer::HeapCircularBuffer;
+use std::alloc::{AllocError, Allocator, Global};
+use std::marker::Model;
+
+/// From here on `register` stands for `rd`.
+#[derive(Clone, Copy, Debug, PartialEq, Eq)]
+pub struct Rename {
+    /// The register of the instruction, 1 to 31.
+    pub rd: u8,
+    /// The physical register that it writes.
+    pub register: PhysicalRegister,
+}
+
+// A rename, and which register stood for its rd before.
+#[derive(Clone, Copy, Debug, PartialEq, Eq)]
+pub(crate) struct Change {
+    rename: Rename,
+    previous: PhysicalRegister,
+}
+
+// The committed registers of a context, and its renames, oldest first. The current map is kept beside them, so that a
+// look-up is one index, and each rename keeps what it replaced, so that it can be undone.
+#[derive(Drop)]
+pub(crate) struct RenameMap<A: Allocator = Global> {
+    committed: [PhysicalRegister; 32],
+    current: [PhysicalRegister; 32],
+    changes: HeapCircularBuffer<Change, A>,
+}
+
+impl<A: Allocator> Model for RenameMap<A> {
+    ghost use Rattle.rename_file.specs.File.{Bank};
+    ghost use Rattle.rename_file.specs.ShownMap.{shown_bank, IsTracked};
+
+    ghost Value = { Bank };
+
+    ghost view = { shown_bank };
+
+    ghost invariant = { IsTracked };
+}
+
+impl<A: Allocator> RenameMap<A> {
+    // A context with registers of its own, and room for so many renames.
+    pub(crate) fn new(alloc: A, context: usize, room: usize) -> Result<Self, AllocError>
+        requires { context < 8 }
+        ensures { IfOk result (λ m. IsFirst m context room) }
+    {
+        let mut committed = [PhysicalRegister::at(context); 32];
+        for rd in 1..32 {
+            committed[rd] = PhysicalRegister::at(31 * context + 7 + rd);
+        }
+        Ok(RenameMap {
+            committed,
+            current: committed,
+            changes: HeapCircularBuffer::with_capacity(alloc, room)?,
+        })
+    }
+
+    // The register that rs stands for.
+    pub(crate) fn source(&self, rs: u8) -> PhysicalRegister
+        requires { rs < 32 }
+        ensures { result ≡ mapped self.now rs }
+    {
+        self.current[rs as usize]
+    }
+
+    // The register that is committed for rs.
+    pub(crate) fn committed(&self, rs: u8) -> PhysicalRegister
+        requires { rs < 32 }
+        ensures { result ≡ slice_index self.now.committed rs }
+    {
+        self.committed[rs as usize]
+    }
+
+    // One more rename, the newest.
+    pub(crate) fn push(&mut self, rd: u8, register: PhysicalRegister)
+        requires name { rd < 32 }
+        requires room { length self.old.renames < self.old.room }
+        ensures { self.new ≡ renamed_bank self.old rd register }
+    {
+        let previous = self.current[rd as usize];
+        self.current[rd as usize] = register;
+        let rename = Rename { rd, register };
+        let _ = self.changes.try_push_back(Change { rename, previous });
+    }
+
+    // The oldest rename becomes the committed register. The one that it replaces is answered.
+    pub(crate) fn commit(&mut self) -> PhysicalRegister
+        requires some { 0 < length self.old.renames }
+        requires name { (first self.old).rd < 32 }
+        ensures map { self.new ≡ committed_bank self.old }
+        ensures freed { result ≡ slice_index self.old.committed (first self.old).rd }
+    {
+        let Rename { rd, register } = self.changes.pop_front().unwrap().rename;
+        let freed = self.committed[rd as usize];
+        self.committed[rd as usize] = register;
+        freed
+    }
+
+    // The newest rename is forgotten, and its register answered.
+    pub(crate) fn undo(&mut self) -> PhysicalRegister
+        requires some { 0 < length self.old.renames }
+        requires name { (last self.old).rd < 32 }
+        ensures map { self.new ≡ undone_bank self.old }
+        ensures freed { result ≡ (last self.old).register }
+    {
+        let Change { rename, previous } = self.changes.pop_back().unwrap();
+        self.current[rename.rd as usize] = previous;
+        rename.register
+    }
+}

@@ -1,0 +1,15 @@
+//! Reorder buffers: rings of fixed capacity, seen as lists whose stamps grow.
+//!
+//! Entries enter at the end and leave at the head, in order. A cut drops the entries of the end whose stamp is at least
+//! a given one.
+#![tactic(auto)]
+
+mod fault;
+mod ring;
+mod stamped;
+#[cfg(test)]
+mod tests;
+
+pub use fault::RingFault;
+pub use ring::Ring;
+pub use stamped::Stamped;
