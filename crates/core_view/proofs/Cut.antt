@@ -11,7 +11,7 @@ use Rattle.core_view.specs.declared.entry.Execution.{Execution}
 use Rattle.core_view.specs.declared.entry.Entry.{Entry}
 use Rattle.core_view.specs.Outcomes.{bytes_written}
 use Rattle.core_view.specs.Flight.{span_read, touches, before_touch, clean_length}
-use Rattle.core_view.specs.Events.{is_mispredicted, kept_after, due_at, completed_by, completed_at, completed_one, completed_if, conflict_place, place_named, named_by, named_at, IsCutAt}
+use Rattle.core_view.specs.Events.{is_mispredicted, kept_after, due_at, completed_by, completed_at, completed_one, completed_if, named_by, named_at, IsCutAt}
 use Rattle.core_view.proofs.Completed.{due_span}
 
 -- ---- one list is the front of another

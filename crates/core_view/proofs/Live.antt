@@ -1,5 +1,5 @@
 -- Each event keeps a context live.
-use Rattle.std.proofs.Common.{◌≡◌, ℕ, zero, suc, ◌+◌, ◌%◌, ◌<◌, ◌≤◌, Bool, true, false, List, [], ◌∷◌, ◌++◌, length, get_or, drop, Option, Some, None, Err, refl, sym, ap, subst, ◌∙◌, arith}
+use Rattle.std.proofs.Common.{◌≡◌, ℕ, ◌+◌, ◌%◌, ◌<◌, ◌≤◌, Bool, true, false, List, [], ◌∷◌, ◌++◌, length, get_or, drop, Some, None, Err, refl, sym, ap, subst, ◌∙◌, arith}
 use Rattle.std.specs.Prelude.{slice_index, ◌==◌, if◌then◌else◌}
 use Rattle.std.proofs.lemmas.Bool.Decides.{nat_tests}
 use Rattle.paged_memory.specs.Cells.{rights_at}
@@ -17,10 +17,10 @@ use Rattle.core_view.specs.declared.entry.Stage.TheVariants.{Fetched, Queued, Is
 use Rattle.core_view.specs.declared.entry.Entry.{Entry}
 use Rattle.core_view.specs.declared.status.Status.{Status}
 use Rattle.core_view.specs.declared.status.Status.TheVariants.{Running, Parked, Stopped}
-use Rattle.core_view.specs.Operations.{is_guessed, stops_at_fetch, unguessed_next, operation_at}
+use Rattle.core_view.specs.Operations.{is_guessed, stops_at_fetch, operation_at}
 use Rattle.core_view.specs.Outcomes.{Image, image_of, moved}
-use Rattle.core_view.specs.Flight.{Seen, seen_of, is_open, result_of, bytes_done, pc_past, IsOutcome, HasOutcome, IsFollowed, IsSoundEntry, IsSound}
-use Rattle.core_view.specs.View.{Context, IsLive, IsSoundFlight, IsTextApart, StatusHolds, entry_at, seen_at, no_entry, first_context}
+use Rattle.core_view.specs.Flight.{Seen, seen_of, is_open, result_of, bytes_done, pc_past, IsOutcome, HasOutcome, IsFollowed, IsSound}
+use Rattle.core_view.specs.View.{Context, IsLive, IsTextApart, StatusHolds, entry_at, seen_at, no_entry, first_context}
 use Rattle.core_view.specs.Events.{retire_event, stop_event, with_flight, with_stage, complete_in, complete_event, issue_event, renamed_stage, rename_event, MayFollow, fetched_entry, fetch_event, completed_at}
 use Rattle.core_view.proofs.Steps.{unguessed_aligned, IsOutcomeSized, outcome_sized}
 use Rattle.core_view.proofs.Sound.{sound_at, sound_set, sound_push, sound_complete, sound_completed, end_aligned}

@@ -1,13 +1,13 @@
 -- The oldest entry leaves the flight: plain RV64I makes its step, or stops.
-use Rattle.std.proofs.Common.{◌≡◌, ◌≢◌, ℕ, zero, suc, ◌+◌, ◌%◌, ◌<◌, Bool, true, false, List, ◌∷◌, Option, Some, None, Result, Ok, Err, refl, sym, ap, subst, ◌∙◌, arith, option_and_then}
+use Rattle.std.proofs.Common.{◌≡◌, ◌≢◌, ℕ, zero, suc, ◌%◌, Bool, true, false, List, ◌∷◌, Option, Some, None, Result, Ok, Err, refl, sym, ap, subst, ◌∙◌, arith, option_and_then}
 use Rattle.std.specs.Prelude.{set, slice_index, ◌==◌, if◌then◌else◌}
-use Rattle.std.specs.Result.{result_ok, result_unwrap_or}
+use Rattle.std.specs.Result.{result_ok}
 use Rattle.std.proofs.lemmas.Bool.Decides.{nat_tests}
 use Rattle.std.proofs.lemmas.List.{get_or-set_other}
 use Rattle.paged_memory.specs.Cells.{Cells, rights_at, byte_at}
 use Rattle.hart_step.specs.declared.stop.Stop.{Stop}
 use Rattle.hart_step.specs.State.{State, read, written}
-use Rattle.hart_step.specs.Next.{next, next_state, after, store_in}
+use Rattle.hart_step.specs.Next.{next, next_state, after}
 use Rattle.core_view.specs.declared.operation.Operation.{Operation}
 use Rattle.core_view.specs.declared.outcome.Access.{Access}
 use Rattle.core_view.specs.declared.outcome.Access.TheVariants.{Free, Reads, Writes}
@@ -19,7 +19,7 @@ use Rattle.core_view.specs.declared.entry.Stage.TheVariants.{Done}
 use Rattle.core_view.specs.declared.entry.Entry.{Entry}
 use Rattle.core_view.specs.Spans.{overlaid}
 use Rattle.core_view.specs.Operations.{operation_at, first_source_of, second_source_of, destination_of}
-use Rattle.core_view.specs.Outcomes.{Image, image_of, outcome_in, outcome_here, bytes_written, memory_after, moved, moved_by}
+use Rattle.core_view.specs.Outcomes.{Image, image_of, outcome_here, bytes_written, memory_after, moved, moved_by}
 use Rattle.core_view.specs.Flight.{seen_of, seen_with, known, produced, IsOutcome, HasOutcome, IsSettled, IsSoundEntry, IsSound}
 use Rattle.core_view.specs.View.{IsTextApart}
 use Rattle.core_view.proofs.Stored.{stored_allowed, stored_in, bytes-stored, rights-stored, operation_at-stored}

@@ -17,14 +17,13 @@ use Rattle.core_view.specs.declared.operation.Operation.{Operation}
 use Rattle.core_view.specs.declared.operation.Operation.TheVariants.{Performs, Stops}
 use Rattle.core_view.specs.declared.span.Span.{Span}
 use Rattle.core_view.specs.declared.span.Bytes.{Bytes}
-use Rattle.core_view.specs.declared.outcome.Outcome.{Outcome}
 use Rattle.core_view.specs.declared.entry.Execution.{Execution}
 use Rattle.core_view.specs.declared.entry.Stage.{Stage}
 use Rattle.core_view.specs.declared.entry.Stage.TheVariants.{Issued, Done}
 use Rattle.core_view.specs.declared.entry.Entry.{Entry}
 use Rattle.core_view.specs.Spans.{contains, overlaid, number_in}
 use Rattle.core_view.specs.Operations.{destination_of}
-use Rattle.core_view.specs.Outcomes.{Image, fault_of, answer, number_read, load_span, outcome_with, outcome_over, outcome_of, outcome_in}
+use Rattle.core_view.specs.Outcomes.{Image, fault_of, answer, load_span, outcome_with, outcome_over, outcome_in}
 use Rattle.core_view.specs.Flight.{Seen, result_of, bytes_done, span_in, seen_with, seen_after, source_value, produced, known, touches}
 use Rattle.core_view.proofs.SpanReads.{apart_outside, number_same, byte_outside}
 

@@ -1,5 +1,5 @@
 -- Stamps grow through each event.
-use Rattle.std.proofs.Common.{◌≡◌, ℕ, zero, suc, ◌+◌, ◌<◌, ◌≤◌, Bool, true, false, List, [], ◌∷◌, ◌++◌, length, get_or, drop, Option, Some, None, subst, arith}
+use Rattle.std.proofs.Common.{◌≡◌, ℕ, zero, suc, ◌+◌, ◌<◌, ◌≤◌, Bool, true, false, List, [], ◌∷◌, ◌++◌, length, get_or, drop, Option, Some, None, arith}
 use Rattle.std.specs.Prelude.{set, if◌then◌else◌}
 use Rattle.core_view.specs.declared.span.Bytes.{Bytes}
 use Rattle.core_view.specs.declared.outcome.Outcome.{Outcome}

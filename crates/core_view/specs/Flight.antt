@@ -7,7 +7,6 @@ use Rattle.core_view.specs.declared.span.Span.{Span}
 use Rattle.core_view.specs.declared.span.Bytes.{Bytes}
 use Rattle.core_view.specs.declared.outcome.Outcome.{Outcome}
 use Rattle.core_view.specs.declared.outcome.Outcome.TheVariants.{Goes, Stops}
-use Rattle.core_view.specs.declared.entry.Execution.{Execution}
 use Rattle.core_view.specs.declared.entry.Stage.{Stage}
 use Rattle.core_view.specs.declared.entry.Stage.TheVariants.{Fetched, Queued, Issued, Done}
 use Rattle.core_view.specs.declared.entry.Entry.{Entry}

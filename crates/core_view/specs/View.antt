@@ -1,5 +1,5 @@
 -- What a core shows of itself.
-use Rattle.std.specs.Prelude.{◌≡◌, ℕ, ◌<◌, ◌≤◌, ◌%◌, Bool, false, ◌&&◌, ◌==◌, if◌then◌else◌, List, [], ◌∷◌, take, get_or, slice_index, All, Some, Err}
+use Rattle.std.specs.Prelude.{◌≡◌, ℕ, ◌<◌, ◌%◌, false, ◌&&◌, ◌==◌, if◌then◌else◌, List, [], take, get_or, slice_index, All, Some, Err}
 use Rattle.paged_memory.specs.Cells.{Rights}
 use Rattle.hart_step.specs.declared.stop.Stop.TheVariants as stop
 use Rattle.hart_step.specs.State.{State}
