@@ -3,7 +3,6 @@
 
 mod access;
 mod entry;
-mod fault;
 mod load;
 mod note;
 mod operation;

@@ -4,9 +4,8 @@ ghost use Rattle.paged_memory.specs.Cells.{bytes_of};
 ghost use Rattle.core_view.specs.Outcomes.{goes_to as goes_to_of, loads_at as loads_at_of, stores_at as stores_at_of, outcome_with, bytes_written, span_of};
 ghost use Rattle.core_view.specs.Flight.{result_in, bytes_in, span_in};
 
-use crate::fault::stop_of_fault;
 use crate::span::{Bytes, Span};
-use hart_step::{Effect, Stop, following, load_width, loaded, store_width};
+use hart_step::{Effect, Stop, following, load_width, loaded, stop_of_fault, store_width};
 use paged_memory::{Fault, Width};
 use rv64_decode::{LoadKind, StoreWidth};
 

@@ -9,7 +9,7 @@ mod values;
 
 pub use effect::{Effect, destination, execute, first_source, following, second_source};
 pub use environment::Environment;
-pub use hart::{Hart, load_width, store_width};
+pub use hart::{Hart, load_width, stop_of_fault, store_width};
 pub use stop::Stop;
 pub use values::loaded;
 
