@@ -110,8 +110,8 @@ impl<A: Allocator> RenameMap<A> {
         ensures map { self.new ≡ undone_bank self.old }
         ensures freed { result ≡ (last self.old).register }
     {
-        let Change { rename, previous } = self.changes.pop_back().unwrap();
-        self.current[rename.rd as usize] = previous;
-        rename.register
+        let change = self.changes.pop_back().unwrap();
+        self.current[change.rename.rd as usize] = change.previous;
+        change.rename.register
     }
 }
