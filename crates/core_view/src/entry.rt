@@ -9,6 +9,7 @@ ghost use Rattle.core_view.specs.declared.entry.Stage.TheVariants.{Issued};
 use crate::operation::Operation;
 use crate::outcome::{Outcome, Step};
 use crate::span::{Bytes, Span};
+use reorder_buffer::Stamped;
 
 /// What is known of an instruction from its issue on.
 #[derive(Clone, Copy, Debug, PartialEq, Eq)]
@@ -188,5 +189,14 @@ impl Entry {
         ensures { result ≡ is_mispredicted_of self.now step.now }
     {
         self.operation.is_guessed() && self.followed != step.next
+    }
+}
+
+impl Stamped for Entry {
+    ghost stamp_of = { λ e. e.stamp };
+
+    #[inline]
+    fn stamp(&self) -> u64 {
+        self.stamp
     }
 }

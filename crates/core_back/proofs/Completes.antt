@@ -1,0 +1,201 @@
+-- An entry of a context completes, and cuts what it doesn't keep.
+use Rattle.std.proofs.Common.{◌≡◌, ℕ, zero, suc, ◌+◌, ◌<◌, ◌≤◌, Bool, true, false, ◌&&◌, min, List, [], ◌∷◌, length, get_or, take, drop, map, Option, Some, None, refl, sym, ap, subst, ◌∙◌, arith, inl, inr}
+use Rattle.std.specs.Prelude.{set, ◌==◌, nat_lt, if◌then◌else◌, filter}
+use Rattle.std.proofs.lemmas.Bool.{lt-ltb, le-ltb, ltb-true, ltb-false, cases_lt}
+use Rattle.std.proofs.lemmas.List.{length-map, length-set, length-take, length-take-le, get_or-map, get_or-take, get_or-set_other, set-get_or, map-set, drop_all, take_all, take-take, drop-set-lt}
+use Rattle.std.proofs.Math.Seq.{take-set-lt}
+use Rattle.hart_step.specs.State.{State}
+use Rattle.core_view.specs.declared.entry.Execution.{Execution}
+use Rattle.core_view.specs.declared.entry.Stage.TheVariants.{Issued}
+use Rattle.core_view.specs.declared.entry.Entry.{Entry}
+use Rattle.core_view.specs.Operations.{destination_of}
+use Rattle.core_view.specs.Flight.{result_of, result_in, IsGrowing}
+use Rattle.core_view.specs.Queues.{is_renamed, AllRenamed}
+use Rattle.core_view.specs.View.{entry_at, no_entry}
+use Rattle.core_view.specs.Events.{completed_entry}
+use Rattle.core_view.proofs.RingForm.{complete_take}
+use Rattle.core_view.proofs.Live.{complete_live}
+use Rattle.data_flow.specs.Flow.{Node, Lane, Flow, no_node, node_at, lane, with_result, result_for, cut_from, cut_flow, waits_in}
+use Rattle.core_back.specs.Track.{Track, left_by, completed}
+use Rattle.core_back.specs.Queued.{is_queued, queued_at}
+use Rattle.core_back.specs.Steps.{cut_if, finished_flow, completed_flow}
+use Rattle.core_back.specs.Cores.{operands_of, node_of_entry, AllFetched, IsCore}
+use Rattle.core_back.proofs.Waiting.{or_none, growing_at, growing_set, none_below, below-take, below-nodes, queued-below, queued-same, waits-cut}
+use Rattle.core_back.proofs.Others.{lane-with_same, lane-cut_same, count-finished_flow, IsFlightCore, core_from}
+use Rattle.core_back.proofs.Flights.{growing_take}
+use Rattle.core_back.proofs.Stages.{renamed_place, renamed_set, renamed_take, fetched_drop_take, unmixed_set, unmixed_take}
+
+-- ---- the entries below the stamp at a place, among the oldest
+
+pub below-take_front : (low r : ℕ) (es : List Entry) (n : ℕ) → IsGrowing low es → n < length es → filter (λ e. nat_lt e.stamp (get_or es n no_entry).stamp) (take r es) ≡ take r (take n es)
+below-take_front low zero es n g lt = refl
+below-take_front low (suc r) [] n g lt = absurd (omega arith)
+below-take_front low (suc r) (e ∷ es) zero g lt =
+    let here : nat_lt e.stamp e.stamp ≡ false = le-ltb e.stamp e.stamp (omega arith) in
+    rw here (none_below e.stamp (e.stamp + 1) (take r es) (growing_take (e.stamp + 1) r es g.1) (omega arith))
+below-take_front low (suc r) (e ∷ es) (suc n) g lt =
+    let later = growing_at (e.stamp + 1) es n g.1 (omega arith) in
+    let before : nat_lt e.stamp (get_or es n no_entry).stamp ≡ true = lt-ltb e.stamp (get_or es n no_entry).stamp (omega (arith, later)) in
+    rw before (ap (λ fs. e ∷ fs) (below-take_front (e.stamp + 1) r es n g.1 (omega arith)))
+
+take_min_take : (r n : ℕ) (es : List Entry) → take (min r n) (take n es) ≡ take r (take n es)
+take_min_take r n es = elim (cases_lt r n) [
+  | inl lt ↦ (let less : min r n ≡ r = omega arith in rw less refl)
+  | inr le ↦ (let less : min r n ≡ n = omega arith in rw less (take-take n n es (omega arith) ∙ sym (take_all r (take n es) (omega (arith, length-take n es)))))
+]
+
+-- the fetched entries that are left
+fetched_left : (r n : ℕ) (es : List Entry) → AllFetched (drop r es) → AllFetched (drop (min r n) (take n es))
+fetched_left r n es a = elim (cases_lt r n) [
+  | inl lt ↦ (let less : min r n ≡ r = omega arith in rw less (fetched_drop_take r n es a))
+  | inr le ↦ (let less : min r n ≡ n = omega arith in rw (less, drop_all n (take n es) (omega (arith, length-take n es))) tt)
+]
+
+module _ (start : State) (stamp reorder : ℕ) (f : Flow) (c : ℕ) (t : Track) (i : ℕ) (x : Execution) where
+  -- ---- what the call asks
+
+  -- an issued entry is renamed
+  pub issued_renamed : IsCore start stamp reorder f [] c t → i < length t.context.flight → (entry_at t.context i).stage ≡ Issued x → i < t.renamed
+  issued_renamed core lt stage = renamed_place t.renamed t.context.flight i core.are_fetched lt (ap is_renamed stage)
+
+  -- so the data flow has it
+  pub issued_known : IsCore start stamp reorder f [] c t → i < length t.context.flight → (entry_at t.context i).stage ≡ Issued x → i < length (lane f c).nodes
+  issued_known core lt stage =
+      let first = issued_renamed core lt stage in
+      omega (arith, first, ap length core.nodes, length-map (take t.renamed t.context.flight) node_of_entry, length-take-le t.renamed t.context.flight core.within)
+
+  pub issued_node : IsCore start stamp reorder f [] c t → i < length t.context.flight → (entry_at t.context i).stage ≡ Issued x → node_at (lane f c) i ≡ node_of_entry (entry_at t.context i)
+  issued_node core lt stage =
+      let first = issued_renamed core lt stage in
+      let len : length (take t.renamed t.context.flight) ≡ t.renamed = length-take-le t.renamed t.context.flight core.within in
+      ap (λ (ns : List Node). get_or ns i no_node) core.nodes ∙ get_or-map node_of_entry (take t.renamed t.context.flight) i no_entry no_node (omega (arith, first, len))
+      ∙ ap node_of_entry (get_or-take t.renamed t.context.flight i no_entry first)
+
+  -- ---- the entry is done, before the cut
+
+  -- the flight with the entry done
+  abbrev done_flight : List Entry
+  done_flight = set t.context.flight i (completed_entry (entry_at t.context i) x)
+
+  -- the data flow with its result
+  abbrev done_flow : Flow
+  done_flow = finished_flow f c i (result_in x.outcome)
+
+  -- an instruction of its operands, with a result where it has a destination
+  abbrev node_with : Option ℕ → Node
+  node_with result = record { operands = operands_of (entry_at t.context i); result = if destination_of (entry_at t.context i).operation == 0 then None else result }
+
+  finished_nodes : (value : Option ℕ) → c < length f.lanes → node_at (lane f c) i ≡ node_of_entry (entry_at t.context i) → (entry_at t.context i).stage ≡ Issued x
+      → (lane (finished_flow f c i value) c).nodes ≡ set (lane f c).nodes i (node_with value)
+  finished_nodes None within node stage =
+      let same : node_of_entry (entry_at t.context i) ≡ node_with None = ap node_with (ap result_of stage) in
+      sym (ap (set (lane f c).nodes i) (sym same ∙ sym node) ∙ set-get_or (lane f c).nodes i no_node)
+  finished_nodes (Some value) within node stage =
+      ap (λ (l : Lane). l.nodes) (lane-with_same f c (with_result (lane f c) i value) within) ∙ ap (λ (m : Node). set (lane f c).nodes i (record m { result = result_for m.operands value })) node
+
+  done_nodes : c < length f.lanes → IsCore start stamp reorder f [] c t → i < length t.context.flight → (entry_at t.context i).stage ≡ Issued x
+      → (lane done_flow c).nodes ≡ map node_of_entry (take t.renamed done_flight)
+  done_nodes within core lt stage =
+      let e = entry_at t.context i in
+      finished_nodes (result_in x.outcome) within (issued_node core lt stage) stage
+      ∙ ap (λ (ns : List Node). set ns i (node_of_entry (completed_entry e x))) core.nodes ∙ sym (map-set node_of_entry (take t.renamed t.context.flight) i (completed_entry e x))
+      ∙ ap (map node_of_entry) (sym (take-set-lt t.renamed t.context.flight i (completed_entry e x) (issued_renamed core lt stage)))
+
+  -- what else is known of the context stays
+  done_lane : (value : Option ℕ) → c < length f.lanes → ((lane (finished_flow f c i value) c).registers ≡ (lane f c).registers) × ((lane (finished_flow f c i value) c).room ≡ (lane f c).room)
+  done_lane None within = (refl, refl)
+  done_lane (Some value) within =
+      let here = lane-with_same f c (with_result (lane f c) i value) within in
+      (ap (λ (l : Lane). l.registers) here, ap (λ (l : Lane). l.room) here)
+
+  done_waits : (value : Option ℕ) (k : ℕ) → waits_in (finished_flow f c i value) c k ≡ waits_in f c k
+  done_waits None k = refl
+  done_waits (Some value) k = refl
+
+  done_waiting : IsCore start stamp reorder f [] c t → i < length t.context.flight → (entry_at t.context i).stage ≡ Issued x → (k : ℕ) → waits_in done_flow c k ≡ queued_at k done_flight
+  done_waiting core lt stage k =
+      done_waits (result_in x.outcome) k ∙ sym (or_none (waits_in f c k)) ∙ core.waiting k
+      ∙ sym (queued-same k t.context.flight i (completed_entry (entry_at t.context i) x) lt refl (sym (ap is_queued stage)))
+
+  -- ---- the cut
+
+  -- what the cut leaves of the data flow, once it leaves so many entries
+  record IsCut (g : Flow) (n : ℕ) : Type 0 where
+    nodes : (lane g c).nodes ≡ map node_of_entry (take t.renamed (take n done_flight))
+    registers : (lane g c).registers ≡ (lane f c).registers
+    room : (lane g c).room ≡ (lane f c).room
+    waits : (k : ℕ) → waits_in g c k ≡ queued_at k (take n done_flight)
+
+  -- nothing is cut
+  whole : (n : ℕ) → length t.context.flight ≤ n → c < length f.lanes → IsCore start stamp reorder f [] c t → i < length t.context.flight → (entry_at t.context i).stage ≡ Issued x → IsCut done_flow n
+  whole n le within core lt stage =
+      let all : done_flight ≡ take n done_flight = sym (take_all n done_flight (omega (arith, le, length-set t.context.flight i (completed_entry (entry_at t.context i) x)))) in
+      let kept = done_lane (result_in x.outcome) within in
+      record {
+        nodes = done_nodes within core lt stage ∙ ap (λ es. map node_of_entry (take t.renamed es)) all;
+        registers = kept.0;
+        room = kept.1;
+        waits = λ k. done_waiting core lt stage k ∙ ap (queued_at k) all;
+      }
+
+  -- the flight is cut at a place
+  cut_at : (n : ℕ) → i < n → n < length t.context.flight → c < length f.lanes → IsCore start stamp reorder f [] c t → i < length t.context.flight → (entry_at t.context i).stage ≡ Issued x
+      → IsCut (cut_flow done_flow c (entry_at t.context n).stamp) n
+  cut_at n past inside within core lt stage =
+      let e : Entry = completed_entry (entry_at t.context i) x in
+      let s : ℕ = (entry_at t.context n).stamp in
+      let first : (get_or done_flight n no_entry).stamp ≡ s = ap (λ (y : Entry). y.stamp) (get_or-set_other t.context.flight i n e no_entry (λ same. omega (arith, past, same))) in
+      let grows : IsGrowing 0 done_flight = growing_set 0 t.context.flight i e lt refl core.live.flight.growing in
+      let there : n < length done_flight = omega (arith, inside, length-set t.context.flight i e) in
+      let here : lane (cut_flow done_flow c s) c ≡ cut_from (lane done_flow c) s = lane-cut_same done_flow c s (omega (arith, within, count-finished_flow f c i (result_in x.outcome))) in
+      let kept = done_lane (result_in x.outcome) within in
+      record {
+        nodes = ap (λ (l : Lane). l.nodes) here ∙ ap (λ (ns : List Node). filter (λ m. nat_lt m.operands.stamp s) ns) (done_nodes within core lt stage) ∙ below-nodes s (take t.renamed done_flight)
+            ∙ ap (map node_of_entry) (subst (λ z. filter (λ y. nat_lt y.stamp z) (take t.renamed done_flight) ≡ take t.renamed (take n done_flight)) first (below-take_front 0 t.renamed done_flight n grows there));
+        registers = ap (λ (l : Lane). l.registers) here ∙ kept.0;
+        room = ap (λ (l : Lane). l.room) here ∙ kept.1;
+        waits = λ k. waits-cut done_flow c s k ∙ ap (λ b. b && nat_lt k s) (done_waiting core lt stage k) ∙ sym (queued-below k s done_flight)
+            ∙ ap (queued_at k) (subst (λ z. filter (λ y. nat_lt y.stamp z) done_flight ≡ take n done_flight) first (below-take 0 done_flight n grows there));
+      }
+
+  is_cut : c < length f.lanes → IsCore start stamp reorder f [] c t → i < length t.context.flight → (entry_at t.context i).stage ≡ Issued x → IsCut (completed_flow f c i x t.context) (left_by t.context i x)
+  is_cut within core lt stage = by_test (whole n) (cut_at n (omega arith)) (nat_lt n (length t.context.flight)) refl
+    where
+      n : ℕ
+      n = left_by t.context i x
+
+      by_test : (length t.context.flight ≤ n → c < length f.lanes → IsCore start stamp reorder f [] c t → i < length t.context.flight → (entry_at t.context i).stage ≡ Issued x → IsCut done_flow n)
+          → (n < length t.context.flight → c < length f.lanes → IsCore start stamp reorder f [] c t → i < length t.context.flight → (entry_at t.context i).stage ≡ Issued x → IsCut (cut_flow done_flow c (entry_at t.context n).stamp) n)
+          → (b : Bool) → nat_lt n (length t.context.flight) ≡ b → IsCut (cut_if done_flow c (if b then Some (entry_at t.context n).stamp else None)) n
+      by_test none some true is = some (ltb-true n (length t.context.flight) is) within core lt stage
+      by_test none some false is = none (ltb-false n (length t.context.flight) is) within core lt stage
+
+  -- ---- the context
+
+  cut_flight : (n : ℕ) (g : Flow) → IsCut g n → i < n → IsCore start stamp reorder f [] c t → i < length t.context.flight → (entry_at t.context i).stage ≡ Issued x
+      → IsFlightCore reorder g [] c (min t.renamed n) (take n done_flight)
+  cut_flight n g cut past core lt stage =
+      let e : Entry = completed_entry (entry_at t.context i) x in
+      let first = issued_renamed core lt stage in
+      let len : length (take n done_flight) ≡ min n (length t.context.flight) = length-take n done_flight ∙ ap (min n) (length-set t.context.flight i e) in
+      let front : take (min t.renamed n) (take n done_flight) ≡ take t.renamed (take n done_flight) = take_min_take t.renamed n done_flight in
+      record {
+        nodes = cut.nodes ∙ ap (map node_of_entry) (sym front);
+        room = cut.room ∙ core.room;
+        within = omega (arith, len, core.within);
+        fits = omega (arith, core.fits);
+        front = omega (arith, len, core.front);
+        are_renamed = subst AllRenamed (sym front) (renamed_take t.renamed n done_flight (renamed_set t.renamed t.context.flight i e refl core.are_renamed));
+        are_fetched = fetched_left t.renamed n done_flight (subst AllFetched (sym (drop-set-lt t.renamed t.context.flight i e first)) core.are_fetched);
+        waiting = λ k. or_none (waits_in g c k) ∙ cut.waits k;
+        unmixed = unmixed_take n done_flight (unmixed_set t.context.flight i e refl (sym (ap is_renamed stage)) core.unmixed);
+      }
+
+  -- the entry at a place completes
+  pub complete_core : c < length f.lanes → IsCore start stamp reorder f [] c t → i < length t.context.flight → (entry_at t.context i).stage ≡ Issued x
+      → IsCore start stamp reorder (completed_flow f c i x t.context) [] c (completed t i x)
+  complete_core within core lt stage =
+      let n : ℕ = left_by t.context i x in
+      let cut : IsCut (completed_flow f c i x t.context) n = is_cut within core lt stage in
+      core_from start stamp reorder (completed_flow f c i x t.context) [] c (completed t i x) (min t.renamed n) (take n done_flight) refl (complete_take t.context.flight i x no_entry lt)
+      (complete_live start stamp t.context i x lt stage core.live) (cut.registers ∙ core.registers) core.capacity (cut_flight n (completed_flow f c i x t.context) cut (omega arith) core lt stage)

@@ -1,0 +1,202 @@
+-- An entry issues: what it computes with, and what it leaves of a core.
+use Rattle.std.proofs.Common.{◌≡◌, ◌≢◌, ℕ, ◌<◌, Bool, true, false, not, ◌&&◌, ◌||◌, List, ◌∷◌, length, get_or, take, map, Option, Some, None, refl, sym, ap, subst, ◌∙◌, arith, inl, inr}
+use Rattle.std.specs.Prelude.{◌==◌, set}
+use Rattle.std.specs.List.{list_any}
+use Rattle.std.proofs.Math.Seq.{take-set-lt}
+use Rattle.std.proofs.lemmas.Bool.{and_from, eqb-true, eq-eqb, ne_eqb, cases_lt}
+use Rattle.std.proofs.lemmas.List.Folds.{list_any_at}
+use Rattle.std.proofs.lemmas.List.{length-set, length-take-le, map-set, set-get_or, get_or-map, get_or-take, drop-set-lt}
+use Rattle.paged_memory.specs.Cells.{Rights, byte_at}
+use Rattle.hart_step.specs.State.{State}
+use Rattle.hart_step.specs.declared.environment.Environment.{Environment}
+use Rattle.hart_step.specs.declared.effect.Effect.{Effect}
+use Rattle.hart_step.specs.declared.effect.Effect.TheVariants as effect
+use Rattle.hart_step.specs.Effects.{effect_of}
+use Rattle.issue_queue.specs.declared.entry.Selected.{Selected}
+use Rattle.core_view.specs.declared.operation.Operation.{Operation}
+use Rattle.core_view.specs.declared.operation.Operation.TheVariants as operation
+use Rattle.core_view.specs.declared.outcome.Outcome.{Outcome}
+use Rattle.core_view.specs.declared.entry.Execution.{Execution}
+use Rattle.core_view.specs.declared.entry.Stage.TheVariants.{Fetched, Queued, Issued}
+use Rattle.core_view.specs.declared.entry.Entry.{Entry}
+use Rattle.core_view.specs.Operations.{is_load, first_source_of, second_source_of}
+use Rattle.core_view.specs.Outcomes.{Image, image_of, outcome_over, outcome_in}
+use Rattle.core_view.specs.Flight.{seen_of, source_value, IsOutcome}
+use Rattle.core_view.specs.Events.{with_stage}
+use Rattle.core_view.specs.Queues.{is_renamed}
+use Rattle.core_view.specs.View.{entry_at, no_entry, seen_at as flight_seen_at}
+use Rattle.core_view.proofs.Accesses.{is_load_effect, effect_loads}
+use Rattle.core_view.proofs.Sound.{sound_take}
+use Rattle.core_view.proofs.Live.{issue_live}
+use Rattle.data_flow.specs.Flow.{Flow, lane, no_node, waits_in, both, sources_at}
+use Rattle.core_back.specs.Queued.{queued_at}
+use Rattle.core_back.specs.Track.{Track, issued}
+use Rattle.core_back.specs.Cores.{node_of_entry, is_selected, IsCore}
+use Rattle.core_back.proofs.Flights.{renamed_before, renamed-set, fetched_after, load_alone, unmixed-set, bytes_past}
+use Rattle.core_back.proofs.Others.{other_core}
+use Rattle.core_back.proofs.Seen.{sources_are}
+use Rattle.core_back.proofs.Waiting.{eqb-flip, queued_place, same_place, queued-leaves}
+
+-- ---- bytes
+
+effect_bytes_free : (environment : Environment) (rights : ℕ → Rights) (bytes seen : ℕ → ℕ) (pc : ℕ) (e : Effect) → is_load_effect e ≡ false → outcome_over environment rights bytes pc e ≡ outcome_over environment rights seen pc e
+effect_bytes_free environment rights bytes seen pc (effect.Loads kind address) h = absurd cc
+effect_bytes_free environment rights bytes seen pc e h = refl
+
+-- an outcome depends on bytes for loads alone
+pub outcome_bytes_free : (image : Image) (bytes seen : ℕ → ℕ) (o : Operation) (pc a b : ℕ) → is_load o ≡ false → outcome_in image bytes o pc a b ≡ outcome_in image seen o pc a b
+outcome_bytes_free image bytes seen (operation.Performs insn) pc a b h = effect_bytes_free image.environment image.rights bytes seen pc (effect_of insn pc a b) (effect_loads insn pc a b ∙ h)
+outcome_bytes_free image bytes seen (operation.Stops why) pc a b h = refl
+
+-- a renamed entry sees the bytes of memory, if it loads
+pub outcome_seen : {start : State} {stamp reorder c : ℕ} {f : Flow} {names : List Selected} {t : Track} → IsCore start stamp reorder f names c t → (i : ℕ) → i < t.renamed → (a b : ℕ)
+    → outcome_in (image_of t.context.state) (byte_at t.context.state.memory) (entry_at t.context i).operation (entry_at t.context i).pc a b
+    ≡ outcome_in (image_of t.context.state) (flight_seen_at t.context i).bytes (entry_at t.context i).operation (entry_at t.context i).pc a b
+outcome_seen {t = t} core i lt a b = by_load (is_load e.operation) refl
+  where
+    e : Entry
+    e = entry_at t.context i
+
+    image : Image
+    image = image_of t.context.state
+
+    by_load : (l : Bool) → is_load e.operation ≡ l → outcome_in image (byte_at t.context.state.memory) e.operation e.pc a b ≡ outcome_in image (flight_seen_at t.context i).bytes e.operation e.pc a b
+    by_load true is =
+        let within : i < length t.context.flight = omega (arith, core.within) in
+        let load : (is_load e.operation && is_renamed e.stage) ≡ true = and_from (is_load e.operation) (is_renamed e.stage) is (renamed_before t.renamed t.context.flight i core.are_renamed lt within) in
+        ap (λ (bytes : ℕ → ℕ). outcome_in image bytes e.operation e.pc a b)
+        (sym (bytes_past image (seen_of t.context.state) t.context.state.pc (take i t.context.flight) (load_alone t.context.flight i within core.unmixed load)
+        (sound_take image (seen_of t.context.state) t.context.state.pc t.context.flight i core.live.flight.sound)))
+    by_load false is = outcome_bytes_free image (byte_at t.context.state.memory) (flight_seen_at t.context i).bytes e.operation e.pc a b is
+
+-- ---- the outcome
+
+both_some : (x y : Option ℕ) (a b : ℕ) → both x y ≡ Some (a, b) → (x ≡ Some a) × (y ≡ Some b)
+both_some None y a b h = absurd cc
+both_some (Some v) None a b h = absurd cc
+both_some (Some v) (Some w) a b h = let same : (v, w) ≡ (a, b) = cc in (ap (λ (p : ℕ × ℕ). Some p.0) same, ap (λ (p : ℕ × ℕ). Some p.1) same)
+
+-- an outcome on the values of the data flow, over the bytes of memory, is that of the entry
+pub core_outcome : {start : State} {stamp reorder c : ℕ} {f : Flow} {names : List Selected} {t : Track} → IsCore start stamp reorder f names c t → (i : ℕ) → i < t.renamed → (a b : ℕ) (outcome : Outcome)
+    → sources_at (lane f c) i ≡ Some (a, b) → outcome ≡ outcome_in (image_of t.context.state) (byte_at t.context.state.memory) (entry_at t.context i).operation (entry_at t.context i).pc a b
+    → IsOutcome (image_of t.context.state) (flight_seen_at t.context i) (entry_at t.context i).operation (entry_at t.context i).pc outcome
+core_outcome {t = t} core i lt a b outcome sources is =
+    let seen = flight_seen_at t.context i in
+    let e = entry_at t.context i in
+    let ready = both_some (source_value seen.registers (first_source_of e.operation)) (source_value seen.registers (second_source_of e.operation)) a b (sym (sources_are core i lt) ∙ sources) in
+    record { first = a; second = b; first_ready = ready.0; second_ready = ready.1; is = is ∙ outcome_seen core i lt a b }
+
+-- ---- the entry that was selected
+
+-- a queued entry is renamed
+pub queued_renamed : {start : State} {stamp reorder c : ℕ} {f : Flow} {names : List Selected} {t : Track} → IsCore start stamp reorder f names c t → (i : ℕ) → i < length t.context.flight → (entry_at t.context i).stage ≡ Queued → i < t.renamed
+queued_renamed {t = t} core i lt stage =
+    elim (cases_lt i t.renamed) [
+      | inl below ↦ below
+      | inr from ↦ let fetched = fetched_after t.renamed t.context.flight i core.are_fetched from lt in absurd (let bad : Fetched ≡ Queued = sym fetched ∙ stage in cc)
+    ]
+
+-- the place of an entry that is queued, and so renamed
+pub record IsSelectedPlace (t : Track) (k i : ℕ) : Type 0 where
+  pub within : i < length t.context.flight
+  pub renamed : i < t.renamed
+  pub stamp : (entry_at t.context i).stamp ≡ k
+  pub stage : (entry_at t.context i).stage ≡ Queued
+
+or_right_true : (a b : Bool) → b ≡ true → (a || b) ≡ true
+or_right_true true b h = refl
+or_right_true false b h = h
+
+-- what was selected is queued
+pub selected_queued : {start : State} {stamp reorder c : ℕ} {f : Flow} {names : List Selected} {t : Track} → IsCore start stamp reorder f names c t → (k : ℕ) → is_selected names c k ≡ true → queued_at k t.context.flight ≡ true
+selected_queued {c = c} {f = f} {names = names} core k h = sym (core.waiting k) ∙ or_right_true (waits_in f c k) (is_selected names c k) h
+
+pub selected_place : {start : State} {stamp reorder c : ℕ} {f : Flow} {names : List Selected} {t : Track} → IsCore start stamp reorder f names c t → (k : ℕ) → is_selected names c k ≡ true → (i : ℕ) × IsSelectedPlace t k i
+selected_place {t = t} core k h =
+    let p = queued_place k t.context.flight (selected_queued core k h) in
+    let q = p.1 in
+    (p.0, record { within = q.within; renamed = queued_renamed core p.0 q.within q.stage; stamp = q.stamp; stage = q.stage })
+
+-- it is in the flight
+pub selected_known : {start : State} {stamp reorder c : ℕ} {f : Flow} {names : List Selected} {t : Track} → IsCore start stamp reorder f names c t → (k : ℕ) → is_selected names c k ≡ true → list_any (λ e. e.stamp == k) t.context.flight ≡ true
+selected_known {t = t} core k h =
+    let p = selected_place core k h in
+    let q = p.1 in
+    list_any_at (λ e. e.stamp == k) t.context.flight p.0 no_entry q.within (eq-eqb (entry_at t.context p.0).stamp k q.stamp)
+
+-- and at no other place than the one with its stamp
+pub selected_at : {start : State} {stamp reorder c : ℕ} {f : Flow} {names : List Selected} {t : Track} → IsCore start stamp reorder f names c t → (k i : ℕ) → is_selected names c k ≡ true → i < length t.context.flight → (entry_at t.context i).stamp ≡ k
+    → IsSelectedPlace t k i
+selected_at {t = t} core k i h lt is =
+    let p = selected_place core k h in
+    let q = p.1 in
+    let same : p.0 ≡ i = same_place 0 t.context.flight p.0 i core.live.flight.growing q.within lt (q.stamp ∙ sym is) in
+    subst (IsSelectedPlace t k) same q
+
+-- ---- the core once it has issued
+
+issued_node : (e : Entry) (x : Execution) → e.stage ≡ Queued → node_of_entry (with_stage e (Issued x)) ≡ node_of_entry e
+issued_node e x stage = rw stage refl
+
+left_over : (u t w s : Bool) → t ≡ u → (u ≡ true → (w ≡ false) × (s ≡ false)) → (w || s) ≡ ((w || (t || s)) && not u)
+left_over true t w s same none = let n = none refl in rw (n.0, n.1, same) refl
+left_over false t w s same none = rw same (sym (kept (w || s)))
+  where
+    kept : (b : Bool) → (b && true) ≡ b
+    kept true = refl
+    kept false = refl
+
+pub issue_core : {start : State} {stamp reorder c k : ℕ} {f : Flow} {names : List Selected} {t : Track} → IsCore start stamp reorder f (record { context = c; stamp = k } ∷ names) c t → (i : ℕ) (x : Execution) (a b : ℕ)
+    → is_selected names c k ≡ false → waits_in f c k ≡ false → i < length t.context.flight → (entry_at t.context i).stamp ≡ k → (entry_at t.context i).stage ≡ Queued → sources_at (lane f c) i ≡ Some (a, b)
+    → x.outcome ≡ outcome_in (image_of t.context.state) (byte_at t.context.state.memory) (entry_at t.context i).operation (entry_at t.context i).pc a b
+    → IsCore start stamp reorder f names c (issued t i x)
+issue_core {start = start} {stamp = stamp} {c = c} {k = k} {f = f} {names = names} {t = t} core i x a b other idle lt is stage sources outcome =
+    let e = entry_at t.context i in
+    let n = with_stage e (Issued x) in
+    let below : i < t.renamed = queued_renamed core i lt stage in
+    let front : take t.renamed (set t.context.flight i n) ≡ set (take t.renamed t.context.flight) i n = take-set-lt t.renamed t.context.flight i n below in
+    let load : (is_load e.operation && true) ≡ (is_load e.operation && is_renamed e.stage) = rw stage refl in
+    record {
+      live = issue_live start stamp t.context i x lt stage (core_outcome core i below a b x.outcome sources outcome) core.live;
+      registers = core.registers;
+      nodes = core.nodes ∙ sym (ap (map node_of_entry) front ∙ issued_nodes below);
+      room = core.room;
+      within = omega (arith, core.within, length-set t.context.flight i n);
+      fits = core.fits;
+      front = omega (arith, core.front, length-set t.context.flight i n);
+      capacity = core.capacity;
+      are_renamed = rw front (renamed-set (take t.renamed t.context.flight) i n refl core.are_renamed);
+      are_fetched = rw (drop-set-lt t.renamed t.context.flight i n below) core.are_fetched;
+      waiting = waiting;
+      unmixed = unmixed-set t.context.flight i n lt refl (λ h. load_alone t.context.flight i lt core.unmixed (sym load ∙ h)) core.unmixed;
+    }
+  where
+    issued_nodes : i < t.renamed → map node_of_entry (set (take t.renamed t.context.flight) i (with_stage (entry_at t.context i) (Issued x))) ≡ map node_of_entry (take t.renamed t.context.flight)
+    issued_nodes below =
+        let es = take t.renamed t.context.flight in
+        let e = entry_at t.context i in
+        let here : get_or (map node_of_entry es) i no_node ≡ node_of_entry e =
+        get_or-map node_of_entry es i no_entry no_node (omega (arith, length-take-le t.renamed t.context.flight core.within)) ∙ ap node_of_entry (get_or-take t.renamed t.context.flight i no_entry below) in
+        map-set node_of_entry es i (with_stage e (Issued x)) ∙ ap (set (map node_of_entry es) i) (issued_node e x stage ∙ sym here) ∙ set-get_or (map node_of_entry es) i no_node
+
+    none : (j : ℕ) → (j == k) ≡ true → (waits_in f c j ≡ false) × (is_selected names c j ≡ false)
+    none j h = let same : j ≡ k = eqb-true j k h in rw same (idle, other)
+
+    waiting : (j : ℕ) → (waits_in f c j || is_selected names c j) ≡ queued_at j (set t.context.flight i (with_stage (entry_at t.context i) (Issued x)))
+    waiting j =
+        let e = entry_at t.context i in
+        let leaves = queued-leaves j 0 t.context.flight i (with_stage e (Issued x)) core.live.flight.growing lt (rw stage refl) refl refl in
+        let before : (waits_in f c j || ((j == k) || is_selected names c j)) ≡ queued_at j t.context.flight =
+        ap (λ u. waits_in f c j || (u || is_selected names c j)) (eqb-flip j k) ∙ ap (λ u. waits_in f c j || ((u && (k == j)) || is_selected names c j)) (sym (eq-eqb c c refl)) ∙ core.waiting j in
+        left_over (j == k) (j == k) (waits_in f c j) (is_selected names c j) refl (none j) ∙ ap (λ q. q && not (j == k)) before ∙ ap (λ s. queued_at j t.context.flight && not (j == s)) (sym is) ∙ sym leaves
+
+-- ---- the other contexts
+
+-- the names of a context are the same without one of another
+pub selected_other : (names : List Selected) (c k d j : ℕ) → d ≢ c → is_selected (record { context = c; stamp = k } ∷ names) d j ≡ is_selected names d j
+selected_other names c k d j ne = let away : (c == d) ≡ false = ne_eqb c d (λ same. ne (sym same)) in rw away refl
+
+-- where an entry of another context issues
+pub issue_other : {start : State} {stamp reorder c k d : ℕ} {f : Flow} {names : List Selected} {t : Track} → IsCore start stamp reorder f (record { context = c; stamp = k } ∷ names) d t → d ≢ c → IsCore start stamp reorder f names d t
+issue_other {start = start} {stamp = stamp} {reorder = reorder} {c = c} {k = k} {d = d} {f = f} {names = names} {t = t} core ne =
+    other_core start stamp stamp reorder f f (record { context = c; stamp = k } ∷ names) names d t core refl (λ j. ap (λ b. waits_in f d j || b) (sym (selected_other names c k d j ne))) (omega arith)

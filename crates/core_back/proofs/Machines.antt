@@ -1,0 +1,161 @@
+-- An event of one context, in the machine.
+use Rattle.std.proofs.Common.{◌≡◌, ◌≢◌, ℕ, ◌+◌, ◌-◌, ◌<◌, [], length, get_or, map, refl, sym, ap, subst, ◌∙◌, arith, Bool, true, false}
+use Rattle.std.specs.Prelude.{set, ◌==◌}
+use Rattle.std.proofs.lemmas.Bool.Decides.{nat_tests}
+use Rattle.std.specs.Arc.{arc_value}
+use Rattle.std.proofs.lemmas.List.{get_or-map, get_or_read, get_or_default, get_or-set_same, get_or-set_other, length-set, length-map, map-set}
+use Rattle.origin_set.specs.Start.{start}
+use Rattle.core_view.specs.View.{Context, IsLive}
+use Rattle.core_back.specs.declared.machine.Machine.TheInside.{Inside}
+use Rattle.data_flow.specs.Flow.{Flow}
+use Rattle.core_back.specs.Track.{Track}
+use Rattle.core_back.specs.Cores.{IsCore}
+use Rattle.core_back.specs.Machine.{Machine, context_at, with_context, with_fetched, no_track, no_context}
+use Rattle.core_back.specs.Shown.{machine_of, IsMachine}
+use Rattle.core_back.proofs.Others.{IsLeft, left_core}
+
+module _ {A : Type 0} where
+  -- the track and the lane of a context, as it is shown
+  pub record At (m : Inside A) (now : Machine) (c : ℕ) (t : Track) : Type 0 where
+    pub in_lanes : c < length m.flow.lanes
+    pub in_tracks : c < length m.tracks.items
+    pub track : t ≡ get_or m.tracks.items c no_track
+    pub core : IsCore (start (arc_value m.origins.c0) c) m.stamp m.reorder m.flow m.selected.items c t
+    pub context : t.context ≡ context_at now c
+
+  pub at_context : (m : Inside A) (now : Machine) (c k : ℕ) (t : Track) → machine_of m ≡ now → IsMachine m → c < 8 → k ≡ c → t ≡ get_or m.tracks.items k t → At m now c t
+  at_context m now c k t shows ok lt same read_k =
+      let read : t ≡ get_or m.tracks.items c t = subst (λ i. t ≡ get_or m.tracks.items i t) same read_k in
+      let in_tracks : c < length m.tracks.items = omega (arith, lt, ok.tracks) in
+      let t-is : t ≡ get_or m.tracks.items c no_track = get_or_read m.tracks.items c t in_tracks read no_track in
+      record {
+        in_lanes = omega (arith, lt, ok.lanes);
+        in_tracks = in_tracks;
+        track = t-is;
+        core = rw t-is (ok.cores c lt);
+        context = ap (λ (u : Track). u.context) t-is ∙ sym (get_or-map (λ (u : Track). u.context) m.tracks.items c no_track no_context in_tracks) ∙ ap (λ (v : Machine). context_at v c) shows;
+      }
+
+  -- a context is live, as it is shown
+  pub shown_live : (m : Inside A) (now : Machine) (c : ℕ) (t : Track) → machine_of m ≡ now → At m now c t → IsLive (start now.origin c) now.view.stamp (context_at now c)
+  shown_live m now c t shows at_c =
+      let origin : arc_value m.origins.c0 ≡ now.origin = ap (λ (v : Machine). v.origin) shows in
+      let stamp : m.stamp ≡ now.view.stamp = ap (λ (v : Machine). v.view.stamp) shows in
+      subst (λ s. IsLive (start now.origin c) s (context_at now c)) stamp
+      (subst (λ o. IsLive (start o c) m.stamp (context_at now c)) origin
+      (subst (λ x. IsLive (start (arc_value m.origins.c0) c) m.stamp x) at_c.context at_c.core.live))
+
+  -- nothing was selected
+  pub idle_names : (m : Inside A) (now : Machine) → machine_of m ≡ now → now.names ≡ [] → m.selected.items ≡ []
+  idle_names m now shows idle = ap (λ (v : Machine). v.names) shows ∙ idle
+
+  pub idle_core : (m : Inside A) (now : Machine) (c : ℕ) (t : Track) → machine_of m ≡ now → now.names ≡ [] → At m now c t → IsCore (start (arc_value m.origins.c0) c) m.stamp m.reorder m.flow [] c t
+  idle_core m now c t shows idle at_c = subst (λ names. IsCore (start (arc_value m.origins.c0) c) m.stamp m.reorder m.flow names c t) (idle_names m now shows idle) at_c.core
+
+  -- after an event of the context c, each context is a core
+  pub cores_after : (m : Inside A) (now : Machine) (c : ℕ) (u : Track) (g : Flow) → machine_of m ≡ now → IsMachine m → now.names ≡ [] → c < 8
+      → IsCore (start (arc_value m.origins.c0) c) m.stamp m.reorder g [] c u → ((d : ℕ) → d ≢ c → IsLeft m.flow g d)
+      → (d : ℕ) → d < 8 → IsCore (start (arc_value m.origins.c0) d) m.stamp m.reorder g [] d (get_or (set m.tracks.items c u) d no_track)
+  cores_after m now c u g shows ok idle lt core left d lt-d = by_context (d == c) refl
+    where
+      here : c < length m.tracks.items
+      here = omega (arith, lt, ok.tracks)
+
+      by_context : (b : Bool) → (d == c) ≡ b → IsCore (start (arc_value m.origins.c0) d) m.stamp m.reorder g [] d (get_or (set m.tracks.items c u) d no_track)
+      by_context true is =
+          let same : d ≡ c = grind (arith, nat_tests, is) in
+          rw (same, get_or-set_same m.tracks.items c u no_track here) core
+      by_context false is =
+          let other : d ≢ c = λ same. absurd (grind (arith, nat_tests, is, same)) in
+          let before : IsCore (start (arc_value m.origins.c0) d) m.stamp m.reorder m.flow [] d (get_or m.tracks.items d no_track) =
+          subst (λ names. IsCore (start (arc_value m.origins.c0) d) m.stamp m.reorder m.flow names d (get_or m.tracks.items d no_track)) (idle_names m now shows idle) (ok.cores d lt-d) in
+          rw (get_or-set_other m.tracks.items c d u no_track other) (left_core (start (arc_value m.origins.c0) d) m.stamp m.stamp m.reorder m.flow g [] d (get_or m.tracks.items d no_track) before (left d other) (omega arith))
+
+  -- the machine after an event of the context c
+  pub machine_after : (m n : Inside A) (now : Machine) (c k : ℕ) (u : Track) (g : Flow) → machine_of m ≡ now → IsMachine m → now.names ≡ [] → c < 8
+      → IsCore (start (arc_value m.origins.c0) c) m.stamp m.reorder g [] c u → ((d : ℕ) → d ≢ c → IsLeft m.flow g d) → length g.lanes ≡ length m.flow.lanes
+      → k ≡ c → n.origins ≡ m.origins → n.flow ≡ g → n.tracks.items ≡ set m.tracks.items k u → n.selected ≡ m.selected → n.cycle ≡ m.cycle → n.stamp ≡ m.stamp → n.fetch_room ≡ m.fetch_room → n.reorder ≡ m.reorder → IsMachine n
+  machine_after m n now c k u g shows ok idle lt core left lanes same origins flow tracks_k names cycle stamp room reorder =
+      let tracks : n.tracks.items ≡ set m.tracks.items c u = tracks_k ∙ ap (λ i. set m.tracks.items i u) same in
+      let none = idle_names m now shows idle in
+      record {
+        cores = rw (origins, flow, tracks, names, stamp, reorder, none) (cores_after m now c u g shows ok idle lt core left);
+        origins = rw origins ok.origins;
+        tracks = rw tracks (length-set m.tracks.items c u ∙ ok.tracks);
+        lanes = rw flow (lanes ∙ ok.lanes);
+        apart = rw (names, none) (λ i j d lt over. absurd (omega (arith, over)));
+        supplied = rw (names, none) (λ k d over. absurd (omega (arith, over)));
+        left = rw (names, none) (λ k d over. absurd (omega (arith, over)));
+        stamps = rw (stamp, room, cycle) ok.stamps;
+        bounded = rw reorder ok.bounded;
+      }
+
+  -- and what it shows
+  pub shown_after : (m : Inside A) (now : Machine) (c k : ℕ) (u : Track) (x : Context) → machine_of m ≡ now → k ≡ c → u.context ≡ x
+      → (let v : Machine = record {
+        origin = arc_value m.origins.c0;
+        view = record { cycle = m.cycle; stamp = m.stamp; contexts = map (λ (t : Track). t.context) (set m.tracks.items k u) };
+        names = m.selected.items;
+        fetch_room = m.fetch_room;
+        reorder = m.reorder;
+      } in v) ≡ with_context now c x
+  shown_after m now c k u x shows same context = rw (same, map-set (λ (t : Track). t.context) m.tracks.items c u, context, ← shows) refl
+
+  -- how many entries a context has after an event
+  pub shown_length : (m : Inside A) (c k : ℕ) (u : Track) → c < length m.tracks.items → k ≡ c → (cut before : ℕ) → cut + length u.context.flight ≡ before
+      → cut + length (get_or (map (λ (t : Track). t.context) (set m.tracks.items k u)) c no_context).flight ≡ before
+  shown_length m c k u lt same cut before fewer =
+      rw (same, map-set (λ (t : Track). t.context) m.tracks.items c u, get_or-set_same (map (λ (t : Track). t.context) m.tracks.items) c u.context no_context (omega (arith, lt, length-map m.tracks.items (λ (t : Track). t.context)))) fewer
+
+  -- the machine after an entry of the context c was fetched: a stamp was taken
+  pub machine_fetched : (m n : Inside A) (now : Machine) (c k : ℕ) (u : Track) → machine_of m ≡ now → IsMachine m → now.names ≡ [] → c < 8
+      → IsCore (start (arc_value m.origins.c0) c) (m.stamp + 1) m.reorder m.flow [] c u → k ≡ c → 0 < m.fetch_room
+      → n.origins ≡ m.origins → n.flow ≡ m.flow → n.tracks.items ≡ set m.tracks.items k u → n.selected ≡ m.selected → n.cycle ≡ m.cycle → n.stamp ≡ m.stamp + 1 → n.fetch_room + 1 ≡ m.fetch_room → n.reorder ≡ m.reorder → IsMachine n
+  machine_fetched m n now c k u shows ok idle lt core same some origins flow tracks_k names cycle stamp room reorder =
+      let tracks : n.tracks.items ≡ set m.tracks.items c u = tracks_k ∙ ap (λ i. set m.tracks.items i u) same in
+      let none = idle_names m now shows idle in
+      let stamps = ok.stamps in
+      record {
+        cores = rw (origins, flow, tracks, names, stamp, reorder, none) cores;
+        origins = rw origins ok.origins;
+        tracks = rw tracks (length-set m.tracks.items c u ∙ ok.tracks);
+        lanes = rw flow ok.lanes;
+        apart = rw (names, none) (λ i j d lt over. absurd (omega (arith, over)));
+        supplied = rw (names, none) (λ k d over. absurd (omega (arith, over)));
+        left = rw (names, none) (λ k d over. absurd (omega (arith, over)));
+        stamps = rw cycle (omega (arith, stamps, stamp, room));
+        bounded = rw reorder ok.bounded;
+      }
+    where
+      here : c < length m.tracks.items
+      here = omega (arith, lt, ok.tracks)
+
+      cores : (d : ℕ) → d < 8 → IsCore (start (arc_value m.origins.c0) d) (m.stamp + 1) m.reorder m.flow [] d (get_or (set m.tracks.items c u) d no_track)
+      cores d lt-d = by_context (d == c) refl
+        where
+          by_context : (b : Bool) → (d == c) ≡ b → IsCore (start (arc_value m.origins.c0) d) (m.stamp + 1) m.reorder m.flow [] d (get_or (set m.tracks.items c u) d no_track)
+          by_context true is =
+              let this : d ≡ c = grind (arith, nat_tests, is) in
+              rw (this, get_or-set_same m.tracks.items c u no_track here) core
+          by_context false is =
+              let other : d ≢ c = λ this. absurd (grind (arith, nat_tests, is, this)) in
+              let before : IsCore (start (arc_value m.origins.c0) d) m.stamp m.reorder m.flow [] d (get_or m.tracks.items d no_track) =
+              subst (λ names. IsCore (start (arc_value m.origins.c0) d) m.stamp m.reorder m.flow names d (get_or m.tracks.items d no_track)) (idle_names m now shows idle) (ok.cores d lt-d) in
+              rw (get_or-set_other m.tracks.items c d u no_track other) (left_core (start (arc_value m.origins.c0) d) m.stamp (m.stamp + 1) m.reorder m.flow m.flow [] d (get_or m.tracks.items d no_track) before (record { lane = refl; waits = λ k. refl }) (omega arith))
+
+  -- and what it shows
+  pub shown_fetched : (m : Inside A) (now : Machine) (c k : ℕ) (u : Track) (x : Context) (room : ℕ) → machine_of m ≡ now → k ≡ c → u.context ≡ x → room ≡ m.fetch_room - 1
+      → (let v : Machine = record {
+        origin = arc_value m.origins.c0;
+        view = record { cycle = m.cycle; stamp = m.stamp + 1; contexts = map (λ (t : Track). t.context) (set m.tracks.items k u) };
+        names = m.selected.items;
+        fetch_room = room;
+        reorder = m.reorder;
+      } in v) ≡ with_fetched now c x
+  shown_fetched m now c k u x room shows same context rooms = rw (same, map-set (λ (t : Track). t.context) m.tracks.items c u, context, rooms, ← shows) refl
+
+  -- each context is live, as it is shown
+  pub all_live : (m : Inside A) (now : Machine) → machine_of m ≡ now → IsMachine m → (c : ℕ) → c < 8 → IsLive (start now.origin c) now.view.stamp (context_at now c)
+  all_live m now shows ok c lt =
+      let t = get_or m.tracks.items c no_track in
+      shown_live m now c t shows (at_context m now c c t shows ok lt refl (get_or_default m.tracks.items c no_track t (omega (arith, lt, ok.tracks))))

@@ -1,0 +1,147 @@
+-- The contexts of the data flow, each by itself, and what an event at one context leaves of the others.
+use Rattle.std.proofs.Common.{◌≡◌, ◌≢◌, ℕ, ◌+◌, ◌<◌, ◌≤◌, Bool, true, false, ◌||◌, List, length, take, drop, map, Option, Some, None, refl, sym, ap, subst, ◌∙◌}
+use Rattle.std.proofs.lemmas.List.{length-set, get_or-set_same, get_or-set_other}
+use Rattle.hart_step.specs.State.{State}
+use Rattle.core_view.specs.declared.entry.Execution.{Execution}
+use Rattle.core_view.specs.declared.entry.Entry.{Entry}
+use Rattle.core_view.specs.Flight.{result_in}
+use Rattle.core_view.specs.Queues.{AllRenamed}
+use Rattle.core_view.specs.View.{Context, IsLive}
+use Rattle.core_view.proofs.Live.{later_live}
+use Rattle.issue_queue.specs.declared.entry.Selected.{Selected}
+use Rattle.data_flow.specs.Flow.{Lane, Flow, no_lane, lane, with_lane, with_result, without_oldest, cut_from, cut_flow, waits_in}
+use Rattle.core_back.specs.Track.{Track, cut_stamp}
+use Rattle.core_back.specs.Queued.{queued_at}
+use Rattle.core_back.specs.Steps.{cut_if, retired_flow, finished_flow, completed_flow}
+use Rattle.core_back.specs.Cores.{node_of_entry, AllFetched, IsUnmixed, is_selected, front_room, IsCore}
+use Rattle.core_back.proofs.Waiting.{waits-cut_other}
+
+-- ---- a context of the data flow that is another one
+
+pub lane-with_same : (f : Flow) (c : ℕ) (l : Lane) → c < length f.lanes → lane (with_lane f c l) c ≡ l
+lane-with_same f c l lt = get_or-set_same f.lanes c l no_lane lt
+
+pub lane-with_other : (f : Flow) (c d : ℕ) (l : Lane) → d ≢ c → lane (with_lane f c l) d ≡ lane f d
+lane-with_other f c d l ne = get_or-set_other f.lanes c d l no_lane ne
+
+pub count-with_lane : (f : Flow) (c : ℕ) (l : Lane) → length (with_lane f c l).lanes ≡ length f.lanes
+count-with_lane f c l = length-set f.lanes c l
+
+pub lane-cut_same : (f : Flow) (c k : ℕ) → c < length f.lanes → lane (cut_flow f c k) c ≡ cut_from (lane f c) k
+lane-cut_same f c k lt = get_or-set_same f.lanes c (cut_from (lane f c) k) no_lane lt
+
+pub lane-cut_other : (f : Flow) (c d k : ℕ) → d ≢ c → lane (cut_flow f c k) d ≡ lane f d
+lane-cut_other f c d k ne = get_or-set_other f.lanes c d (cut_from (lane f c) k) no_lane ne
+
+pub count-cut_flow : (f : Flow) (c k : ℕ) → length (cut_flow f c k).lanes ≡ length f.lanes
+count-cut_flow f c k = length-set f.lanes c (cut_from (lane f c) k)
+
+-- ---- a context that is left as it was
+
+-- a context is in another data flow what it was, and waits for the same
+pub record IsLeft (f g : Flow) (d : ℕ) : Type 0 where
+  pub lane : lane g d ≡ lane f d
+  pub waits : (k : ℕ) → waits_in g d k ≡ waits_in f d k
+
+left_twice : (f g h : Flow) (d : ℕ) → IsLeft f g d → IsLeft g h d → IsLeft f h d
+left_twice f g h d a b = record { lane = b.lane ∙ a.lane; waits = λ k. b.waits k ∙ a.waits k }
+
+pub with_lane_left : (f : Flow) (c d : ℕ) (l : Lane) → d ≢ c → IsLeft f (with_lane f c l) d
+with_lane_left f c d l ne = record { lane = lane-with_other f c d l ne; waits = λ k. refl }
+
+pub cut_flow_left : (f : Flow) (c d s : ℕ) → d ≢ c → IsLeft f (cut_flow f c s) d
+cut_flow_left f c d s ne = record { lane = lane-cut_other f c d s ne; waits = λ k. waits-cut_other f c d s k ne }
+
+-- retirement in a context leaves the others
+pub retired_flow_left : (f : Flow) (c d : ℕ) (last : Bool) → d ≢ c → IsLeft f (retired_flow f c last) d
+retired_flow_left f c d true ne = left_twice f (with_lane f c (without_oldest (lane f c))) (cut_flow (with_lane f c (without_oldest (lane f c))) c 0) d (with_lane_left f c d (without_oldest (lane f c)) ne) (cut_flow_left (with_lane f c (without_oldest (lane f c))) c d 0 ne)
+retired_flow_left f c d false ne = with_lane_left f c d (without_oldest (lane f c)) ne
+
+finished_flow_left : (f : Flow) (c d i : ℕ) (value : Option ℕ) → d ≢ c → IsLeft f (finished_flow f c i value) d
+finished_flow_left f c d i None ne = record { lane = refl; waits = λ k. refl }
+finished_flow_left f c d i (Some value) ne = with_lane_left f c d (with_result (lane f c) i value) ne
+
+cut_if_left : (f : Flow) (c d : ℕ) (stamp : Option ℕ) → d ≢ c → IsLeft f (cut_if f c stamp) d
+cut_if_left f c d None ne = record { lane = refl; waits = λ k. refl }
+cut_if_left f c d (Some k) ne = cut_flow_left f c d k ne
+
+-- completion in a context leaves the others
+pub completed_flow_left : (f : Flow) (c d i : ℕ) (x : Execution) (context : Context) → d ≢ c → IsLeft f (completed_flow f c i x context) d
+completed_flow_left f c d i x context ne =
+    let value = result_in x.outcome in
+    left_twice f (finished_flow f c i value) (completed_flow f c i x context) d (finished_flow_left f c d i value ne) (cut_if_left (finished_flow f c i value) c d (cut_stamp context i x) ne)
+
+-- ---- as many contexts as there were
+
+pub count-retired_flow : (f : Flow) (c : ℕ) (last : Bool) → length (retired_flow f c last).lanes ≡ length f.lanes
+count-retired_flow f c true = count-cut_flow (with_lane f c (without_oldest (lane f c))) c 0 ∙ count-with_lane f c (without_oldest (lane f c))
+count-retired_flow f c false = count-with_lane f c (without_oldest (lane f c))
+
+pub count-finished_flow : (f : Flow) (c i : ℕ) (value : Option ℕ) → length (finished_flow f c i value).lanes ≡ length f.lanes
+count-finished_flow f c i None = refl
+count-finished_flow f c i (Some value) = count-with_lane f c (with_result (lane f c) i value)
+
+count-cut_if : (f : Flow) (c : ℕ) (stamp : Option ℕ) → length (cut_if f c stamp).lanes ≡ length f.lanes
+count-cut_if f c None = refl
+count-cut_if f c (Some k) = count-cut_flow f c k
+
+pub count-completed_flow : (f : Flow) (c i : ℕ) (x : Execution) (context : Context) → length (completed_flow f c i x context).lanes ≡ length f.lanes
+count-completed_flow f c i x context =
+    let value = result_in x.outcome in
+    count-cut_if (finished_flow f c i value) c (cut_stamp context i x) ∙ count-finished_flow f c i value
+
+-- ---- how a context stands
+
+-- a track and the data flow stand for a context still, where its part of the data flow, and what waits or was selected, are the same, and stamps were taken
+pub other_core : (start : State) (stamp later reorder : ℕ) (f g : Flow) (names names' : List Selected) (d : ℕ) (t : Track) → IsCore start stamp reorder f names d t → lane g d ≡ lane f d
+    → ((k : ℕ) → (waits_in g d k || is_selected names' d k) ≡ (waits_in f d k || is_selected names d k)) → stamp ≤ later → IsCore start later reorder g names' d t
+other_core start stamp later reorder f g names names' d t core same waits le = record {
+  live = later_live start stamp later t.context le core.live;
+  registers = ap (λ (l : Lane). l.registers) same ∙ core.registers;
+  nodes = ap (λ (l : Lane). l.nodes) same ∙ core.nodes;
+  room = ap (λ (l : Lane). l.room) same ∙ core.room;
+  within = core.within;
+  fits = core.fits;
+  front = core.front;
+  capacity = core.capacity;
+  are_renamed = core.are_renamed;
+  are_fetched = core.are_fetched;
+  waiting = λ k. waits k ∙ core.waiting k;
+  unmixed = core.unmixed;
+}
+
+-- the same of a context that an event at another one left
+pub left_core : (start : State) (stamp later reorder : ℕ) (f g : Flow) (names : List Selected) (d : ℕ) (t : Track) → IsCore start stamp reorder f names d t → IsLeft f g d → stamp ≤ later → IsCore start later reorder g names d t
+left_core start stamp later reorder f g names d t core left le =
+    other_core start stamp later reorder f g names names d t core left.lane (λ k. ap (λ b. b || is_selected names d k) (left.waits k)) le
+
+-- what is known of a context's flight and its part of the data flow, said of so many renamed entries and a flight
+pub record IsFlightCore (reorder : ℕ) (f : Flow) (names : List Selected) (c renamed : ℕ) (es : List Entry) : Type 0 where
+  pub nodes : (lane f c).nodes ≡ map node_of_entry (take renamed es)
+  pub room : (lane f c).room ≡ reorder
+  pub within : renamed ≤ length es
+  pub fits : renamed ≤ reorder
+  pub front : length es ≤ renamed + front_room
+  pub are_renamed : AllRenamed (take renamed es)
+  pub are_fetched : AllFetched (drop renamed es)
+  pub waiting : (k : ℕ) → (waits_in f c k || is_selected names c k) ≡ queued_at k es
+  pub unmixed : IsUnmixed es
+
+pub core_from : (start : State) (stamp reorder : ℕ) (f : Flow) (names : List Selected) (c : ℕ) (t : Track) (renamed : ℕ) (es : List Entry) → t.renamed ≡ renamed → t.context.flight ≡ es → IsLive start stamp t.context
+    → (lane f c).registers ≡ t.context.state.registers → t.capacity ≡ reorder + front_room → IsFlightCore reorder f names c renamed es → IsCore start stamp reorder f names c t
+core_from start stamp reorder f names c t renamed es is_renamed flight live registers capacity h =
+    let p : IsFlightCore reorder f names c t.renamed t.context.flight = subst (λ n. IsFlightCore reorder f names c n t.context.flight) (sym is_renamed) (subst (λ fs. IsFlightCore reorder f names c renamed fs) (sym flight) h) in
+    record {
+      live = live;
+      registers = registers;
+      nodes = p.nodes;
+      room = p.room;
+      within = p.within;
+      fits = p.fits;
+      front = p.front;
+      capacity = capacity;
+      are_renamed = p.are_renamed;
+      are_fetched = p.are_fetched;
+      waiting = p.waiting;
+      unmixed = p.unmixed;
+    }

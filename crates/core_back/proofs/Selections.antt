@@ -1,0 +1,220 @@
+-- What is selected leaves the waiting, and has the values of its sources.
+use Rattle.std.proofs.Common.{◌≡◌, ℕ, zero, suc, ◌+◌, ◌<◌, Bool, true, false, not, ◌&&◌, ◌||◌, cond, List, [], ◌∷◌, length, get_or, take, map, Option, refl, sym, ap, subst, ◌∙◌, arith}
+use Rattle.std.specs.Prelude.{◌==◌, All, AllPairs, Contains, filter, is_some}
+use Rattle.std.specs.List.{list_any}
+use Rattle.std.proofs.lemmas.Bool.{and_parts, eqb-true, eq-eqb, ne_eqb}
+use Rattle.std.proofs.lemmas.List.{length-map, length-take-le, get_or-map, get_or-take}
+use Rattle.std.proofs.lemmas.List.Elements.{All-head, All-tail, All-map}
+use Rattle.std.proofs.lemmas.List.Folds.{list_any_at, list_any_none}
+use Rattle.hart_step.specs.State.{State}
+use Rattle.issue_queue.specs.declared.entry.Selected.{Selected}
+use Rattle.issue_queue.specs.Entry.{Entry as Waiting, IsReady, AreDistinct, is_named}
+use Rattle.issue_queue.specs.Views.{name_of}
+use Rattle.issue_queue.specs.IsSelected.{IsSelected, is_among}
+use Rattle.core_view.specs.declared.entry.Stage.TheVariants.{Queued}
+use Rattle.core_view.specs.declared.entry.Entry.{Entry}
+use Rattle.core_view.specs.Flight.{known, IsGrowing}
+use Rattle.core_view.specs.View.{entry_at, no_entry}
+use Rattle.data_flow.specs.Flow.{Waiter, Flow, lane, seen_past_node, seen_past_nodes, sources_of, sources_at, is_supplied, waits_in, waits_of, queued_waiter, queued}
+use Rattle.core_back.specs.Shown.{AreApart, IsSuppliedIn}
+use Rattle.core_back.specs.Track.{Track}
+use Rattle.core_back.specs.Cores.{operands_of, node_of_entry, is_selected, IsCore}
+use Rattle.core_back.proofs.Flights.{growing_take}
+use Rattle.core_back.proofs.Issues.{selected_at}
+use Rattle.core_back.proofs.Others.{other_core}
+use Rattle.core_back.proofs.Seen.{node_count, operands_at}
+use Rattle.core_back.proofs.Waiting.{eqb-flip, growing_at}
+
+-- ---- names
+
+-- a name stands for the entry of its context and stamp
+abbrev pub is_name : ℕ → ℕ → Selected → Bool
+is_name c k n = (n.context == c) && (n.stamp == k)
+
+flip_name : (c k : ℕ) (n : Selected) (e : Waiting) → is_named c k e ≡ true → is_named n.context n.stamp e ≡ is_name c k n
+flip_name c k n e is =
+    let h = and_parts (e.context == c) (e.stamp == k) is in
+    rw (eqb-true e.context c h.0, eqb-true e.stamp k h.1, eqb-flip c n.context, eqb-flip k n.stamp) refl
+
+-- an entry is among the names where its context and stamp are
+among_names : (c k : ℕ) (names : List Selected) (e : Waiting) → is_named c k e ≡ true → is_among names e ≡ is_selected names c k
+among_names c k [] e is = refl
+among_names c k (n ∷ names) e is = rw (flip_name c k n e is) (ap (λ b. is_name c k n || b) (among_names c k names e is))
+
+-- a name of these is selected
+pub name_selected : (names : List Selected) (i : ℕ) (d : Selected) → i < length names → is_selected names (get_or names i d).context (get_or names i d).stamp ≡ true
+name_selected names i d lt =
+    let n = get_or names i d in
+    list_any_at (is_name n.context n.stamp) names i d lt (rw (eq-eqb n.context n.context refl, eq-eqb n.stamp n.stamp refl) refl)
+
+-- ---- what waits
+
+any-map : {X Y : Type 0} (test : Y → Bool) (h : X → Y) (xs : List X) → list_any test (map h xs) ≡ list_any (λ x. test (h x)) xs
+any-map test h [] = refl
+any-map test h (x ∷ xs) = ap (λ b. test (h x) || b) (any-map test h xs)
+
+-- the queue has the names of the waiters
+pub queue_waits : (f : Flow) (c k : ℕ) → list_any (is_named c k) (queued f) ≡ waits_in f c k
+queue_waits f c k = any-map (is_named c k) (queued_waiter f.lanes) f.waiters
+
+any_cond : {X : Type 0} (test : X → Bool) (b : Bool) (x : X) (xs : List X) → list_any test (cond b (x ∷ xs) xs) ≡ cond b (test x || list_any test xs) (list_any test xs)
+any_cond test true x xs = refl
+any_cond test false x xs = refl
+
+and_none : (b : Bool) → (b && false) ≡ false
+and_none true = refl
+and_none false = refl
+
+left_at : (p m s r r' : Bool) → (p ≡ true → m ≡ s) → r' ≡ (r && not s) → cond (not m) (p || r') r' ≡ ((p || r) && not s)
+left_at true true s r r' same ih = let is : true ≡ s = same refl in ih ∙ ap (λ t. r && not t) (sym is) ∙ and_none r ∙ ap not is
+left_at true false s r r' same ih = let is : false ≡ s = same refl in ap not is
+left_at false true s r r' same ih = ih
+left_at false false s r r' same ih = ih
+
+-- what isn't among the names stays
+left_named : (c k : ℕ) (names : List Selected) (es : List Waiting) → list_any (is_named c k) (filter (λ e. not (is_among names e)) es) ≡ (list_any (is_named c k) es && not (is_selected names c k))
+left_named c k names [] = refl
+left_named c k names (e ∷ es) =
+    any_cond (is_named c k) (not (is_among names e)) e (filter (λ x. not (is_among names x)) es)
+    ∙ left_at (is_named c k e) (is_among names e) (is_selected names c k) (list_any (is_named c k) es) (list_any (is_named c k) (filter (λ x. not (is_among names x)) es)) (among_names c k names e) (left_named c k names es)
+
+-- what was selected waited
+chosen_named : (c k : ℕ) (es chosen : List Waiting) → All (Contains es) chosen → is_selected (map name_of chosen) c k ≡ true → list_any (is_named c k) es ≡ true
+chosen_named c k es [] from h = absurd cc
+chosen_named c k es (e ∷ chosen) from h = go (is_named c k e) refl h (chosen_named c k es chosen (All-tail (Contains es) e chosen from))
+  where
+    go : (b : Bool) → is_named c k e ≡ b → (b || is_selected (map name_of chosen) c k) ≡ true → (is_selected (map name_of chosen) c k ≡ true → list_any (is_named c k) es ≡ true) → list_any (is_named c k) es ≡ true
+    go true is h rest =
+        let place = All-head (Contains es) e chosen from in
+        list_any_at (is_named c k) es place.0 e place.1 (ap (is_named c k) place.2 ∙ is)
+    go false is h rest = rest h
+
+-- ---- what a selection leaves
+
+-- what was selected doesn't wait any more, and the others wait as before
+pub select_left : {key : Waiting → ℕ} {width : ℕ} {names : List Selected} (f g : Flow) → IsSelected key width (queued f) (queued g) names → (c k : ℕ) → waits_in g c k ≡ (waits_in f c k && not (is_selected names c k))
+select_left {names = names} f g s c k =
+    sym (queue_waits g c k) ∙ ap (list_any (is_named c k)) s.others ∙ left_named c k names (queued f) ∙ ap (λ w. w && not (is_selected names c k)) (queue_waits f c k)
+
+-- what was selected waited
+pub select_waited : {key : Waiting → ℕ} {width : ℕ} {names : List Selected} (f g : Flow) → IsSelected key width (queued f) (queued g) names → (c k : ℕ) → is_selected names c k ≡ true → waits_in f c k ≡ true
+select_waited f g s c k h = sym (queue_waits f c k) ∙ chosen_named c k (queued f) s.chosen s.queued (subst (λ ns. is_selected ns c k ≡ true) s.names h)
+
+restored : (w s : Bool) → (s ≡ true → w ≡ true) → ((w && not s) || s) ≡ w
+restored true true h = refl
+restored true false h = refl
+restored false true h = sym (h refl)
+restored false false h = refl
+
+-- so what waits or was selected is what waited
+pub select_waits : {key : Waiting → ℕ} {width : ℕ} {names : List Selected} (f g : Flow) → IsSelected key width (queued f) (queued g) names → (c k : ℕ) → (waits_in g c k || is_selected names c k) ≡ waits_in f c k
+select_waits {names = names} f g s c k = ap (λ w. w || is_selected names c k) (select_left f g s c k) ∙ restored (waits_in f c k) (is_selected names c k) (select_waited f g s c k)
+
+-- no name waits
+pub select_idle : {key : Waiting → ℕ} {width : ℕ} {names : List Selected} (f g : Flow) → IsSelected key width (queued f) (queued g) names → All (λ n. waits_in g n.context n.stamp ≡ false) names
+select_idle {names = names} f g s i d lt =
+    let n = get_or names i d in
+    select_left f g s n.context n.stamp ∙ ap (λ b. waits_in f n.context n.stamp && not b) (name_selected names i d lt) ∙ and_none (waits_in f n.context n.stamp)
+
+-- ---- names are apart
+
+abbrev pub no_waiting : Waiting
+no_waiting = record { stamp = 0; context = 0; guessed = false; speculative = false; held = false; waits = [] }
+
+apart_names : (e x : Waiting) → AreDistinct e x → AreApart (name_of e) (name_of x)
+apart_names e x h = rw (eqb-flip x.context e.context, eqb-flip x.stamp e.stamp) h
+
+pub select_apart : {key : Waiting → ℕ} {width : ℕ} {old rest : List Waiting} {names : List Selected} → IsSelected key width old rest names → AllPairs AreApart names
+select_apart s = subst (AllPairs AreApart) (sym s.names) (λ i j d lt within.
+    let below : j < length s.chosen = omega (arith, within, length-map s.chosen name_of) in
+    let one = get_or-map name_of s.chosen i no_waiting d (omega arith) in
+    let other = get_or-map name_of s.chosen j no_waiting d below in
+    rw (one, other) (apart_names (get_or s.chosen i no_waiting) (get_or s.chosen j no_waiting) (s.once i j no_waiting lt below)))
+
+-- ---- names have the values of their sources
+
+abbrev pub no_waiter : Waiter
+no_waiter = record { stamp = 0; context = 0; guessed = false; speculative = false; held = false }
+
+none_waited : (b : Bool) → waits_of b ≡ [] → b ≡ true
+none_waited true h = refl
+none_waited false h = absurd cc
+
+ready_supplied : (f : Flow) (e : Waiting) → Contains (queued f) e → IsReady e → IsSuppliedIn f (name_of e)
+ready_supplied f e from ready =
+    let w = get_or f.waiters from.0 no_waiter in
+    let within : from.0 < length f.waiters = omega (arith, from.1, length-map f.waiters (queued_waiter f.lanes)) in
+    let is : e ≡ queued_waiter f.lanes w = sym from.2 ∙ get_or-map (queued_waiter f.lanes) f.waiters from.0 no_waiter e within in
+    let none : (queued_waiter f.lanes w).waits ≡ [] = ap (λ (x : Waiting). x.waits) (sym is) ∙ ready.0 in
+    subst (λ (x : Waiting). IsSuppliedIn f (name_of x)) (sym is) (none_waited (is_supplied (known (lane f w.context).registers) (lane f w.context).nodes w.stamp) none)
+
+pub select_supplied : {key : Waiting → ℕ} {width : ℕ} {rest : List Waiting} {names : List Selected} (f : Flow) → IsSelected key width (queued f) rest names → All (IsSuppliedIn f) names
+select_supplied f s = subst (All (IsSuppliedIn f)) (sym s.names) (All-map (IsSuppliedIn f) name_of s.chosen (λ i d lt. ready_supplied f (get_or s.chosen i d) (s.queued i d lt) (s.ready i d lt)))
+
+-- ---- at its place
+
+-- the instruction at a place is the one of its stamp
+supplied_at : (low : ℕ) (seen : List (Option ℕ)) (es : List Entry) (i : ℕ) → IsGrowing low es → i < length es
+    → is_supplied seen (map node_of_entry es) (get_or es i no_entry).stamp ≡ is_some (sources_of (seen_past_nodes seen (take i (map node_of_entry es))) (operands_of (get_or es i no_entry)))
+supplied_at low seen [] i g lt = absurd (omega arith)
+supplied_at low seen (e ∷ es) zero g lt = rw (eq-eqb e.stamp e.stamp refl) refl
+supplied_at low seen (e ∷ es) (suc i) g lt =
+    let later = growing_at (e.stamp + 1) es i g.1 (omega arith) in
+    let other : (e.stamp == (get_or es i no_entry).stamp) ≡ false = ne_eqb e.stamp (get_or es i no_entry).stamp (λ same. omega (arith, later, same)) in
+    rw other (supplied_at (e.stamp + 1) (seen_past_node seen (node_of_entry e)) es i g.1 (omega arith))
+
+-- a renamed entry whose stamp has the values of its sources has them at its place
+pub supplied_sources : {start : State} {stamp reorder c : ℕ} {f : Flow} {names : List Selected} {t : Track} → IsCore start stamp reorder f names c t → (i : ℕ) → i < t.renamed
+    → IsSuppliedIn f (record { context = c; stamp = (entry_at t.context i).stamp }) → is_some (sources_at (lane f c) i) ≡ true
+supplied_sources {c = c} {f = f} {t = t} core i lt h =
+    let l = lane f c in
+    let es = take t.renamed t.context.flight in
+    let e = get_or es i no_entry in
+    let here : e ≡ entry_at t.context i = get_or-take t.renamed t.context.flight i no_entry lt in
+    let within : i < length es = omega (arith, lt, length-take-le t.renamed t.context.flight core.within) in
+    let growing : IsGrowing 0 es = growing_take 0 t.renamed t.context.flight core.live.flight.growing in
+    ap (λ o. is_some (sources_of (seen_past_nodes (known l.registers) (take i l.nodes)) o)) (operands_at core i lt ∙ ap operands_of (sym here))
+    ∙ ap (λ ns. is_some (sources_of (seen_past_nodes (known l.registers) (take i ns)) (operands_of e))) core.nodes
+    ∙ sym (supplied_at 0 (known l.registers) es i growing within)
+    ∙ ap (λ ns. is_supplied (known l.registers) ns e.stamp) (sym core.nodes)
+    ∙ ap (λ (x : Entry). is_supplied (known l.registers) l.nodes x.stamp) here ∙ h
+
+-- ---- the core once its entries are selected
+
+pub select_core : {start : State} {stamp reorder c : ℕ} {f g : Flow} {t : Track} {key : Waiting → ℕ} {width : ℕ} {names : List Selected} → IsCore start stamp reorder f [] c t → g ≡ record f { waiters = g.waiters } → IsSelected key width (queued f) (queued g) names
+    → IsCore start stamp reorder g names c t
+select_core {start = start} {stamp = stamp} {reorder = reorder} {c = c} {f = f} {g = g} {t = t} {names = names} core same s =
+    other_core start stamp stamp reorder f g [] names c t core (ap (λ (h : Flow). lane h c) same) (λ k. select_waits f g s c k ∙ sym (or_none (waits_in f c k))) (omega arith)
+  where
+    or_none : (b : Bool) → (b || false) ≡ b
+    or_none true = refl
+    or_none false = refl
+
+-- ---- the first name
+
+-- the others are of other entries
+pub first_apart : (n : Selected) (names : List Selected) → AllPairs AreApart (n ∷ names) → is_selected names n.context n.stamp ≡ false
+first_apart n names apart = list_any_none (is_name n.context n.stamp) names (λ i d lt. apart 0 (suc i) d (omega arith) (omega (arith, lt)))
+
+-- and apart among themselves
+pub rest_apart : (n : Selected) (names : List Selected) → AllPairs AreApart (n ∷ names) → AllPairs AreApart names
+rest_apart n names apart i j d lt within = apart (suc i) (suc j) d (omega (arith, lt)) (omega (arith, within))
+
+-- the place of an entry that may issue: it is queued, and the data flow has the values of its sources
+pub record IsReadyPlace (f : Flow) (c : ℕ) (t : Track) (i : ℕ) : Type 0 where
+  pub renamed : i < t.renamed
+  pub known : i < length (lane f c).nodes
+  pub stage : (entry_at t.context i).stage ≡ Queued
+  pub sources : is_some (sources_at (lane f c) i) ≡ true
+
+pub ready_place : {start : State} {stamp reorder c : ℕ} {f : Flow} {names : List Selected} {t : Track} → IsCore start stamp reorder f names c t → (k i : ℕ) → is_selected names c k ≡ true → IsSuppliedIn f (record { context = c; stamp = k })
+    → i < length t.context.flight → (entry_at t.context i).stamp ≡ k → IsReadyPlace f c t i
+ready_place {c = c} {f = f} {t = t} core k i h supplied lt is =
+    let p = selected_at core k i h lt is in
+    let below = p.renamed in
+    record {
+      renamed = below;
+      known = omega (arith, below, node_count core);
+      stage = p.stage;
+      sources = supplied_sources core i below (subst (λ s. IsSuppliedIn f (record { context = c; stamp = s })) (sym is) supplied);
+    }

@@ -1,0 +1,11 @@
+use Rattle.std.proofs.Common.{◌≡◌, ◌*◌, ◌<◌, ◌≤◌, length}
+use Rattle.core_back.specs.Machine.{with_contexts, completed_context}
+use Rattle.core_back.proofs.Turns.{mapped}
+use Rattle.core_back.proofs.completing.complete.Given as goal
+
+abbrev pub invariant-loop-context : goal.invariant-loop-context
+invariant-loop-context g l = record {
+  so_far : l.machine ≡ with_contexts l.fn.machine (mapped (completed_context l.fn.machine.view.cycle) l.context-index l.fn.machine.view.contexts);
+  contexts : 0 < l.context-index → length l.fn.machine.view.contexts ≡ 8;
+  count : l.completed ≤ l.context-index * 80;
+}

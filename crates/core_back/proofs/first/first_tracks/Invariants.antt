@@ -1,0 +1,6 @@
+use Rattle.std.proofs.Common.{◌+◌}
+use Rattle.core_back.specs.First.{AreFirstTracks}
+use Rattle.core_back.proofs.first.first_tracks.Given as goal
+
+abbrev pub invariant-loop-number : goal.invariant-loop-number
+invariant-loop-number g l = AreFirstTracks l.marks l.targets (l.reorder + 16) l.number l.tracks.items

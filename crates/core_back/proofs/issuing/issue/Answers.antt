@@ -1,0 +1,47 @@
+use Rattle.std.proofs.Common.{List, ap, sym, subst, ◌∙◌, refl, length, arith}
+use Rattle.issue_queue.specs.declared.entry.Selected.{Selected}
+use Rattle.core_back.specs.Machine.{Machine, IsAlike, context_at}
+use Rattle.core_back.specs.Issued.{IsIssued}
+use Rattle.core_back.proofs.Turns.{alike_chain, issue_alike, none_left}
+use Rattle.core_back.proofs.issuing.issue.Goals as goal
+
+pub loop-place-init : goal.loop-place-init
+loop-place-init g c =
+    let e = c.select.ensures.selected in
+    record {
+      alike = record { origin = ap (λ (m : Machine). m.origin) e; cycle = ap (λ (m : Machine). m.view.cycle) e; targets = λ d lt. ap (λ (m : Machine). (context_at m d).target) e };
+      left = omega (arith, c.select.ensures.most);
+      room = omega (arith, ap length c.requires.fresh);
+      keeps = refl;
+    }
+
+pub issue_next-requires : goal.issue_next-requires
+issue_next-requires g c = omega (arith, c.loop-place.invariant.alike.cycle, c.requires.cycle)
+
+pub returns-in_default-clause-alike : goal.returns-in_default-clause-alike
+returns-in_default-clause-alike g c = subst (IsAlike c.args.machine.now) (sym (c.issue_next.ensures.none c.in_default.is).1) c.loop-place.invariant.alike
+
+pub returns-in_default-clause-keeps : goal.returns-in_default-clause-keeps
+returns-in_default-clause-keeps g c = c.issue_next.ensures.keeps ∙ c.loop-place.invariant.keeps
+
+pub push-requires : goal.push-requires
+push-requires g c = omega (arith, c.loop-place.invariant.room, c.loop-place-test.true, c.requires.width)
+
+pub loop-place-preserved : goal.loop-place-preserved
+loop-place-preserved g c =
+    let step : IsIssued c.loop-place.machine c.issue_next.new.self c.in-Some.issue = c.in-Some.ensures.issued in
+    record {
+      alike = alike_chain c.args.machine.now c.loop-place.machine c.issue_next.new.self c.loop-place.invariant.alike (issue_alike c.loop-place.machine c.issue_next.new.self c.in-Some.issue step);
+      left = omega (arith, c.loop-place.invariant.left, ap (λ (ns : List Selected). length ns) step.names);
+      room = omega (arith, c.loop-place.invariant.room, c.push.ensures.len);
+      keeps = c.issue_next.ensures.keeps ∙ c.loop-place.invariant.keeps;
+    }
+
+pub returns-clause-alike : goal.returns-clause-alike
+returns-clause-alike g c = c.loop-place.invariant.alike
+
+pub returns-clause-idle : goal.returns-clause-idle
+returns-clause-idle g c = none_left c.loop-place.machine.names (omega (arith, c.loop-place.invariant.left, c.loop-place-test.false))
+
+pub returns-clause-keeps : goal.returns-clause-keeps
+returns-clause-keeps g c = c.loop-place.invariant.keeps

@@ -1,0 +1,39 @@
+use Rattle.std.proofs.Common.{rules, arith, refl, sym, subst, ◌≡◌, [], ◌+◌, List, get_or, slice_index, ◌∙◌, All, false}
+use Rattle.std.specs.Prelude.{AllPairs}
+use Rattle.std.specs.Arc.{arc_value}
+use Rattle.join_law.specs.Eight.{place_of}
+use Rattle.issue_queue.specs.declared.entry.Selected.{Selected}
+use Rattle.data_flow.specs.Flow.{waits_in}
+use Rattle.core_back.specs.Machine.{no_track}
+use Rattle.core_back.specs.Shown.{AreApart, IsSuppliedIn}
+use Rattle.core_back.proofs.Starts.{first_core, mark_of_first, origin_of_first, first_context_at, count_of_tracks}
+use Rattle.core_back.proofs.machine.Machine.new.Goals as goal
+
+pub invariant_of-result : goal.invariant_of-result
+invariant_of-result g c =
+    let empty : c.new.result.items ≡ [] = search rules in
+    let origin : arc_value c.in_ok-origins.origins.c0 ≡ c.args.marks.now.c0.origin = c.in_ok-origins.ensures 0 (omega arith) in
+    record {
+      cores = λ d lt. first_core (arc_value c.in_ok-origins.origins.c0) d (slice_index c.args.targets.now d) c.args.sizes.reorder (place_of c.args.marks.now d) c.in_ok-flow.flow c.new.result.items (get_or c.in_ok-tracks.tracks.items d no_track)
+          (mark_of_first (arc_value c.in_ok-origins.origins.c0) c.args.marks.now d c.requires.aligned origin lt) (c.requires.targets d lt) c.in_ok-flow.ensures.waiters empty (c.in_ok-flow.ensures.set d lt) (c.in_ok-tracks.ensures.each d lt);
+      origins = λ d lt. origin_of_first (arc_value c.in_ok-origins.origins.c0) (arc_value (place_of c.in_ok-origins.origins d)) c.args.marks.now d c.requires.aligned origin lt (c.in_ok-origins.ensures d lt);
+      tracks = c.in_ok-tracks.ensures.count;
+      lanes = c.in_ok-flow.ensures.count;
+      apart = subst (λ (ns : List Selected). AllPairs AreApart ns) (sym empty) (λ i j d lt below. absurd (omega arith));
+      supplied = subst (λ (ns : List Selected). All (IsSuppliedIn c.in_ok-flow.flow) ns) (sym empty) (search rules);
+      left = subst (λ (ns : List Selected). All (λ n. waits_in c.in_ok-flow.flow n.context n.stamp ≡ false) ns) (sym empty) (search rules);
+      stamps = omega arith;
+      bounded = c.requires.sizes.reorder_high;
+    }
+
+pub returns : goal.returns
+returns g c = record {
+  origin = c.in_ok-origins.ensures 0 (omega arith);
+  cycle = refl;
+  stamp = refl;
+  names = search rules;
+  fetch_room = refl;
+  reorder_is = refl;
+  count = count_of_tracks c.in_ok-tracks.tracks.items ∙ c.in_ok-tracks.ensures.count;
+  contexts = λ d lt. first_context_at (place_of c.args.marks.now d) (slice_index c.args.targets.now d) (c.args.sizes.reorder + 16) c.in_ok-tracks.tracks.items d (c.in_ok-tracks.ensures.each d lt);
+}

@@ -1,0 +1,12 @@
+use Rattle.std.proofs.Common.{◌≡◌, ◌+◌, ◌≤◌, []}
+use Rattle.arrayvec.specs.ArrayVec.{array_vec_len}
+use Rattle.core_back.specs.Machine.{IsAlike}
+use Rattle.core_back.proofs.retiring.retire.Given as goal
+
+abbrev pub invariant-loop-turn : goal.invariant-loop-turn
+invariant-loop-turn g l = record {
+  alike : IsAlike l.fn.machine l.machine;
+  idle : l.machine.names ≡ [];
+  room : array_vec_len l.retired + l.left ≤ 16;
+  keeps : g.G.Guess.may_answer l.guess ≡ g.G.Guess.may_answer l.fn.guess;
+}

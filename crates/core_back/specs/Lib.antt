@@ -1,0 +1,12 @@
+pub mod Track
+pub mod TrackCode
+pub mod Effects
+pub mod Queued
+pub mod Cores
+pub mod Steps
+pub mod Machine
+pub mod Shown
+pub mod Issued
+pub mod Fetched
+pub mod Renamable
+pub mod First

@@ -1,0 +1,77 @@
+-- What the parts of a core show together.
+use Rattle.std.specs.Prelude.{◌≡◌, ℕ, ◌+◌, ◌-◌, ◌<◌, List, [], ◌∷◌, get_or, slice_get, option_and_then, slice_set, Option, Some, None}
+use Rattle.hart_step.specs.declared.environment.Environment.TheVariants.{One}
+use Rattle.hart_step.specs.State.{State}
+use Rattle.paged_memory.specs.Start.{start_cells}
+use Rattle.origin_set.specs.OriginValue.{OriginValue}
+use Rattle.issue_queue.specs.declared.entry.Selected.{Selected}
+use Rattle.core_view.specs.declared.outcome.Outcome.{Outcome}
+use Rattle.core_view.specs.declared.entry.Stage.{Stage}
+use Rattle.core_view.specs.declared.entry.Stage.TheVariants.{Fetched, Queued, Issued, Done}
+use Rattle.core_view.specs.declared.entry.Execution.{Execution}
+use Rattle.core_view.specs.declared.entry.Entry.{Entry}
+use Rattle.core_view.specs.Events.{due_at, with_flight, completed_at}
+use Rattle.core_view.specs.View.{Context, View, first_context}
+use Rattle.core_back.specs.Track.{Track, first_track}
+
+-- the origin of the contexts, the view, what was selected and has not issued yet, how many more entries may be fetched in this cycle, and how many renamed entries a context may have
+pub record Machine : Type 0 where
+  pub origin : OriginValue
+  pub view : View
+  pub names : List Selected
+  pub fetch_room : ℕ
+  pub reorder : ℕ
+
+abbrev pub no_state : State
+no_state = record { registers = []; pc = 0; memory = start_cells [] []; environment = One }
+
+abbrev pub no_context : Context
+no_context = first_context 0 0 no_state
+
+abbrev pub no_track : Track
+no_track = first_track 0 0 no_state 0
+
+abbrev pub context_at : Machine → ℕ → Context
+context_at m c = get_or m.view.contexts c no_context
+
+-- one context is another from now on
+abbrev pub with_context : Machine → ℕ → Context → Machine
+with_context m c x = record m { view = record m.view { contexts = slice_set m.view.contexts c x } }
+
+-- all contexts are others from now on
+abbrev pub with_contexts : Machine → List Context → Machine
+with_contexts m xs = record m { view = record m.view { contexts = xs } }
+
+-- all entries of a context that are due in a cycle complete
+abbrev pub completed_context : ℕ → Context → Context
+completed_context cycle x = with_flight x (completed_at cycle x.flight)
+
+-- the same, and an entry was fetched
+abbrev pub with_fetched : Machine → ℕ → Context → Machine
+with_fetched m c x = record m { view = record m.view { stamp = m.view.stamp + 1; contexts = slice_set m.view.contexts c x }; fetch_room = m.fetch_room - 1 }
+
+-- the next cycle begins
+abbrev pub with_cycle : Machine → Machine
+with_cycle m = record m { view = record m.view { cycle = m.view.cycle + 1 }; fetch_room = 8 }
+
+-- the same contexts, but for the entries that a part of a cycle changes: origin, cycle, stamps and targets stay
+pub record IsAlike (old new : Machine) : Type 0 where
+  pub origin : new.origin ≡ old.origin
+  pub cycle : new.view.cycle ≡ old.view.cycle
+  pub targets : (c : ℕ) → c < 8 → (context_at new c).target ≡ (context_at old c).target
+
+-- the outcome of an entry that is done
+abbrev pub done_outcome : Stage → Option Outcome
+done_outcome Fetched = None
+done_outcome Queued = None
+done_outcome (Issued x) = None
+done_outcome (Done x) = Some x.outcome
+
+-- the outcome of the oldest entry, where it is done
+abbrev pub first_done : List Entry → Option Outcome
+first_done [] = None
+first_done (e ∷ es) = done_outcome e.stage
+
+-- the execution of the entry at a place, where it is due in a cycle
+abbrev pub due_in : ℕ → List Entry → ℕ → Option Execution
+due_in cycle es i = option_and_then (λ e. due_at cycle e.stage) (slice_get es i)

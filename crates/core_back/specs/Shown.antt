@@ -1,0 +1,40 @@
+-- What the machine in memory stands for.
+use Rattle.std.specs.Prelude.{◌≡◌, ℕ, ◌+◌, ◌*◌, ◌<◌, ◌≤◌, length, map, get_or, All, AllPairs, true, false, ◌&&◌, ◌==◌}
+use Rattle.std.specs.Arc.{arc_value}
+use Rattle.join_law.specs.Eight.{place_of}
+use Rattle.origin_set.specs.Start.{start}
+use Rattle.issue_queue.specs.declared.entry.Selected.{Selected}
+use Rattle.core_back.specs.declared.machine.Machine.TheInside.{Inside}
+use Rattle.core_view.specs.Flight.{known}
+use Rattle.data_flow.specs.Flow.{Flow, lane, is_supplied, waits_in}
+use Rattle.core_back.specs.Cores.{IsCore}
+use Rattle.core_back.specs.Machine.{Machine, no_track}
+
+abbrev pub machine_of : {A : Type 0} → Inside A → Machine
+machine_of m = record {
+  origin = arc_value m.origins.c0;
+  view = record { cycle = m.cycle; stamp = m.stamp; contexts = map (λ t. t.context) m.tracks.items };
+  names = m.selected.items;
+  fetch_room = m.fetch_room;
+  reorder = m.reorder;
+}
+
+-- two names of different entries
+abbrev pub AreApart : Selected → Selected → Type 0
+AreApart n m = ((m.context == n.context) && (m.stamp == n.stamp)) ≡ false
+
+-- a name is that of an instruction with the values of its sources
+abbrev pub IsSuppliedIn : Flow → Selected → Type 0
+IsSuppliedIn f n = is_supplied (known (lane f n.context).registers) (lane f n.context).nodes n.stamp ≡ true
+
+-- eight contexts, each live and as its parts have it
+pub record IsMachine {A : Type 0} (m : Inside A) : Type 0 where
+  pub cores : (c : ℕ) → c < 8 → IsCore (start (arc_value m.origins.c0) c) m.stamp m.reorder m.flow m.selected.items c (get_or m.tracks.items c no_track)
+  pub origins : (c : ℕ) → c < 8 → arc_value (place_of m.origins c) ≡ arc_value m.origins.c0
+  pub tracks : length m.tracks.items ≡ 8
+  pub lanes : length m.flow.lanes ≡ 8
+  pub apart : AllPairs AreApart m.selected.items
+  pub supplied : All (IsSuppliedIn m.flow) m.selected.items
+  pub left : All (λ n. waits_in m.flow n.context n.stamp ≡ false) m.selected.items
+  pub stamps : m.stamp + m.fetch_room ≤ 8 * (m.cycle + 1)
+  pub bounded : m.reorder ≤ 64

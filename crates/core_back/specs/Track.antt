@@ -1,0 +1,62 @@
+-- One context, and what each event makes of it.
+use Rattle.std.specs.Prelude.{ℕ, ◌+◌, ◌-◌, Bool, ◌==◌, nat_lt, if◌then◌else◌, List, [], ◌∷◌, ◌++◌, length, drop, min, Option, Some, None}
+use Rattle.std.specs.List.{list_any}
+use Rattle.hart_step.specs.declared.stop.Stop.{Stop}
+use Rattle.hart_step.specs.State.{State}
+use Rattle.core_view.specs.declared.outcome.Step.{Step}
+use Rattle.core_view.specs.declared.entry.Execution.{Execution}
+use Rattle.core_view.specs.declared.entry.Entry.{Entry}
+use Rattle.core_view.specs.Operations.{is_store}
+use Rattle.core_view.specs.View.{Context, entry_at, first_context}
+use Rattle.core_view.specs.Events.{retire_event, stop_event, complete_event, kept_length, issue_event, rename_event, fetch_event, with_flight}
+
+-- a context, how many of its entries are renamed, which are the oldest, and how many entries there may be
+pub record Track : Type 0 where
+  pub context : Context
+  pub renamed : ℕ
+  pub capacity : ℕ
+
+abbrev pub first_track : ℕ → ℕ → State → ℕ → Track
+first_track count target s capacity = record { context = first_context count target s; renamed = 0; capacity = capacity }
+
+-- the context reaches its target as its oldest entry retires
+abbrev pub is_last : Context → Bool
+is_last c = c.count + 1 == c.target
+
+abbrev pub retired : Track → Step → Track
+retired t step = record t { context = retire_event t.context step; renamed = if is_last t.context then 0 else t.renamed - 1 }
+
+-- all entries are dropped
+abbrev pub emptied : Track → Track
+emptied t = record t { context = with_flight t.context []; renamed = 0 }
+
+abbrev pub stopped : Track → Stop → Track
+stopped t why = record t { context = stop_event t.context why; renamed = 0 }
+
+-- how many entries are left once the entry at a place has completed
+abbrev pub left_by : Context → ℕ → Execution → ℕ
+left_by c i x = i + 1 + kept_length (entry_at c i) x.outcome (drop (i + 1) c.flight)
+
+abbrev pub completed : Track → ℕ → Execution → Track
+completed t i x = record t { context = complete_event t.context i x; renamed = min t.renamed (left_by t.context i x) }
+
+-- the stamp of the oldest entry that is cut, if one is
+abbrev pub cut_stamp : Context → ℕ → Execution → Option ℕ
+cut_stamp c i x = if nat_lt (left_by c i x) (length c.flight) then Some (entry_at c (left_by c i x)).stamp else None
+
+abbrev pub issued : Track → ℕ → Execution → Track
+issued t i x = record t { context = issue_event t.context i x }
+
+abbrev pub renamed_one : ℕ → Track → Track
+renamed_one cycle t = record t { context = rename_event cycle t.context t.renamed; renamed = t.renamed + 1 }
+
+abbrev pub fetched_one : ℕ → ℕ → ℕ → Track → Track
+fetched_one stamp cycle followed t = record t { context = fetch_event stamp cycle followed t.context }
+
+-- one more entry, the youngest
+abbrev pub pushed : Track → Entry → Track
+pushed t e = record t { context = with_flight t.context (t.context.flight ++ e ∷ []) }
+
+-- one of these entries is a store
+abbrev pub has_store : List Entry → Bool
+has_store es = list_any (λ e. is_store e.operation) es

@@ -1,0 +1,165 @@
+//! The events of a cycle, each on one context and the data flow.
+
+ghost use Rattle.std.specs.Prelude.{◌≡◌, ◌+◌, ◌<◌, ◌≤◌, ◌==◌, ◌&&◌, length, IsSome, IfSome, All, Bool, false};
+ghost use Rattle.core_view.specs.Outcomes.{IsSized};
+ghost use Rattle.data_flow.specs.Flow.{lane, node_at, taken, waits_in, cut_flow};
+ghost use Rattle.core_view.specs.Operations.{destination_of, stops_at_fetch};
+ghost use Rattle.core_view.specs.View.{entry_at};
+ghost use Rattle.core_back.specs.Track.{is_last, retired, stopped, completed, renamed_one};
+ghost use Rattle.core_back.specs.Cores.{operands_of};
+ghost use Rattle.core_back.specs.Renamable.{IsRenamable};
+ghost use Rattle.core_back.specs.Steps.{retired_flow, completed_flow, renamed_flow, IsRemarked};
+
+use crate::track::Track;
+use core_view::{Entry, Execution, Step};
+use data_flow::{DataFlow, Operands};
+use hart_step::Stop;
+use join_law::Ctx;
+use std::alloc::Allocator;
+
+/// The oldest entry, which is done with a step, retires.
+pub(crate) fn retire<A: Allocator>(
+    flow: &mut DataFlow<A>,
+    track: &mut Track<A>,
+    context: Ctx,
+    step: Step,
+)
+    requires some { 0 < length track.old.context.flight }
+    requires below { track.old.context.count < track.old.context.target }
+    requires sized { IsSized step.access }
+    requires known { 0 < length (lane flow.old context).nodes }
+    requires done { 0 < (node_at (lane flow.old context) 0).operands.destination → IsSome (node_at (lane flow.old context) 0).result }
+    requires idle { waits_in flow.old context (node_at (lane flow.old context) 0).operands.stamp ≡ false }
+    ensures track { track.new ≡ retired track.old step }
+    ensures flow { flow.new ≡ retired_flow flow.old context (is_last track.old.context) }
+{
+    flow.commit(context);
+    track.retire(step);
+    if track.count() == track.target() {
+        flow.cut_from(context, 0);
+    }
+}
+
+/// The oldest entry, which is done with a stop, stops the context.
+pub(crate) fn stop<A: Allocator>(
+    flow: &mut DataFlow<A>,
+    track: &mut Track<A>,
+    context: Ctx,
+    why: Stop,
+)
+    ensures track { track.new ≡ stopped track.old why }
+    ensures flow { flow.new ≡ cut_flow flow.old context 0 }
+{
+    track.stop(why);
+    flow.cut_from(context, 0);
+}
+
+/// The entry at a place completes, and cuts what it doesn't keep. Answers how many entries are cut.
+pub(crate) fn complete<A: Allocator>(
+    flow: &mut DataFlow<A>,
+    track: &mut Track<A>,
+    context: Ctx,
+    place: usize,
+    execution: Execution,
+) -> usize
+    requires place { place < length track.old.context.flight }
+    requires known { place < length (lane flow.old context).nodes }
+    ensures track { track.new ≡ completed track.old place execution }
+    ensures flow { flow.new ≡ completed_flow flow.old context place execution track.old.context }
+    ensures cut { result + length track.new.context.flight ≡ length track.old.context.flight }
+{
+    let before = track.len();
+    if let Some(value) = execution.outcome.result() {
+        flow.finish(context, place, value);
+    }
+    if let Some(stamp) = track.complete(place, execution) {
+        flow.cut_from(context, stamp);
+    }
+    before - track.len()
+}
+
+/// The stamp of the oldest fetched entry, if it can be renamed in a cycle: it was fetched at least so many cycles ago,
+/// and each place that it needs is free.
+pub(crate) fn renamable<A: Allocator>(
+    flow: &DataFlow<A>,
+    track: &Track<A>,
+    cycle: u64,
+    front_delay: u64,
+    reorder: usize,
+) -> Option<u64>
+    ensures { IfSome result (IsRenamable flow.now track.now reorder) }
+{
+    let place = track.renamed_count();
+    let entry = track.entry(place)?;
+    if place >= reorder || cycle < entry.fetched.saturating_add(front_delay) {
+        return None;
+    }
+    let operation = entry.operation;
+    if operation.destination().index() != 0 && flow.free_count() == 0 {
+        return None;
+    }
+    if operation.is_load() && track.has_store() {
+        return None;
+    }
+    if !operation.stops_at_fetch() && !flow.has_place() {
+        return None;
+    }
+    Some(entry.stamp)
+}
+
+/// The oldest fetched entry is renamed in a cycle.
+pub(crate) fn rename<A: Allocator>(
+    flow: &mut DataFlow<A>,
+    track: &mut Track<A>,
+    context: Ctx,
+    cycle: u64,
+)
+    requires some { track.old.renamed < length track.old.context.flight }
+    requires younger { All (λ n. n.operands.stamp < (entry_at track.old.context track.old.renamed).stamp) (lane flow.old context).nodes }
+    requires room { length (lane flow.old context).nodes < (lane flow.old context).room }
+    requires free { 0 < destination_of (entry_at track.old.context track.old.renamed).operation → taken flow.old < flow.old.extra }
+    requires fresh { waits_in flow.old context (entry_at track.old.context track.old.renamed).stamp ≡ false }
+    requires place { stops_at_fetch (entry_at track.old.context track.old.renamed).operation ≡ false → length flow.old.waiters < flow.old.places }
+    ensures track { track.new ≡ renamed_one cycle track.old }
+    ensures flow { (speculative : Bool) × (flow.new ≡ renamed_flow flow.old context (entry_at track.old.context track.old.renamed) speculative) }
+{
+    let entry = track.entry_at(track.renamed_count());
+    let speculative = track.has_uncompleted_guess();
+    flow.rename(context, operands(&entry));
+    if !entry.operation.stops_at_fetch() {
+        flow.wait(context, entry.operation.is_guessed(), speculative);
+    }
+    track.rename(cycle);
+}
+
+/// The registers that an entry names.
+fn operands(entry: &Entry) -> Operands
+    ensures { result ≡ operands_of entry.now }
+{
+    Operands {
+        stamp: entry.stamp,
+        destination: entry.operation.destination(),
+        first: entry.operation.first_source(),
+        second: entry.operation.second_source(),
+    }
+}
+
+/// Tells the queue of the entries that are behind no guessed entry any more: those up to the oldest guessed entry that
+/// has not completed.
+pub(crate) fn settle_speculation<A: Allocator>(
+    flow: &mut DataFlow<A>,
+    track: &Track<A>,
+    context: Ctx,
+)
+    ensures { IsRemarked flow.old flow.new }
+{
+    for place in 0..track.renamed_count() {
+        let entry = track.entry(place).unwrap();
+        if !entry.stage.is_done() {
+            flow.speculate(context, entry.stamp, false);
+            if entry.operation.is_guessed() {
+                return;
+            }
+        }
+    }
+}

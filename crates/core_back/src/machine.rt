@@ -1,0 +1,419 @@
+//! Eight contexts, and the data flow that they share.
+
+ghost use Rattle.std.specs.Prelude.{◌≡◌, ◌≢◌, ◌↔◌, ℕ, ◌+◌, ◌-◌, ◌<◌, ◌≤◌, ◌%◌, ◌^◌, ◌==◌, ◌&&◌, true, false, not, length, take, drop, slice_get, slice_index, option_copied, [], ◌∷◌, IfOk, IfSome, IsSome, IsTrue, Some, None, Err};
+ghost use Rattle.core_view.specs.declared.outcome.Outcome.TheVariants.{Goes, Stops};
+ghost use Rattle.core_view.specs.declared.entry.Stage.TheVariants.{Issued};
+ghost use Rattle.core_view.specs.Events.{retire_event, stop_event, complete_event};
+ghost use Rattle.core_view.specs.View.{entry_at, IsLive};
+ghost use Rattle.origin_set.specs.Start.{start};
+ghost use Rattle.core_back.specs.Machine.{IsAlike, context_at, with_context, with_cycle, first_done, due_in};
+ghost use Rattle.core_back.specs.Issued.{IsIssued};
+ghost use Rattle.core_back.specs.Fetched.{IsRenamed, IsFetched};
+ghost use Rattle.core_back.specs.First.{IsFirst, IsTarget, AreSizes, AreMarksAt};
+ghost use Rattle.checkpoint.specs.Aligned.{IsAligned};
+ghost use Rattle.join_law.specs.Eight.{place_of};
+
+use crate::events;
+use crate::fetching::{Fetch, next_entry};
+use crate::first::{first_flow, first_tracks, marks_of, origins_of};
+use crate::lags::lag_of;
+use crate::track::Track;
+use arrayvec::ArrayVec;
+use branch_predict::Guess;
+use checkpoint::Mark;
+use core_view::{Entry, EntryId, Execution, Issue, Outcome, Status, Step};
+use data_flow::DataFlow;
+use data_tags::Delay;
+use hart_step::Stop;
+use issue_queue::{Order, Selected};
+use join_law::{Ctx, Eight};
+use origin_set::Origin;
+use paged_memory::Memory;
+use reorder_buffer::Ring;
+use std::alloc::{AllocError, Allocator, Global};
+use std::marker::Model;
+use std::sync::Arc;
+
+/// How much a machine has room for.
+#[derive(Clone, Copy, Debug, PartialEq, Eq)]
+pub struct Sizes {
+    /// Renamed entries of a context, from 8 to 64.
+    pub reorder: usize,
+    /// Registers beyond those of the eight contexts, from 32 to 224.
+    pub extra: usize,
+    /// Places of the issue queue, at most 64.
+    pub places: usize,
+}
+
+/// Eight contexts in flight. A contract sees the origin, the view, and what was selected and has not issued yet.
+#[derive(Drop)]
+pub struct Machine<A: Allocator = Global> {
+    origins: Eight<Arc<Origin<A>, A>>,
+    flow: DataFlow<A>,
+    tracks: Vec<Track<A>, A>,
+    selected: ArrayVec<Selected, 8>,
+    cycle: u64,
+    stamp: u64,
+    fetch_room: u8,
+    reorder: usize,
+}
+
+impl<A: Allocator> Model for Machine<A> {
+    ghost use Rattle.core_back.specs.Machine.{Machine};
+    ghost use Rattle.core_back.specs.Shown.{machine_of, IsMachine};
+    ghost use Rattle.std.specs.Coded.{codes};
+    ghost use Rattle.core_view.specs.ViewCode.{coded_view};
+
+    ghost Value = { Machine };
+
+    ghost coded = { Prim.hlevel (codes, coded_view) };
+
+    ghost view = { machine_of };
+
+    ghost invariant = { IsMachine };
+}
+
+impl<A: Allocator + Copy> Machine<A> {
+    /// Eight contexts that start at eight marks of one origin, each with the count that it is to reach.
+    pub fn new(
+        alloc: A,
+        marks: &Eight<Mark<A>>,
+        targets: &[u64; 8],
+        sizes: Sizes,
+    ) -> Result<Self, AllocError>
+        requires aligned { IsAligned marks.now }
+        requires targets { (c : ℕ) → c < 8 → IsTarget (place_of marks.now c) (slice_index targets.now c) }
+        requires sizes { AreSizes sizes.reorder sizes.extra sizes.places }
+        ensures { IfOk result (IsFirst marks.now targets.now sizes.reorder) }
+    {
+        let origins = origins_of(marks)?;
+        let flow = first_flow(alloc, marks, sizes)?;
+        let tracks = first_tracks(alloc, marks, targets, sizes.reorder)?;
+        Ok(Machine {
+            origins,
+            flow,
+            tracks,
+            selected: ArrayVec::new(),
+            cycle: 0,
+            stamp: 0,
+            fetch_room: 8,
+            reorder: sizes.reorder,
+        })
+    }
+}
+
+impl<A: Allocator> Machine<A> {
+    /// Eight marks where the contexts are. It takes no memory.
+    pub fn into_marks(self) -> Eight<Mark<A>>
+        ensures { AreMarksAt self result }
+    {
+        marks_of(self.origins, self.tracks)
+    }
+
+    /// The number of the cycle that comes. Each context is live: plain RV64I reaches its state in as many instructions
+    /// from the start as it retired, and its flight is sound.
+    pub fn cycle(&self) -> u64
+        ensures value { result ≡ self.now.view.cycle }
+        ensures live { (c : ℕ) → c < 8 → IsLive (start self.now.origin c) self.now.view.stamp (context_at self.now c) }
+    {
+        self.cycle
+    }
+
+    /// How many instructions a context has retired. Plain RV64I reaches its state in as many from the start.
+    pub fn retired(&self, context: Ctx) -> u64
+        ensures count { result ≡ (context_at self.now context).count }
+        ensures live { IsLive (start self.now.origin context) self.now.view.stamp (context_at self.now context) }
+    {
+        let track = &self.tracks[context.index()];
+        track.count()
+    }
+
+    /// How many entries of a context are in flight.
+    pub fn len(&self, context: Ctx) -> usize
+        ensures value { result ≡ length (context_at self.now context).flight }
+        ensures contexts { length self.now.view.contexts ≡ 8 }
+        ensures bound { result ≤ 80 }
+    {
+        let track = &self.tracks[context.index()];
+        track.len()
+    }
+
+    /// How many entries of all contexts are in flight.
+    pub fn in_flight(&self) -> usize
+        ensures { result ≤ 640 }
+    {
+        let mut entries = 0;
+        for context in Ctx::all() {
+            entries += self.len(context);
+        }
+        entries
+    }
+
+    /// How many more entries may be fetched in this cycle.
+    pub fn fetch_room(&self) -> u8
+        ensures { result ≡ self.now.fetch_room }
+    {
+        self.fetch_room
+    }
+
+    /// The registers of a context after what it retired.
+    pub fn registers(&self, context: Ctx) -> &[u64; 32]
+        ensures { result.now ≡ (context_at self.now context).state.registers }
+    {
+        let track = &self.tracks[context.index()];
+        track.registers()
+    }
+
+    /// The pc of a context after what it retired.
+    pub fn pc(&self, context: Ctx) -> u64
+        ensures { result ≡ (context_at self.now context).state.pc }
+    {
+        let track = &self.tracks[context.index()];
+        track.pc()
+    }
+
+    /// The memory of a context after what it retired.
+    pub fn memory(&self, context: Ctx) -> &Memory<A>
+        ensures { result.now ≡ (context_at self.now context).state.memory }
+    {
+        let track = &self.tracks[context.index()];
+        track.memory()
+    }
+
+    /// The entries of a context in flight, oldest first.
+    pub fn flight(&self, context: Ctx) -> &Ring<Entry, A>
+        ensures { result.now.items ≡ (context_at self.now context).flight }
+    {
+        let track = &self.tracks[context.index()];
+        track.flight()
+    }
+
+    /// Whether a context runs.
+    pub fn status(&self, context: Ctx) -> Status
+        ensures { result ≡ (context_at self.now context).status }
+    {
+        let track = &self.tracks[context.index()];
+        track.status()
+    }
+
+    /// The outcome of the oldest entry of a context, where it is done.
+    pub fn head(&self, context: Ctx) -> Option<Outcome>
+        ensures { result ≡ first_done (context_at self.now context).flight }
+    {
+        let track = &self.tracks[context.index()];
+        track.head()
+    }
+
+    /// The oldest entry of a context, which is done with a step, retires. Answers that entry.
+    pub fn retire(&mut self, context: Ctx, step: Step) -> Entry
+        requires done { first_done (context_at self.old context).flight ≡ Some (Goes step) }
+        requires idle { self.old.names ≡ [] }
+        ensures retired { self.new ≡ with_context self.old context (retire_event (context_at self.old context) step) }
+        ensures entry { result ≡ entry_at (context_at self.old context) 0 }
+    {
+        let track = &mut self.tracks[context.index()];
+        let oldest = track.entry_at(0);
+        events::retire(&mut self.flow, track, context, step);
+        oldest
+    }
+
+    /// The oldest entry of a context, which is done with a stop, stops it.
+    pub fn stop(&mut self, context: Ctx, why: Stop)
+        requires done { first_done (context_at self.old context).flight ≡ Some (Stops why) }
+        requires idle { self.old.names ≡ [] }
+        ensures { self.new ≡ with_context self.old context (stop_event (context_at self.old context) why) }
+    {
+        let track = &mut self.tracks[context.index()];
+        events::stop(&mut self.flow, track, context, why);
+    }
+
+    /// The execution of the entry of a context at a place, where it is due in this cycle.
+    pub fn due(&self, context: Ctx, place: usize) -> Option<Execution>
+        ensures value { result ≡ due_in self.now.view.cycle (context_at self.now context).flight place }
+    {
+        let track = &self.tracks[context.index()];
+        let entry = track.entry(place)?;
+        entry.stage.due(self.cycle)
+    }
+
+    /// The entry of a context at a place, which is issued, completes, and cuts what it doesn't keep. Answers how many
+    /// entries are cut.
+    pub fn complete(&mut self, context: Ctx, place: usize, execution: Execution) -> usize
+        requires idle { self.old.names ≡ [] }
+        requires place { place < length (context_at self.old context).flight }
+        requires issued { (entry_at (context_at self.old context) place).stage ≡ Issued execution }
+        ensures completed { self.new ≡ with_context self.old context (complete_event (context_at self.old context) place execution) }
+        ensures cut { result + length (context_at self.new context).flight ≡ length (context_at self.old context).flight }
+    {
+        let track = &mut self.tracks[context.index()];
+        events::complete(&mut self.flow, track, context, place, execution)
+    }
+
+    /// Tells the queue of a context's entries that are behind no guessed entry any more, after one has completed.
+    pub fn settle_speculation(&mut self, context: Ctx)
+        ensures { self.new ≡ self.old }
+    {
+        let track = &self.tracks[context.index()];
+        events::settle_speculation(&mut self.flow, track, context);
+    }
+
+    /// Selects the first ready entries by an order, at most so many.
+    pub fn select<O: Order>(&mut self, order: &O, width: usize)
+        requires width { width ≤ 8 }
+        requires idle { self.old.names ≡ [] }
+        ensures selected { self.new ≡ record self.old { names = self.new.names } }
+        ensures most { length self.new.names ≤ width }
+    {
+        self.selected = self.flow.select(order, width);
+    }
+
+    /// The first of the selected entries issues, after the lag that a delay gives. Answers `None` once none is left.
+    pub fn issue_next<D: Delay>(&mut self, delay: &mut D) -> Option<Issue>
+        requires { self.old.view.cycle < 2 ^ 56 }
+        ensures none { result ≡ None → (self.old.names ≡ []) × (self.new ≡ self.old) }
+        ensures issued { IfSome result (IsIssued self.old self.new) }
+        ensures keeps { D.may_answer delay.new ≡ D.may_answer delay.old }
+    {
+        if self.selected.is_empty() {
+            return None;
+        }
+        let name = self.selected.remove(0);
+        let track = &mut self.tracks[name.context.index()];
+        let place = track.place_of(name.stamp).unwrap();
+        let (first, second) = self.flow.sources(name.context, place).unwrap();
+        let outcome = track.outcome(place, first, second);
+        let kind = track.kind(place);
+        let address = track.address(place, first, second);
+        let lag = lag_of(delay, name.context, kind, address, &outcome);
+        let execution = Execution {
+            due: self.cycle + u64::from(lag.cycles),
+            miss: lag.miss,
+            outcome,
+        };
+        track.issue(place, execution);
+        Some(Issue {
+            entry: EntryId {
+                context: name.context,
+                stamp: name.stamp,
+            },
+            latency: lag.cycles,
+            miss: lag.miss,
+        })
+    }
+
+    /// The stamp of the oldest fetched entry of a context, if it can be renamed: it was fetched at least so many cycles
+    /// ago, and each place that it needs is free.
+    pub fn renamable(&self, context: Ctx, front_delay: u64) -> Option<u64> {
+        let track = &self.tracks[context.index()];
+        events::renamable(&self.flow, track, self.cycle, front_delay, self.reorder)
+    }
+
+    /// The oldest fetched entry of a context is renamed, if it can be. Answers its stamp.
+    pub fn try_rename(&mut self, context: Ctx, front_delay: u64) -> Option<u64>
+        requires { self.old.names ≡ [] }
+        ensures none { result ≡ None → self.new ≡ self.old }
+        ensures renamed { IfSome result (IsRenamed self.old self.new context) }
+        ensures alike { IsAlike self.old self.new }
+        ensures idle { self.new.names ≡ [] }
+    {
+        let track = &mut self.tracks[context.index()];
+        let stamp = events::renamable(&self.flow, track, self.cycle, front_delay, self.reorder)?;
+        events::rename(&mut self.flow, track, context, self.cycle);
+        Some(stamp)
+    }
+
+    /// How many entries of a context are fetched and not yet renamed.
+    pub fn fetched_count(&self, context: Ctx) -> usize
+        ensures { result ≤ 80 }
+    {
+        let track = &self.tracks[context.index()];
+        track.len() - track.renamed_count()
+    }
+
+    /// How many of these are guessed.
+    pub fn guessed_ahead(&self, context: Ctx) -> usize
+        ensures { result ≤ 80 }
+    {
+        let track = &self.tracks[context.index()];
+        track.guessed_ahead()
+    }
+
+    /// How many loads of a context were issued, have not completed, and missed.
+    pub fn missed_loads(&self, context: Ctx) -> usize
+        ensures { result ≤ 80 }
+    {
+        let track = &self.tracks[context.index()];
+        track.missed_loads()
+    }
+
+    /// How many entries of a context wait for issue.
+    pub fn waiting_count(&self, context: Ctx) -> usize {
+        self.flow.waiting_count(context)
+    }
+
+    /// How many guessed entries of a context wait for issue.
+    pub fn waiting_guessed(&self, context: Ctx) -> usize {
+        self.flow.guessed_count(context)
+    }
+
+    /// How many entries that wait for issue are older than the oldest one of a context, if one of it waits.
+    pub fn oldest_place(&self, context: Ctx) -> Option<usize> {
+        self.flow.oldest_place(context)
+    }
+
+    /// Whether the entry of a context at a place is guessed.
+    pub fn is_guessed(&self, context: Ctx, place: usize) -> bool {
+        let track = &self.tracks[context.index()];
+        match track.entry(place) {
+            Some(entry) => entry.operation.is_guessed(),
+            None => false,
+        }
+    }
+
+    /// The entry of a context at a place, counted from the oldest.
+    pub fn entry(&self, context: Ctx, place: usize) -> Option<&Entry>
+        ensures { option_copied result ≡ slice_get (context_at self.now context).flight place }
+    {
+        let track = &self.tracks[context.index()];
+        track.entry(place)
+    }
+
+    /// Whether one more entry of a context can be fetched: it runs, doesn't wait, and its front list has room.
+    pub fn can_fetch(&self, context: Ctx) -> bool {
+        let track = &self.tracks[context.index()];
+        track.can_fetch()
+    }
+
+    /// One more entry of a context is fetched, if it can be, and followed where a guess says. Answers its stamp, and
+    /// whether it ends its block.
+    pub fn try_fetch<G: Guess>(&mut self, context: Ctx, guess: &mut G) -> Option<Fetch>
+        requires idle { self.old.names ≡ [] }
+        requires room { 0 < self.old.fetch_room }
+        requires cycle { self.old.view.cycle < 2 ^ 56 }
+        ensures none { result ≡ None → self.new ≡ self.old }
+        ensures fetched { IfSome result (IsFetched (G.may_answer guess.old) self.old self.new context) }
+        ensures alike { IsAlike self.old self.new }
+        ensures idle { self.new.names ≡ [] }
+        ensures keeps { G.may_answer guess.new ≡ G.may_answer guess.old }
+    {
+        let track = &mut self.tracks[context.index()];
+        if !track.can_fetch() {
+            return None;
+        }
+        let stamp = self.stamp;
+        let (entry, ends) = next_entry(track, context, guess, stamp, self.cycle);
+        track.push(entry);
+        self.stamp += 1;
+        self.fetch_room -= 1;
+        Some(Fetch { stamp, ends })
+    }
+
+    /// The next cycle begins.
+    pub fn tick(&mut self)
+        requires { self.old.view.cycle < 2 ^ 56 }
+        ensures { self.new ≡ with_cycle self.old }
+    {
+        self.cycle += 1;
+        self.fetch_room = 8;
+    }
+}

@@ -1,0 +1,116 @@
+//! Eight contexts between two cycles, when nothing is selected.
+
+ghost use Rattle.std.specs.Prelude.{◌≡◌, ℕ, ◌+◌, ◌<◌, ◌^◌, []};
+ghost use Rattle.core_view.specs.View.{IsLive};
+ghost use Rattle.origin_set.specs.Start.{start};
+ghost use Rattle.core_back.specs.Machine.{context_at};
+
+use crate::{fetching, renaming};
+use branch_predict::Guess;
+use core_back::{Machine, complete, issue, retire};
+use core_profile::Profile;
+use core_view::CycleNote;
+use data_tags::Delay;
+use fetch_policy::Pick;
+use issue_queue::Order;
+use std::alloc::{Allocator, Global};
+use std::marker::Model;
+
+/// Eight contexts between two cycles. A contract sees the machine.
+#[derive(Drop)]
+pub(crate) struct Contexts<A: Allocator = Global> {
+    machine: Machine<A>,
+}
+
+impl<A: Allocator> Model for Contexts<A> {
+    ghost use Rattle.std.specs.Prelude.{◌≡◌, []};
+    ghost use Rattle.std.specs.Coded.{codes};
+    ghost use Rattle.core_view.specs.ViewCode.{coded_view};
+    ghost use Rattle.core_back.specs.Machine.{Machine as Shown};
+
+    ghost Value = { Shown };
+
+    ghost coded = { Prim.hlevel (codes, coded_view) };
+
+    ghost view = { λ c. c.machine };
+
+    ghost invariant = { λ c. c.machine.names ≡ [] };
+}
+
+impl<A: Allocator> Contexts<A> {
+    /// Contexts of which nothing is selected.
+    pub(crate) fn new(machine: Machine<A>) -> Self
+        requires { machine.names ≡ [] }
+        ensures { result ≡ machine }
+    {
+        Contexts { machine }
+    }
+
+    /// The machine.
+    pub(crate) fn machine(&self) -> &Machine<A>
+        ensures { result.now ≡ self.now }
+    {
+        &self.machine
+    }
+
+    /// The machine, given up.
+    pub(crate) fn into_machine(self) -> Machine<A>
+        ensures { result ≡ self }
+    {
+        self.machine
+    }
+
+    /// The parts of a cycle, in order. Answers what was done.
+    pub(crate) fn cycle<G: Guess, P: Pick, O: Order, D: Delay>(
+        &mut self,
+        guess: &mut G,
+        pick: &P,
+        order: &O,
+        delay: &mut D,
+        profile: &Profile,
+    ) -> CycleNote
+        requires { self.old.view.cycle < 2 ^ 56 }
+        ensures live { (c : ℕ) → c < 8 → IsLive (start self.new.origin c) self.new.view.stamp (context_at self.new c) }
+        ensures cycle { self.new.view.cycle ≡ self.old.view.cycle + 1 }
+        ensures origin { self.new.origin ≡ self.old.origin }
+        ensures targets { (c : ℕ) → c < 8 → (context_at self.new c).target ≡ (context_at self.old c).target }
+        ensures guess { G.may_answer guess.new ≡ G.may_answer guess.old }
+        ensures delay { D.may_answer delay.new ≡ D.may_answer delay.old }
+    {
+        let mut note = CycleNote::new();
+        let before = self.machine.in_flight();
+        retire(
+            &mut self.machine,
+            guess,
+            usize::from(profile.retire_width),
+            &mut note.retired,
+        );
+        note.completed = complete(&mut self.machine);
+        let gone = before.saturating_sub(self.machine.in_flight());
+        note.cut = gone.saturating_sub(note.retired.len()) as u32;
+        issue(
+            &mut self.machine,
+            order,
+            delay,
+            usize::from(profile.issue_width),
+            &mut note.issued,
+        );
+        renaming::rename(
+            &mut self.machine,
+            u64::from(profile.front_delay),
+            usize::from(profile.rename_width),
+            &mut note.renamed,
+        );
+        fetching::fetch(
+            &mut self.machine,
+            pick,
+            guess,
+            profile.num1,
+            profile.num2,
+            &mut note.fetched,
+        );
+        self.machine.tick();
+        let _live = self.machine.cycle();
+        note
+    }
+}

@@ -1,0 +1,203 @@
+//! The core.
+
+ghost use Rattle.std.specs.Prelude.{◌≡◌, ℕ, ◌+◌, ◌<◌, ◌≤◌, ◌^◌, [], slice_index, IfOk, IfErr, IfSome, None};
+ghost use Rattle.join_law.specs.Eight.{place_of};
+ghost use Rattle.checkpoint.specs.Aligned.{IsAligned};
+ghost use Rattle.core_view.specs.View.{IsLive};
+ghost use Rattle.origin_set.specs.Start.{start};
+ghost use Rattle.core_back.specs.Machine.{context_at, IsAlike};
+ghost use Rattle.core_back.specs.First.{IsFirst, AreSizes, AreMarksAt};
+ghost use Rattle.core_cycle.specs.Faults.{IsBehind, IsRefusal};
+
+use crate::contexts::Contexts;
+use crate::fault::CoreFault;
+use branch_predict::Guess;
+use checkpoint::Mark;
+use core_back::{Machine, Sizes};
+use core_profile::Profile;
+use core_view::{CycleNote, Entry, Status};
+use data_tags::Delay;
+use fetch_policy::Pick;
+use issue_queue::Order;
+use join_law::{Ctx, Eight};
+use paged_memory::Memory;
+use reorder_buffer::Ring;
+use std::alloc::{Allocator, Global};
+
+/// A core of eight contexts, over any guess, pick, order and delay.
+#[derive(Drop)]
+pub struct Core<
+    G: Guess + Drop,
+    P: Pick + Drop,
+    O: Order + Drop,
+    D: Delay + Drop,
+    A: Allocator = Global,
+> {
+    contexts: Contexts<A>,
+    guess: G,
+    pick: P,
+    order: O,
+    delay: D,
+    profile: Profile,
+}
+
+impl<G: Guess + Drop, P: Pick + Drop, O: Order + Drop, D: Delay + Drop, A: Allocator + Copy> Core<
+    G,
+    P,
+    O,
+    D,
+    A,
+> {
+    ghost use Rattle.core_cycle.specs.Shown.{shown};
+
+    /// A core by a profile whose contexts start at eight marks of one origin, each with the count that it is to reach.
+    ///
+    /// # Errors
+    ///
+    /// X1 exactly where a target is below its mark's count, with the lowest such context; X2 where memory was asked
+    /// for and refused. Both give the marks back.
+    pub fn new(
+        alloc: A,
+        profile: &Profile,
+        marks: Eight<Mark<A>>,
+        targets: [u64; 8],
+        guess: G,
+        pick: P,
+        order: O,
+        delay: D,
+    ) -> Result<Self, (Eight<Mark<A>>, CoreFault)>
+        requires aligned { IsAligned marks }
+        requires targets { (c : ℕ) → c < 8 → slice_index targets c ≤ 2 ^ 60 }
+        ensures first { IfOk result (λ core. IsFirst marks targets profile.now.reorder_buffer (shown core)) }
+        ensures refused { IfErr result (λ back. (back.0 ≡ marks) × IsRefusal marks targets back.1) }
+    {
+        if let Some(context) = behind_start(&marks, &targets) {
+            return Err((marks, CoreFault::TargetBehindStart { context }));
+        }
+        let Ok(machine) = Machine::new(alloc, &marks, &targets, sizes_of(profile)) else {
+            return Err((marks, CoreFault::OutOfMemory));
+        };
+        Ok(Core {
+            contexts: Contexts::new(machine),
+            guess,
+            pick,
+            order,
+            delay,
+            profile: *profile,
+        })
+    }
+}
+
+/// The room that a profile asks for.
+fn sizes_of(profile: &Profile) -> Sizes
+    ensures sizes { AreSizes result.reorder result.extra result.places }
+    ensures reorder { result.reorder ≡ profile.now.reorder_buffer }
+{
+    Sizes {
+        reorder: usize::from(profile.reorder_buffer),
+        extra: usize::from(profile.extra_registers),
+        places: usize::from(profile.issue_queue),
+    }
+}
+
+/// The lowest context whose target is below its mark's count.
+fn behind_start<A: Allocator>(marks: &Eight<Mark<A>>, targets: &[u64; 8]) -> Option<Ctx>
+    ensures behind { IfSome result (IsBehind marks.now targets.now) }
+    ensures none { result ≡ None → (d : ℕ) → d < 8 → (place_of marks.now d).count ≤ slice_index targets.now d }
+{
+    for number in 0..8usize {
+        let context = Ctx::new(number).unwrap();
+        if targets[number] < marks.place(context).count() {
+            return Some(context);
+        }
+    }
+    None
+}
+
+impl<G: Guess + Drop, P: Pick + Drop, O: Order + Drop, D: Delay + Drop, A: Allocator> Core<
+    G,
+    P,
+    O,
+    D,
+    A,
+> {
+    ghost use Rattle.core_cycle.specs.Shown.{shown};
+
+    /// One cycle: entries retire, complete, issue, are renamed and are fetched. It takes no memory. Answers what was
+    /// done. Whatever is guessed, picked and ordered, and however long it takes, each context is then where plain
+    /// RV64I is after as many instructions as it retired, and its flight is sound.
+    pub fn cycle(&mut self) -> CycleNote
+        requires { (shown self.old).view.cycle < 2 ^ 56 }
+        ensures live { (c : ℕ) → c < 8 → IsLive (start (shown self.new).origin c) (shown self.new).view.stamp (context_at (shown self.new) c) }
+        ensures cycle { (shown self.new).view.cycle ≡ (shown self.old).view.cycle + 1 }
+        ensures origin { (shown self.new).origin ≡ (shown self.old).origin }
+        ensures targets { (c : ℕ) → c < 8 → (context_at (shown self.new) c).target ≡ (context_at (shown self.old) c).target }
+        ensures guess { G.may_answer self.new.guess ≡ G.may_answer self.old.guess }
+        ensures delay { D.may_answer self.new.delay ≡ D.may_answer self.old.delay }
+    {
+        self.contexts.cycle(
+            &mut self.guess,
+            &self.pick,
+            &self.order,
+            &mut self.delay,
+            &self.profile,
+        )
+    }
+
+    /// The number of the cycle that comes.
+    pub fn cycles(&self) -> u64
+        ensures { result ≡ (shown self.now).view.cycle }
+    {
+        self.contexts.machine().cycle()
+    }
+
+    /// How many instructions a context has retired: plain RV64I reaches its registers, pc and memory in as many from
+    /// the start, and its flight is sound.
+    pub fn retired(&self, context: Ctx) -> u64
+        ensures count { result ≡ (context_at (shown self.now) context).count }
+        ensures live { IsLive (start (shown self.now).origin context) (shown self.now).view.stamp (context_at (shown self.now) context) }
+    {
+        self.contexts.machine().retired(context)
+    }
+
+    /// Whether a context runs.
+    pub fn state(&self, context: Ctx) -> Status
+        ensures { result ≡ (context_at (shown self.now) context).status }
+    {
+        self.contexts.machine().status(context)
+    }
+
+    /// The registers, the pc and the memory of a context after what it retired.
+    pub fn arch(&self, context: Ctx) -> (&[u64; 32], u64, &Memory<A>)
+        ensures registers { result.0.now ≡ (context_at (shown self.now) context).state.registers }
+        ensures pc { result.1 ≡ (context_at (shown self.now) context).state.pc }
+        ensures memory { result.2.now ≡ (context_at (shown self.now) context).state.memory }
+    {
+        (
+            self.contexts.machine().registers(context),
+            self.contexts.machine().pc(context),
+            self.contexts.machine().memory(context),
+        )
+    }
+
+    /// The memory of a context after what it retired.
+    pub fn memory(&self, context: Ctx) -> &Memory<A>
+        ensures { result.now ≡ (context_at (shown self.now) context).state.memory }
+    {
+        self.contexts.machine().memory(context)
+    }
+
+    /// The entries of a context in flight, oldest first.
+    pub fn flight(&self, context: Ctx) -> &Ring<Entry, A>
+        ensures { result.now.items ≡ (context_at (shown self.now) context).flight }
+    {
+        self.contexts.machine().flight(context)
+    }
+
+    /// Eight marks where the contexts are.
+    pub fn into_marks(self) -> Eight<Mark<A>>
+        ensures { AreMarksAt (shown self) result }
+    {
+        self.contexts.into_machine().into_marks()
+    }
+}

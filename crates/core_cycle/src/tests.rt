@@ -1,0 +1,218 @@
+//! Programs whose figures are known, cycle by cycle.
+ghost use Rattle.std.specs.Prelude.{◌≡◌, ◌≤◌};
+
+use crate::Core;
+use branch_predict::{Always, Guess, Sequential, Tables};
+use checkpoint::{Mark, aligned};
+use core_profile::{Profile, ProfileFields};
+use core_view::Status;
+use data_tags::{Flat, Latencies};
+use fetch_policy::RoundRobin;
+use hart_step::{Environment, Stop};
+use issue_queue::OldestFirst;
+use join_law::{Ctx, Eight};
+use origin_set::Origin;
+use paged_memory::Width;
+use rv64_asm::Program;
+use std::alloc::Global;
+use std::sync::Arc;
+use std::test::Fail;
+
+/// Counts x5 from 10 down to 0: 21 instructions and an ECALL.
+const COUNTDOWN: [u32; 4] = [0x00A0_0293, 0xFFF2_8293, 0xFE02_9EE3, 0x0000_0073];
+
+/// The origin with a program at context 0.
+fn origin_of(alloc: Global, words: &[u32], bytes: &[u8]) -> Result<Arc<Origin>, Fail> {
+    let program = Program::new(
+        Vec::from_slice(alloc, words)?,
+        Vec::from_slice(alloc, bytes)?,
+    );
+    let programs = [Some(program), None, None, None, None, None, None, None];
+    let origin = Origin::new(programs, Environment::One)?;
+    Ok(Arc::new(alloc, origin)?)
+}
+
+/// Eight marks at the starts of an origin.
+fn starts(alloc: Global, origin: &Arc<Origin>) -> Result<Eight<Mark>, Fail> {
+    let [c0, c1, c2, c3, c4, c5, c6, c7] = Ctx::all();
+    Ok(Eight {
+        c0: Mark::start(alloc, origin, c0)?,
+        c1: Mark::start(alloc, origin, c1)?,
+        c2: Mark::start(alloc, origin, c2)?,
+        c3: Mark::start(alloc, origin, c3)?,
+        c4: Mark::start(alloc, origin, c4)?,
+        c5: Mark::start(alloc, origin, c5)?,
+        c6: Mark::start(alloc, origin, c6)?,
+        c7: Mark::start(alloc, origin, c7)?,
+    })
+}
+
+/// A core whose context 0 is to retire 100 instructions.
+fn core_of<G: Guess + Drop>(
+    alloc: Global,
+    profile: &Profile,
+    origin: &Arc<Origin>,
+    guess: G,
+) -> Result<Core<G, RoundRobin, OldestFirst, Flat>, Fail> {
+    let marks = starts(alloc, origin)?;
+    if !aligned(&marks) {
+        return Err("aligned".into());
+    }
+    let delay = Flat::new(Latencies::from(profile));
+    let targets = [100, 0, 0, 0, 0, 0, 0, 0];
+    match Core::new(
+        alloc,
+        profile,
+        marks,
+        targets,
+        guess,
+        RoundRobin,
+        OldestFirst,
+        delay,
+    ) {
+        Ok(core) => Ok(core),
+        Err(_) => Err("a core".into()),
+    }
+}
+
+/// Cycles, and entries that were fetched, renamed, issued, retired and cut.
+type Figures = [u64; 6];
+
+/// What a core shows of context 0 once it stopped.
+#[derive(Debug, PartialEq, Eq, Drop)]
+struct Ending {
+    figures: Figures,
+    status: Status,
+    retired: u64,
+    registers: [u64; 8],
+    first_data: Option<u64>,
+}
+
+/// Runs a core until context 0 stops, at most a thousand cycles.
+fn run<G: Guess + Drop>(core: &mut Core<G, RoundRobin, OldestFirst, Flat>) -> Figures {
+    let [context, ..] = Ctx::all();
+    let mut figures = [0; 6];
+    for _cycle in 0..1000 {
+        if !core.state(context).is_running() || core.cycles() >= 1000 {
+            return figures;
+        }
+        let note = core.cycle();
+        figures = [
+            core.cycles(),
+            figures[1].saturating_add(note.fetched.len() as u64),
+            figures[2].saturating_add(note.renamed.len() as u64),
+            figures[3].saturating_add(note.issued.len() as u64),
+            figures[4].saturating_add(note.retired.len() as u64),
+            figures[5].saturating_add(u64::from(note.cut)),
+        ];
+    }
+    figures
+}
+
+/// The default profile with another front delay.
+fn front_delay(cycles: u64) -> Result<Profile, Fail> {
+    let fields = ProfileFields {
+        front_delay: cycles,
+        ..ProfileFields::default()
+    };
+    Profile::checked(fields).map_err(|_| "a profile".into())
+}
+
+/// What a core by a profile and a guess shows at the end of a program.
+fn end_of<G: Guess + Drop>(
+    alloc: Global,
+    profile: &Profile,
+    words: &[u32],
+    guess: G,
+) -> Result<Ending, Fail> {
+    let origin = origin_of(alloc, words, &[1, 0, 0, 0, 0, 0, 0, 0])?;
+    let mut core = core_of(alloc, profile, &origin, guess)?;
+    let figures = run(&mut core);
+    Ok(ending_of(&core, figures))
+}
+
+fn ending_of<G: Guess + Drop>(
+    core: &Core<G, RoundRobin, OldestFirst, Flat>,
+    figures: Figures,
+) -> Ending {
+    let [context, ..] = Ctx::all();
+    let (registers, _, _) = core.arch(context);
+    let [x0, x1, x2, x3, x4, x5, x6, x7, ..] = *registers;
+    Ending {
+        figures,
+        status: core.state(context),
+        retired: core.retired(context),
+        registers: [x0, x1, x2, x3, x4, x5, x6, x7],
+        first_data: core.memory(context).load(0x10_0000, Width::Double).ok(),
+    }
+}
+
+/// The end at an ECALL.
+fn ends(figures: Figures, retired: u64, registers: [u64; 8]) -> Ending {
+    Ending {
+        figures,
+        status: Status::Stopped { why: Stop::Ecall },
+        retired,
+        registers,
+        first_data: Some(1),
+    }
+}
+
+#[test]
+fn lone_ecall(rt: HostRuntime) -> Result<(), Fail> {
+    let end = end_of(rt.alloc(), &front_delay(1)?, &[0x0000_0073], Sequential)?;
+    assert_eq!(rt; end, ends([3, 1, 1, 0, 0, 1], 0, [0; 8]));
+    Ok(())
+}
+
+#[test]
+fn nop_then_ecall(rt: HostRuntime) -> Result<(), Fail> {
+    let end = end_of(
+        rt.alloc(),
+        &front_delay(1)?,
+        &[0x0000_0013, 0x0000_0073],
+        Sequential,
+    )?;
+    assert_eq!(rt; end, ends([5, 2, 2, 1, 1, 1], 1, [0; 8]));
+    Ok(())
+}
+
+#[test]
+fn countdown_in_line(rt: HostRuntime) -> Result<(), Fail> {
+    let end = end_of(rt.alloc(), &Profile::default(), &COUNTDOWN, Sequential)?;
+    assert_eq!(rt; end, ends([53, 31, 31, 21, 21, 10], 21, [0; 8]));
+    Ok(())
+}
+
+#[test]
+fn countdown_of_wrong_guesses(rt: HostRuntime) -> Result<(), Fail> {
+    let least = end_of(rt.alloc(), &Profile::default(), &COUNTDOWN, Always(0))?;
+    assert_eq!(rt; least, ends(least.figures, 21, [0; 8]));
+    let greatest = end_of(
+        rt.alloc(),
+        &Profile::default(),
+        &COUNTDOWN,
+        Always(u64::MAX),
+    )?;
+    assert_eq!(rt; greatest, ends(greatest.figures, 21, [0; 8]));
+    Ok(())
+}
+
+/// A store behind a branch that is guessed not taken, and a load behind it.
+const WRONG_PATH: [u32; 6] = [
+    0x0070_0313,
+    0x0010_02B7,
+    0x0000_0663,
+    0x0062_B023,
+    0x0000_3383,
+    0x0000_0073,
+];
+
+#[test]
+fn wrong_path_store(rt: HostRuntime) -> Result<(), Fail> {
+    let guess = Tables::new(rt.alloc())?;
+    let end = end_of(rt.alloc(), &Profile::default(), &WRONG_PATH, guess)?;
+    let registers = [0, 0, 0, 0, 0, 0x10_0000, 7, 0];
+    assert_eq!(rt; end, ends([8, 7, 5, 3, 3, 4], 3, registers));
+    Ok(())
+}

@@ -1,0 +1,17 @@
+pub mod Ties
+pub mod Places
+pub mod Cells
+pub mod Sources
+pub mod Waits
+pub mod Counts
+pub mod Calls
+pub mod Marks
+pub mod Ready
+pub mod Carried
+pub mod Selects
+pub mod Steps
+pub mod Waiters
+pub mod Renames
+pub mod Cuts
+pub mod Queued
+pub mod Starts

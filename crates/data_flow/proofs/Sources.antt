@@ -1,0 +1,94 @@
+-- What the sources of an instruction at a place give.
+use Rattle.std.proofs.Common.{◌≡◌, ℕ, ◌<◌, Bool, true, false, not, List, length, get_or, slice_get, Option, Some, None, refl, sym, ap, ◌∙◌, Bor}
+use Rattle.std.specs.Prelude.{IsSome}
+use Rattle.std.specs.Option.{option_copied}
+use Rattle.std.proofs.lemmas.Option.{get_or_from_slice_get, slice_get_within, none-some}
+use Rattle.circular_buffer.proofs.Places.{slice_get-some}
+use Rattle.rename_file.specs.File.{bank}
+use Rattle.circular_buffer.specs.Buffer.{Buffer}
+use Rattle.core_view.specs.Flight.{source_value}
+use Rattle.data_flow.specs.declared.operands.Renamed.{Renamed}
+use Rattle.data_flow.specs.declared.data_flow.DataFlow.TheInside.{Inside}
+use Rattle.data_flow.specs.Flow.{Lane, Flow, lane, seen_at, both, sources_at}
+use Rattle.data_flow.specs.Wired.{cell_of, IsWiredUp}
+use Rattle.data_flow.proofs.Ties.{Reads, reads}
+use Rattle.data_flow.proofs.Cells.{sources_used, used_is_cell}
+use Rattle.data_flow.proofs.Places.{Here}
+
+-- ---- an instruction that was found
+
+pub some_there : {X : Type 0} (xs : List X) (i : ℕ) (r : Option (Bor X)) → i < length xs → option_copied r ≡ slice_get xs i → IsSome r
+some_there xs i None lt e = let there = slice_get-some xs i lt in absurd (none-some there.0 (e ∙ there.1))
+some_there xs i (Some x) lt e = refl
+
+pub there_is : {X : Type 0} (xs : List X) (i : ℕ) (r : Option X) → i < length xs → r ≡ slice_get xs i → IsSome r
+there_is xs i None lt e = let there = slice_get-some xs i lt in absurd (none-some there.0 (e ∙ there.1))
+there_is xs i (Some x) lt e = refl
+
+-- the instruction that was found at a place
+pub record IsAt (found : Buffer Renamed) (i : ℕ) (n : Renamed) : Type 0 where
+  pub within : i < length found.items
+  pub is : get_or found.items i n ≡ n
+
+pub at_place : (found : Buffer Renamed) (i : ℕ) (r : Option (Bor Renamed)) (x : Bor Renamed) → option_copied r ≡ slice_get found.items i → r ≡ Some x → IsAt found i x.now
+at_place found i r x e is =
+    let got : slice_get found.items i ≡ Some x.now = sym e ∙ ap option_copied is in
+    record { within = slice_get_within found.items i x.now got; is = get_or_from_slice_get found.items i x.now x.now got }
+
+-- ---- its sources
+
+-- the sources of the instruction at a place are cells, which hold what is seen
+pub record HasSources (cells : List (Option ℕ)) (l : Lane) (i : ℕ) (n : Renamed) : Type 0 where
+  pub first_is_cell : n.first < length cells
+  pub second_is_cell : n.second < length cells
+  pub reads : Reads cells l i n
+
+pub has_sources : {A : Type 0} (d : Inside A) (now : Flow) (c k i : ℕ) (found : Buffer Renamed) (n : Renamed) → IsWiredUp d → Here d now c k found → IsAt found i n → HasSources d.registers.cells (lane now c) i n
+has_sources d now c k i found n up h at =
+    let used = sources_used d.registers.cells (bank d.registers c) found i n h.tied h.settled.wide at.within in
+    let read = reads d.registers.cells (bank d.registers c) found i n h.tied h.settled at.within in
+    record {
+      first_is_cell = used_is_cell d.registers c n.first up.file h.in_banks (rw at.is at used.first);
+      second_is_cell = used_is_cell d.registers c n.second up.file h.in_banks (rw at.is at used.second);
+      reads = rw h.lane_is (rw at.is at read);
+    }
+
+both_is : (a b x y : Option ℕ) → a ≡ x → b ≡ y → both a b ≡ both x y
+both_is a b x y e f = cc
+
+-- what they give
+pub given : (cells : List (Option ℕ)) (l : Lane) (i : ℕ) (n : Renamed) → Reads cells l i n → sources_at l i ≡ both (cell_of cells n.first) (cell_of cells n.second)
+given cells l i n r = rw r.operands (both_is (source_value (seen_at l i) n.operands.first) (source_value (seen_at l i) n.operands.second) (cell_of cells n.first) (cell_of cells n.second) (sym r.first) (sym r.second))
+
+both_none : (a : Option ℕ) → both a None ≡ None
+both_none None = refl
+both_none (Some v) = refl
+
+none_first : (cells : List (Option ℕ)) (l : Lane) (i : ℕ) (n : Renamed) → Reads cells l i n → cell_of cells n.first ≡ None → sources_at l i ≡ None
+none_first cells l i n r e = given cells l i n r ∙ ap (λ a. both a (cell_of cells n.second)) e
+
+none_second : (cells : List (Option ℕ)) (l : Lane) (i : ℕ) (n : Renamed) → Reads cells l i n → cell_of cells n.second ≡ None → sources_at l i ≡ None
+none_second cells l i n r e = given cells l i n r ∙ ap (both (cell_of cells n.first)) e ∙ both_none (cell_of cells n.first)
+
+some_both : (cells : List (Option ℕ)) (l : Lane) (i a b : ℕ) (n : Renamed) → Reads cells l i n → cell_of cells n.first ≡ Some a → cell_of cells n.second ≡ Some b → sources_at l i ≡ Some (a, b)
+some_both cells l i a b n r e f = given cells l i n r ∙ ap (λ x. both x (cell_of cells n.second)) e ∙ ap (both (Some a)) f
+
+-- the same of what was answered
+pub missing_first : (cells : List (Option ℕ)) (l : Lane) (i : ℕ) (n : Renamed) (answer : Option (ℕ × ℕ)) → Reads cells l i n → None ≡ cell_of cells n.first → answer ≡ None → answer ≡ sources_at l i
+missing_first cells l i n answer r e is = is ∙ sym (none_first cells l i n r (sym e))
+
+pub missing_second : (cells : List (Option ℕ)) (l : Lane) (i : ℕ) (n : Renamed) (answer : Option (ℕ × ℕ)) → Reads cells l i n → None ≡ cell_of cells n.second → answer ≡ None → answer ≡ sources_at l i
+missing_second cells l i n answer r e is = is ∙ sym (none_second cells l i n r (sym e))
+
+pub found_both : (cells : List (Option ℕ)) (l : Lane) (i a b : ℕ) (n : Renamed) → Reads cells l i n → Some a ≡ cell_of cells n.first → Some b ≡ cell_of cells n.second → Some (a, b) ≡ sources_at l i
+found_both cells l i a b n r e f = sym (some_both cells l i a b n r (sym e) (sym f))
+
+-- ---- whether it has a destination
+
+pub not_true : (b : Bool) → not b ≡ true → b ≡ false
+not_true true e = absurd cc
+not_true false e = refl
+
+pub not_false : (b : Bool) → not b ≡ false → b ≡ true
+not_false true e = refl
+not_false false e = absurd cc

@@ -1,0 +1,244 @@
+-- Each call, from the fields before it to the fields after it.
+use Rattle.std.proofs.Common.{◌≡◌, ℕ, ◌+◌, ◌-◌, ◌<◌, ◌≤◌, Bool, true, false, List, [], ◌∷◌, ◌++◌, length, get_or, take, drop, map, slice_get, Option, Some, refl, sym, ap, subst, ◌∙◌, arith}
+use Rattle.std.specs.Prelude.{set, sum_by, slice_index, IsSome, All, ◌==◌}
+use Rattle.std.specs.List.{list_any}
+use Rattle.std.proofs.lemmas.Bool.Decides.{nat_tests}
+use Rattle.std.proofs.lemmas.List.{length-set, get_or_default, set-get_or, take_more, take_all}
+use Rattle.std.proofs.lemmas.Option.{slice_get_within}
+use Rattle.std.proofs.lemmas.List.Sums.{get_or-le-sum_by}
+use Rattle.rename_file.specs.File.{Bank, bank, no_bank, File, uses_in, at, with_cell, committed_one, undone}
+use Rattle.rename_file.proofs.Uses.{used_once, committed_in_range, at_self}
+use Rattle.reorder_buffer.specs.Growing.{IsGrowing, below}
+use Rattle.reorder_buffer.proofs.Stamps.{take-below}
+use Rattle.circular_buffer.specs.Buffer.{Buffer, buffer}
+use Rattle.issue_queue.specs.Entry.{is_named}
+use Rattle.issue_queue.specs.IssueQueue.{IssueQueue, awake}
+use Rattle.data_flow.specs.declared.operands.Renamed.{Renamed}
+use Rattle.data_flow.specs.declared.data_flow.DataFlow.TheInside.{Inside}
+use Rattle.data_flow.specs.Flow.{Node, Lane, Waiter, Flow, lane, no_lane, no_node, node_at, with_lane, with_register, with_result, without_oldest, without_newest, waits_in, is_waiter}
+use Rattle.data_flow.specs.Wired.{node_of, lane_of, lanes_of, flow, waiter_of, IsTied, AreTied, IsWaiting, IsWiredUp, no_buffer, no_renamed}
+use Rattle.data_flow.proofs.Ties.{lanes-set, tied-set, get_or-map}
+use Rattle.data_flow.proofs.Cells.{same_all_tied, used_is_cell}
+use Rattle.data_flow.proofs.Calls.{stamp_of, finished, one_lane, finish_lane, set_lane, result_used, result_above, bank_past, commits, committable, IsCommittable, bank_before, undoes, undoable}
+use Rattle.data_flow.proofs.Places.{Here, here_unread}
+use Rattle.data_flow.proofs.Sources.{IsAt}
+use Rattle.data_flow.proofs.Waiters.{waiters_awake}
+use Rattle.data_flow.proofs.Waits.{waiting_finish, waiting_set, waiting_drop, waiting_take, waits_named}
+
+-- what fields show
+abbrev pub shown : File → List (Buffer Renamed) → IssueQueue → Flow
+shown r ns q = record { lanes = lanes_of r.cells r.banks ns; extra = length r.cells - 256; waiters = map waiter_of q.entries; places = q.capacity }
+
+-- the fields after a call, which show f
+pub record Leaves (r : File) (ns : List (Buffer Renamed)) (q : IssueQueue) (f : Flow) : Type 0 where
+  pub tied : AreTied r.cells r.banks ns
+  pub waiting : All (IsWaiting r.cells ns) q.entries
+  pub shows : shown r ns q ≡ f
+
+-- one lane is another, and nothing else
+pub one_changes : {A : Type 0} (d : Inside A) (now : Flow) (c : ℕ) (l : Lane) (r : File) (ns : List (Buffer Renamed)) (q : IssueQueue) → flow d ≡ now → lanes_of r.cells r.banks ns ≡ set now.lanes c l → length r.cells ≡ length d.registers.cells
+    → map waiter_of q.entries ≡ map waiter_of d.queue.entries → q.capacity ≡ d.queue.capacity → shown r ns q ≡ with_lane now c l
+one_changes d now c l r ns q shows lanes len waiters places =
+    let extra : length r.cells - 256 ≡ now.extra = ap (λ (n : ℕ). n - 256) len ∙ ap (λ (f : Flow). f.extra) shows in
+    let waiters' : map waiter_of q.entries ≡ now.waiters = waiters ∙ ap (λ (f : Flow). f.waiters) shows in
+    let places' : q.capacity ≡ now.places = places ∙ ap (λ (f : Flow). f.places) shows in
+    cc
+
+-- ---- a result
+
+-- the register of a result is a cell, and no x0
+pub record IsResult (cells : List (Option ℕ)) (p : ℕ) : Type 0 where
+  pub above : 8 ≤ p
+  pub in_range : p < length cells
+
+pub result_register : {A : Type 0} (d : Inside A) (now : Flow) (c k i : ℕ) (found : Buffer Renamed) (n : Renamed) → IsWiredUp d → Here d now c k found → IsAt found i n → (n.operands.destination == 0) ≡ false → IsResult d.registers.cells n.destination
+result_register d now c k i found n up h at has =
+    let has' : ((get_or found.items i n).operands.destination == 0) ≡ false = rw at.is has in
+    let used = result_used d.registers.cells (bank d.registers c) found i n h.tied at.within has' in
+    let above = result_above d.registers.cells (bank d.registers c) found i n h.tied (up.file.banks c h.below).renamed at.within has' in
+    record { above = rw at.is at above; in_range = used_is_cell d.registers c n.destination up.file h.in_banks (rw at.is at used) }
+
+pub finish_leaves : {A : Type 0} (d : Inside A) (now : Flow) (c k i v : ℕ) (found : Buffer Renamed) (n : Renamed) (r : File) (q : IssueQueue) → flow d ≡ now → IsWiredUp d → Here d now c k found → IsAt found i n → (n.operands.destination == 0) ≡ false
+    → r ≡ with_cell d.registers n.destination (Some v) → q ≡ record d.queue { entries = map (awake n.destination) d.queue.entries } → Leaves r d.renamed.items q (with_lane now c (with_result (lane now c) i v))
+finish_leaves d now c k i v found n r q shows up h at has r-is q-is =
+    let cells : List (Option ℕ) = d.registers.cells in
+    let p : ℕ = n.destination in
+    let has' : ((get_or found.items i n).operands.destination == 0) ≡ false = rw at.is has in
+    let p-is : (get_or found.items i n).destination ≡ p = ap (λ (x : Renamed). x.destination) at.is in
+    let used : 0 < uses_in p (bank d.registers c) = rw at.is at (result_used cells (bank d.registers c) found i n h.tied at.within has') in
+    let fits = used_is_cell d.registers c p up.file h.in_banks used in
+    let once : sum_by (uses_in p) d.registers.banks ≤ 1 = omega (arith, used_once d.registers p up.file) in
+    let here : lane_of (set cells p (Some v)) (bank d.registers c) found ≡ with_result (lane now c) i v =
+    finish_lane cells (bank d.registers c) found i p v n h.tied fits at.within has' p-is (omega (arith, get_or-le-sum_by (uses_in p) d.registers.banks c no_bank h.in_banks)) ∙ ap (λ (l : Lane). with_result l i v) (sym h.lane_is) in
+    let lanes : lanes_of (set cells p (Some v)) d.registers.banks d.renamed.items ≡ set now.lanes c (with_result (lane now c) i v) =
+    one_lane cells p (Some v) d.registers.banks d.renamed.items c (with_result (lane now c) i v) up.tied h.in_banks used once (rw h.place at here) ∙ ap (λ (ls : List Lane). set ls c (with_result (lane now c) i v)) (sym h.lanes) in
+    rw (r-is, q-is) (record {
+      tied = same_all_tied cells p (Some v) d.registers.banks d.renamed.items up.tied;
+      waiting = waiting_finish cells d.renamed.items p v d.queue.entries fits up.waiting;
+      shows = one_changes d now c (with_result (lane now c) i v) (with_cell d.registers p (Some v)) d.renamed.items (record d.queue { entries = map (awake p) d.queue.entries }) shows lanes (length-set cells p (Some v)) (waiters_awake p d.queue.entries) refl;
+    })
+
+-- an instruction without a destination stays as it is
+pub finish_none : {A : Type 0} (d : Inside A) (now : Flow) (c k i v : ℕ) (found : Buffer Renamed) (n : Renamed) → Here d now c k found → IsAt found i n → (n.operands.destination == 0) ≡ true → now ≡ with_lane now c (with_result (lane now c) i v)
+finish_none d now c k i v found n h at has =
+    let node-is : node_at (lane now c) i ≡ node_of d.registers.cells n = rw h.lane_is (get_or-map (node_of d.registers.cells) found.items i n no_node at.within ∙ ap (node_of d.registers.cells) at.is) in
+    let stays : finished (node_of d.registers.cells n) v ≡ node_of d.registers.cells n = rw has refl in
+    let fin : finished (node_at (lane now c) i) v ≡ node_at (lane now c) i = rw node-is stays in
+    let nodes : set (lane now c).nodes i (finished (node_at (lane now c) i) v) ≡ (lane now c).nodes = ap (set (lane now c).nodes i) fin ∙ set-get_or (lane now c).nodes i no_node in
+    let same : with_result (lane now c) i v ≡ lane now c = ap (λ (ns : List Node). let l : Lane = record (lane now c) { nodes = ns } in l) nodes in
+    let lanes : set now.lanes c (with_result (lane now c) i v) ≡ now.lanes = ap (set now.lanes c) same ∙ set-get_or now.lanes c no_lane in
+    ap (λ (ls : List Lane). let f : Flow = record now { lanes = ls } in f) (sym lanes)
+
+-- ---- a committed register
+
+pub set_leaves : {A : Type 0} (d : Inside A) (now : Flow) (c x y v : ℕ) (r : File) → flow d ≡ now → IsWiredUp d → c < 8 → y ≡ x → y < 32 → r ≡ with_cell d.registers (slice_index (bank d.registers c).committed y) (Some v)
+    → Leaves r d.renamed.items d.queue (with_lane now c (with_register (lane now c) x v))
+set_leaves d now c x y v r shows up lt same below r-is =
+    let narrow : x < 32 = omega arith in
+    let r-is' : r ≡ with_cell d.registers (slice_index (bank d.registers c).committed x) (Some v) = r-is ∙ ap (λ j. with_cell d.registers (slice_index (bank d.registers c).committed j) (Some v)) same in
+    let cells : List (Option ℕ) = d.registers.cells in
+    let b : Bank = bank d.registers c in
+    let p : ℕ = slice_index b.committed x in
+    let found : Buffer Renamed = get_or d.renamed.items c no_buffer in
+    let h = here_unread d now c shows up lt in
+    let fits = committed_in_range d.registers c x up.file lt narrow in
+    let in_bank : x < length b.committed = omega (arith, h.settled.wide) in
+    let used : 0 < uses_in p b = omega (arith, get_or-le-sum_by (at p) b.committed x 0 in_bank, at_self p) in
+    let once : sum_by (uses_in p) d.registers.banks ≤ 1 = omega (arith, used_once d.registers p up.file) in
+    let l : Lane = with_register (lane now c) x v in
+    let here : lane_of (set cells p (Some v)) b found ≡ l =
+    set_lane cells b found x p v h.tied fits in_bank refl (omega (arith, get_or-le-sum_by (uses_in p) d.registers.banks c no_bank h.in_banks)) ∙ ap (λ (z : Lane). with_register z x v) (sym h.lane_is) in
+    let lanes : lanes_of (set cells p (Some v)) d.registers.banks d.renamed.items ≡ set now.lanes c l =
+    one_lane cells p (Some v) d.registers.banks d.renamed.items c l up.tied h.in_banks used once here ∙ ap (λ (ls : List Lane). set ls c l) (sym h.lanes) in
+    rw r-is' (record {
+      tied = same_all_tied cells p (Some v) d.registers.banks d.renamed.items up.tied;
+      waiting = waiting_set cells d.renamed.items p v d.queue.entries (h.settled.valued x narrow) up.waiting;
+      shows = one_changes d now c l (with_cell d.registers p (Some v)) d.renamed.items d.queue shows lanes (length-set cells p (Some v)) refl refl;
+    })
+
+-- ---- one bank and its buffer change, and the values stay
+
+leaves : {A : Type 0} (d : Inside A) (now : Flow) (c k : ℕ) (found left : Buffer Renamed) (r : File) (b : Bank) (l : Lane) → flow d ≡ now → IsWiredUp d → Here d now c k found → r.banks ≡ set d.registers.banks c b → r.cells ≡ d.registers.cells
+    → IsTied d.registers.cells b left → lane_of d.registers.cells b left ≡ l → All (IsWaiting d.registers.cells (set d.renamed.items c left)) d.queue.entries → Leaves r (set d.renamed.items k left) d.queue (with_lane now c l)
+leaves d now c k found left r b l shows up h banks cells tied lane-is waiting =
+    let lanes : lanes_of d.registers.cells (set d.registers.banks c b) (set d.renamed.items c left) ≡ set now.lanes c l =
+    lanes-set d.registers.cells d.registers.banks d.renamed.items c b left ∙ ap (set (lanes_of d.registers.cells d.registers.banks d.renamed.items) c) lane-is ∙ ap (λ (ls : List Lane). set ls c l) (sym h.lanes) in
+    rw h.index (record {
+      tied = rw (cells, banks) (tied-set d.registers.cells d.registers.banks d.renamed.items c b left up.tied tied);
+      waiting = rw cells waiting;
+      shows = one_changes d now c l r (set d.renamed.items c left) d.queue shows (rw (cells, banks) lanes) (ap length cells) refl refl;
+    })
+
+-- an instruction that doesn't wait
+pub idle_at : {A : Type 0} (d : Inside A) (now : Flow) (c k i : ℕ) (found : Buffer Renamed) → flow d ≡ now → Here d now c k found → i < length found.items → waits_in now c (node_at (lane now c) i).operands.stamp ≡ false
+    → list_any (is_named c (get_or found.items i no_renamed).operands.stamp) d.queue.entries ≡ false
+idle_at d now c k i found shows h lt idle =
+    let node-is : node_at (lane now c) i ≡ node_of d.registers.cells (get_or found.items i no_renamed) = rw h.lane_is (get_or-map (node_of d.registers.cells) found.items i no_renamed no_node lt) in
+    let waiters : map waiter_of d.queue.entries ≡ now.waiters = ap (λ (f : Flow). f.waiters) shows in
+    let stamp : ℕ = (get_or found.items i no_renamed).operands.stamp in
+    waits_named c stamp d.queue.entries ∙ ap (λ (ws : List Waiter). list_any (is_waiter c stamp) ws) waiters ∙ ap (λ (n : Node). waits_in now c n.operands.stamp) (sym node-is) ∙ idle
+
+-- ---- the oldest
+
+-- the oldest instruction of a buffer, and the others
+pub record IsFront (found : Buffer Renamed) (n : Renamed) : Type 0 where
+  pub is : found ≡ buffer (n ∷ drop 1 found.items) found.capacity
+  pub some : 0 < length found.items
+
+pub front_is : (found : Buffer Renamed) (n : Renamed) → slice_get found.items 0 ≡ Some n → IsFront found n
+front_is found n e =
+    let split = split_front found.items n e in
+    record { is = ap (λ (ns : List Renamed). buffer ns found.capacity) split; some = slice_get_within found.items 0 n e }
+  where
+    split_front : (ns : List Renamed) (n : Renamed) → slice_get ns 0 ≡ Some n → ns ≡ n ∷ drop 1 ns
+    split_front [] n e = absurd cc
+    split_front (x ∷ ns) n e = cc
+
+-- what committing asks
+pub commit_asks : {A : Type 0} (d : Inside A) (now : Flow) (c k : ℕ) (found : Buffer Renamed) (n : Renamed) → Here d now c k found → IsFront found n → (n.operands.destination == 0) ≡ false
+    → (0 < (node_at (lane now c) 0).operands.destination → IsSome (node_at (lane now c) 0).result) → IsCommittable d.registers.cells (bank d.registers c)
+commit_asks d now c k found n h front has done =
+    let cells : List (Option ℕ) = d.registers.cells in
+    let tied : IsTied cells (bank d.registers c) (buffer (n ∷ drop 1 found.items) found.capacity) = subst (IsTied cells (bank d.registers c)) front.is h.tied in
+    let lane-is : lane now c ≡ lane_of cells (bank d.registers c) (buffer (n ∷ drop 1 found.items) found.capacity) = h.lane_is ∙ ap (lane_of cells (bank d.registers c)) front.is in
+    let node-is : node_at (lane now c) 0 ≡ node_of cells n = rw lane-is refl in
+    let named : 0 < n.operands.destination = grind (arith, nat_tests) in
+    let done' : IsSome (node_of cells n).result = subst (λ (x : Node). 0 < x.operands.destination → IsSome x.result) node-is done named in
+    committable cells (bank d.registers c) n (drop 1 found.items) found.capacity tied has done'
+
+pub commit_leaves : {A : Type 0} (d : Inside A) (now : Flow) (c k : ℕ) (found left : Buffer Renamed) (n : Renamed) (r : File) → flow d ≡ now → IsWiredUp d → Here d now c k found → IsFront found n
+    → waits_in now c (node_at (lane now c) 0).operands.stamp ≡ false → left ≡ buffer (drop 1 found.items) found.capacity → IsGrowing stamp_of left.items
+    → r.banks ≡ set d.registers.banks c (bank_past (bank d.registers c) (n.operands.destination == 0)) → r.cells ≡ d.registers.cells → Leaves r (set d.renamed.items k left) d.queue (with_lane now c (without_oldest (lane now c)))
+commit_leaves d now c k found left n r shows up h front idle left-is growing banks cells-are =
+    let cells : List (Option ℕ) = d.registers.cells in
+    let b : Bank = bank d.registers c in
+    let rest : List Renamed = drop 1 found.items in
+    let tied : IsTied cells b (buffer (n ∷ rest) found.capacity) = subst (IsTied cells b) front.is h.tied in
+    let lane-is : lane now c ≡ lane_of cells b (buffer (n ∷ rest) found.capacity) = h.lane_is ∙ ap (lane_of cells b) front.is in
+    let growing' : IsGrowing stamp_of rest = subst (λ (x : Buffer Renamed). IsGrowing stamp_of x.items) left-is growing in
+    let step = commits cells b n rest found.capacity tied growing' in
+    let waits = waiting_drop cells d.renamed.items c d.queue.entries h.in_buffers (rw h.place at (idle_at d now c k 0 found shows h front.some idle)) up.waiting in
+    leaves d now c k found left r (bank_past b (n.operands.destination == 0)) (without_oldest (lane now c)) shows up h banks cells-are (rw left-is step.tied)
+    (rw left-is (step.lane ∙ ap without_oldest (sym lane-is))) (rw (left-is, h.place) waits)
+
+-- without a destination no bank changes
+pub no_commit : {A : Type 0} (d : Inside A) (c : ℕ) (none : Bool) → none ≡ true → d.registers.banks ≡ set d.registers.banks c (bank_past (bank d.registers c) none)
+no_commit d c true e = sym (set-get_or d.registers.banks c no_bank)
+no_commit d c false e = absurd cc
+
+pub one_commit : {A : Type 0} (d : Inside A) (c : ℕ) (none : Bool) (r : File) → none ≡ false → r ≡ committed_one d.registers c → r.banks ≡ set d.registers.banks c (bank_past (bank d.registers c) none)
+one_commit d c true r e r-is = absurd cc
+one_commit d c false r e r-is = ap (λ (f : File). f.banks) r-is
+
+-- ---- the youngest
+
+-- the youngest instruction of a buffer, and the others
+pub record IsBack (found : Buffer Renamed) (n : Renamed) : Type 0 where
+  pub is : found ≡ buffer (take (length found.items - 1) found.items ++ n ∷ []) found.capacity
+  pub some : 0 < length found.items
+  pub below : below stamp_of n.operands.stamp found.items ≡ take (length found.items - 1) found.items
+  pub at : IsAt found (length found.items - 1) n
+
+pub back_is : (found : Buffer Renamed) (n : Renamed) → IsGrowing stamp_of found.items → IsAt found (length found.items - 1) n → IsBack found n
+back_is found n growing at =
+    let xs : List Renamed = found.items in
+    let k : ℕ = length xs - 1 in
+    let one : k + 1 ≡ length xs = omega (arith, at.within) in
+    let whole : take (k + 1) xs ≡ xs = take_all (k + 1) xs (omega arith) in
+    let split : xs ≡ take k xs ++ n ∷ [] = sym whole ∙ take_more xs k n at.within ∙ ap (λ (x : Renamed). take k xs ++ x ∷ []) at.is in
+    let last : (e : Renamed) → stamp_of (get_or xs k e) ≡ n.operands.stamp = λ e. ap stamp_of (get_or_default xs k e n at.within ∙ at.is) in
+    record {
+      is = ap (λ (ns : List Renamed). buffer ns found.capacity) split;
+      some = omega (arith, at.within);
+      below = sym (take-below stamp_of n.operands.stamp k xs (omega arith) (λ i e lt. omega (arith, growing i k e lt at.within, last e)) (λ i e le lt. let same : i ≡ k = omega arith in omega (arith, last e, ap (λ j. stamp_of (get_or xs j e)) same)));
+      at = at;
+    }
+
+pub undo_asks : {A : Type 0} (d : Inside A) (now : Flow) (c k : ℕ) (found : Buffer Renamed) (n : Renamed) → Here d now c k found → IsBack found n → (n.operands.destination == 0) ≡ false → 0 < length (bank d.registers c).renames
+undo_asks d now c k found n h back has =
+    undoable d.registers.cells (bank d.registers c) n (take (length found.items - 1) found.items) found.capacity (subst (IsTied d.registers.cells (bank d.registers c)) back.is h.tied) has
+
+pub undo_leaves : {A : Type 0} (d : Inside A) (now : Flow) (c k : ℕ) (found left : Buffer Renamed) (n : Renamed) (r : File) → flow d ≡ now → IsWiredUp d → Here d now c k found → IsBack found n
+    → waits_in now c (node_at (lane now c) (length (lane now c).nodes - 1)).operands.stamp ≡ false → left ≡ buffer (below stamp_of n.operands.stamp found.items) found.capacity → IsGrowing stamp_of left.items
+    → r.banks ≡ set d.registers.banks c (bank_before (bank d.registers c) (n.operands.destination == 0)) → r.cells ≡ d.registers.cells → Leaves r (set d.renamed.items k left) d.queue (with_lane now c (without_newest (lane now c)))
+undo_leaves d now c k found left n r shows up h back idle left-is growing banks cells-are =
+    let cells : List (Option ℕ) = d.registers.cells in
+    let b : Bank = bank d.registers c in
+    let front : List Renamed = take (length found.items - 1) found.items in
+    let left-is' : left ≡ buffer front found.capacity = left-is ∙ ap (λ (ns : List Renamed). buffer ns found.capacity) back.below in
+    let tied : IsTied cells b (buffer (front ++ n ∷ []) found.capacity) = subst (IsTied cells b) back.is h.tied in
+    let lane-is : lane now c ≡ lane_of cells b (buffer (front ++ n ∷ []) found.capacity) = h.lane_is ∙ ap (lane_of cells b) back.is in
+    let growing' : IsGrowing stamp_of front = subst (λ (x : Buffer Renamed). IsGrowing stamp_of x.items) left-is' growing in
+    let step = undoes cells b n front found.capacity tied growing' in
+    let idle' : waits_in now c (node_at (lane now c) (length found.items - 1)).operands.stamp ≡ false = rw h.count at idle in
+    let waits = waiting_take cells d.renamed.items c d.queue.entries h.in_buffers (rw h.place at (idle_at d now c k (length found.items - 1) found shows h back.at.within idle')) up.waiting in
+    leaves d now c k found left r (bank_before b (n.operands.destination == 0)) (without_newest (lane now c)) shows up h banks cells-are (rw left-is' step.tied)
+    (rw left-is' (step.lane ∙ ap without_newest (sym lane-is))) (rw (left-is', h.place) waits)
+
+pub no_undo : {A : Type 0} (d : Inside A) (c : ℕ) (none : Bool) → none ≡ true → d.registers.banks ≡ set d.registers.banks c (bank_before (bank d.registers c) none)
+no_undo d c true e = sym (set-get_or d.registers.banks c no_bank)
+no_undo d c false e = absurd cc
+
+pub one_undo : {A : Type 0} (d : Inside A) (c : ℕ) (none : Bool) (r : File) → none ≡ false → r ≡ undone d.registers c → r.banks ≡ set d.registers.banks c (bank_before (bank d.registers c) none)
+one_undo d c true r e r-is = absurd cc
+one_undo d c false r e r-is = ap (λ (f : File). f.banks) r-is

@@ -1,0 +1,4 @@
+pub mod Flow
+pub mod Banks
+pub mod Wired
+pub mod Worked

@@ -1,0 +1,311 @@
+//! The data flow of eight contexts: registers, renaming, and the queue of what waits for its sources.
+
+ghost use Rattle.std.specs.Prelude.{◌≡◌, ℕ, ◌+◌, ◌-◌, ◌<◌, ◌≤◌, ◌↔◌, [], ◌∷◌, ◌++◌, false, length, map, option_map, All, IfOk, OnErr, IsOk, IsSome, IsTrue, Err, slice_set, count_by, ◌==◌, ◌&&◌};
+ghost use Rattle.std.specs.Option.{option_to_list};
+ghost use Rattle.circular_buffer.specs.Buffer.{last_item};
+ghost use Rattle.issue_queue.specs.Views.{view_of};
+ghost use Rattle.issue_queue.specs.IsSelected.{IsSelected};
+ghost use Rattle.issue_queue.specs.Stamps.{place_of_oldest};
+ghost use Rattle.rename_file.specs.File.{IsFile, bank};
+ghost use Rattle.data_flow.specs.Banks.{bank_with, CellsWith};
+ghost use Rattle.data_flow.specs.Wired.{unready};
+ghost use Rattle.data_flow.specs.Flow.{lane, node_at, sources_at, with_lane, with_register, with_node, with_result, without_oldest, cut_from, without_newest, is_waiter_from, cut_flow, takes, taken, waits_in, with_speculative, with_held, queued, first_flow};
+
+use crate::operands::{Operands, Renamed};
+use arrayvec::ArrayVec;
+use issue_queue::{Order, Queue, Selected, Waiting};
+use join_law::Ctx;
+use rename_file::{PhysicalRegister, Registers, RenameFault};
+use reorder_buffer::Ring;
+use rv64_decode::Register;
+use std::alloc::{AllocError, Allocator, Global};
+use std::marker::Model;
+
+/// What the instructions in flight compute with. No call but `new` takes memory.
+#[derive(Drop)]
+pub struct DataFlow<A: Allocator = Global> {
+    registers: Registers<A>,
+    renamed: Vec<Ring<Renamed, A>, A>,
+    queue: Queue,
+}
+
+impl<A: Allocator> Model for DataFlow<A> {
+    ghost use Rattle.data_flow.specs.Flow.{Flow};
+    ghost use Rattle.data_flow.specs.Wired.{flow, IsWiredUp};
+
+    ghost Value = { Flow };
+
+    ghost view = { flow };
+
+    ghost invariant = { IsWiredUp };
+}
+
+impl<A: Allocator + Copy> DataFlow<A> {
+    /// Eight contexts with all registers 0, so many extra registers for all, room for so many instructions in flight
+    /// in each context, and a queue of so many places.
+    pub fn new(alloc: A, extra: usize, room: usize, places: usize) -> Result<Self, AllocError>
+        requires extra { (32 ≤ extra) × (extra ≤ 224) }
+        requires places { places ≤ 64 }
+        ensures { IfOk result (λ d. d ≡ first_flow extra room places) }
+    {
+        let Ok(registers) = Registers::new(alloc, extra) else {
+            return Err(AllocError);
+        };
+        let mut renamed = Vec::new(alloc);
+        for _context in 0..8usize {
+            let Ok(ring) = Ring::new(alloc, room) else {
+                return Err(AllocError);
+            };
+            renamed.push(ring).map_err(AllocError::from)?;
+        }
+        Ok(DataFlow {
+            registers,
+            renamed,
+            queue: Queue::new(places),
+        })
+    }
+}
+
+impl<A: Allocator> DataFlow<A> {
+    /// Sets a committed register, which isn't x0.
+    pub fn set_register(&mut self, context: Ctx, register: Register, value: u64)
+        requires { 0 < register }
+        ensures { self.new ≡ with_lane self.old context (with_register (lane self.old context) register value) }
+    {
+        // A context's number is below 8.
+        let _number = context.index();
+        self.registers
+            .set_committed(context, register.index(), value);
+    }
+
+    /// How many more instructions with a destination there may be.
+    pub fn free_count(&self) -> usize
+        ensures { result + taken self.now ≡ self.now.extra }
+    {
+        self.registers.free_count()
+    }
+
+    /// The values of the sources of the instruction at a place, once both are there.
+    pub fn sources(&self, context: Ctx, place: usize) -> Option<(u64, u64)>
+        requires { place < length (lane self.now context).nodes }
+        ensures { result ≡ sources_at (lane self.now context) place }
+    {
+        let ring = &self.renamed[context.index()];
+        let renamed = ring.get(place).unwrap();
+        let first = self.registers.value(renamed.first)?;
+        let second = self.registers.value(renamed.second)?;
+        Some((first, second))
+    }
+
+    /// One more instruction of a context, the youngest.
+    pub fn rename(&mut self, context: Ctx, operands: Operands)
+        requires younger { All (λ n. n.operands.stamp < operands.stamp) (lane self.old context).nodes }
+        requires room { length (lane self.old context).nodes < (lane self.old context).room }
+        requires free { 0 < operands.destination → taken self.old < self.old.extra }
+        ensures { self.new ≡ with_lane self.old context (with_node (lane self.old context) operands) }
+    {
+        let first = self.registers.source(context, operands.first.index());
+        let second = self.registers.source(context, operands.second.index());
+        let destination = rename_in(&mut self.registers, context, operands.destination);
+        let ring = &mut self.renamed[context.index()];
+        let _pushed = ring.push(Renamed {
+            operands,
+            destination,
+            first,
+            second,
+        });
+    }
+
+    /// The youngest instruction of a context waits for issue.
+    pub fn wait(&mut self, context: Ctx, guessed: bool, speculative: bool)
+        requires some { 0 < length (lane self.old context).nodes }
+        requires fresh { waits_in self.old context (node_at (lane self.old context) (length (lane self.old context).nodes - 1)).operands.stamp ≡ false }
+        requires room { length self.old.waiters < self.old.places }
+        ensures { self.new ≡ record self.old {
+          waiters = self.old.waiters ++ record {
+            stamp = (node_at (lane self.old context) (length (lane self.old context).nodes - 1)).operands.stamp;
+            context = context;
+            guessed = guessed;
+            speculative = speculative;
+            held = false;
+          } ∷ [];
+        } }
+    {
+        let ring = &self.renamed[context.index()];
+        let newest = *ring.last().unwrap();
+        let first = awaited(&self.registers, newest.first);
+        let second = awaited(&self.registers, newest.second);
+        let _put = self.queue.put(Waiting {
+            context,
+            stamp: newest.operands.stamp,
+            guessed,
+            speculative,
+            sources: [first, second],
+        });
+    }
+
+    /// The instruction at a place has its result.
+    pub fn finish(&mut self, context: Ctx, place: usize, value: u64)
+        requires { place < length (lane self.old context).nodes }
+        ensures { self.new ≡ with_lane self.old context (with_result (lane self.old context) place value) }
+    {
+        let ring = &self.renamed[context.index()];
+        let renamed = ring.get(place).unwrap();
+        if !renamed.has_destination() {
+            return;
+        }
+        let destination = renamed.destination;
+        self.registers.write(destination, value);
+        self.queue.wake(destination);
+    }
+
+    /// The oldest instruction of a context is committed.
+    pub fn commit(&mut self, context: Ctx)
+        requires some { 0 < length (lane self.old context).nodes }
+        requires done { 0 < (node_at (lane self.old context) 0).operands.destination → IsSome (node_at (lane self.old context) 0).result }
+        requires idle { waits_in self.old context (node_at (lane self.old context) 0).operands.stamp ≡ false }
+        ensures { self.new ≡ with_lane self.old context (without_oldest (lane self.old context)) }
+    {
+        let ring = &mut self.renamed[context.index()];
+        let oldest = ring.retire().unwrap();
+        if oldest.has_destination() {
+            self.registers.commit(context);
+        }
+    }
+
+    /// The instructions of a context from a stamp on are forgotten, youngest first.
+    pub fn cut_from(&mut self, context: Ctx, stamp: u64)
+        ensures { self.new ≡ cut_flow self.old context stamp }
+    {
+        self.queue.drop_from(context, stamp);
+        self.undo_from(context, stamp);
+    }
+
+    // The same of instructions that don't wait.
+    fn undo_from(&mut self, context: Ctx, stamp: u64)
+        requires { All (λ w. is_waiter_from context stamp w ≡ false) self.old.waiters }
+        ensures { self.new ≡ with_lane self.old context (cut_from (lane self.old context) stamp) }
+    {
+        let len = self.renamed[context.index()].len();
+        for _done in 0..len {
+            let Some(newest) = self.newest_stamp(context) else {
+                return;
+            };
+            if newest < stamp {
+                return;
+            }
+            self.undo_newest(context);
+        }
+    }
+
+    // The stamp of the youngest instruction of a context.
+    fn newest_stamp(&self, context: Ctx) -> Option<u64>
+        ensures { result ≡ option_map (λ n. n.operands.stamp) (last_item (lane self.now context).nodes) }
+    {
+        let ring = &self.renamed[context.index()];
+        let newest = ring.last()?;
+        Some(newest.operands.stamp)
+    }
+
+    // The youngest instruction of a context, which doesn't wait, is forgotten.
+    fn undo_newest(&mut self, context: Ctx)
+        requires some { 0 < length (lane self.old context).nodes }
+        requires idle { waits_in self.old context (node_at (lane self.old context) (length (lane self.old context).nodes - 1)).operands.stamp ≡ false }
+        ensures { self.new ≡ with_lane self.old context (without_newest (lane self.old context)) }
+    {
+        let ring = &mut self.renamed[context.index()];
+        let newest = *ring.last().unwrap();
+        ring.cut_from(newest.operands.stamp);
+        if newest.has_destination() {
+            self.registers.undo(context);
+        }
+    }
+
+    /// Removes the first instructions by an order that have the values of their sources, at most so many, from those
+    /// that wait, and gives their names in that order.
+    pub fn select<O: Order>(&mut self, order: &O, width: usize) -> ArrayVec<Selected, 8>
+        requires { width ≤ 8 }
+        ensures lanes { self.new ≡ record self.old { waiters = self.new.waiters } }
+        ensures selected { IsSelected (λ e. O.key_of order.now (view_of e)) width (queued self.old) (queued self.new) result.items }
+    {
+        self.queue.select(order, width)
+    }
+
+    /// Tells whether an older guessed instruction of its context has not completed, of one that waits.
+    pub fn speculate(&mut self, context: Ctx, stamp: u64, speculative: bool)
+        ensures { self.new ≡ record self.old { waiters = map (with_speculative context stamp speculative) self.old.waiters } }
+    {
+        self.queue.speculate(context, stamp, speculative);
+    }
+
+    /// Holds a load that waits, or lets it go.
+    pub fn hold(&mut self, context: Ctx, stamp: u64, held: bool)
+        ensures { self.new ≡ record self.old { waiters = map (with_held context stamp held) self.old.waiters } }
+    {
+        self.queue.hold(context, stamp, held);
+    }
+
+    /// Whether one more instruction can wait.
+    pub fn has_place(&self) -> bool
+        ensures { IsTrue result ↔ (length self.now.waiters < self.now.places) }
+    {
+        self.queue.len() < self.queue.capacity()
+    }
+
+    /// How many instructions of a context wait.
+    pub fn waiting_count(&self, context: Ctx) -> usize
+        ensures { result ≡ count_by (λ w. w.context == context) self.now.waiters }
+    {
+        self.queue.count(context)
+    }
+
+    /// How many guessed instructions of a context wait.
+    pub fn guessed_count(&self, context: Ctx) -> usize
+        ensures { result ≡ count_by (λ w. (w.context == context) && w.guessed) self.now.waiters }
+    {
+        self.queue.guessed_count(context)
+    }
+
+    /// How many instructions that wait are older than the oldest of a context, or `None` where none of it waits.
+    pub fn oldest_place(&self, context: Ctx) -> Option<usize>
+        ensures { result ≡ place_of_oldest context (queued self.now) }
+    {
+        self.queue.oldest_place(context)
+    }
+}
+
+/// The physical register for the result of one more instruction: one that was free, where it has a destination.
+fn rename_in<A: Allocator>(
+    registers: &mut Registers<A>,
+    context: Ctx,
+    destination: Register,
+) -> PhysicalRegister
+    requires { 0 < destination → 0 < length registers.old.free }
+    ensures banks { registers.new.banks ≡ slice_set registers.old.banks context (bank_with (bank registers.old context) destination result) }
+    ensures cells { CellsWith registers.old registers.new destination result }
+    ensures narrow { destination < 32 }
+    ensures file { IsFile registers.old → IsFile registers.new }
+{
+    if destination.index() == 0 {
+        return registers.source(context, 0);
+    }
+    let Ok(register) = registers.rename(context, destination.index()) else {
+        return registers.source(context, 0);
+    };
+    register
+}
+
+/// A register, where it has no value yet.
+fn awaited<A: Allocator>(
+    registers: &Registers<A>,
+    register: PhysicalRegister,
+) -> Option<PhysicalRegister>
+    requires { register < length registers.now.cells }
+    ensures { option_to_list result ≡ unready registers.now.cells register }
+{
+    if registers.ready(register) {
+        None
+    } else {
+        Some(register)
+    }
+}

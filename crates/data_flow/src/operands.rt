@@ -1,0 +1,50 @@
+//! The registers of an instruction in flight.
+
+ghost use Rattle.std.specs.Prelude.{◌≡◌, ◌==◌, not};
+
+use rename_file::PhysicalRegister;
+use reorder_buffer::Stamped;
+use rv64_decode::Register;
+
+/// The registers that an instruction in flight names: x0 where it has none.
+#[derive(Clone, Copy, Debug, PartialEq, Eq)]
+pub struct Operands {
+    /// Its stamp, which grows within its context.
+    pub stamp: u64,
+    /// The register that its result goes to.
+    pub destination: Register,
+    /// The register of its first source.
+    pub first: Register,
+    /// The register of its second source.
+    pub second: Register,
+}
+
+/// An instruction with the physical registers that these stand for.
+#[derive(Clone, Copy, Debug, PartialEq, Eq)]
+pub(crate) struct Renamed {
+    /// The registers that it names.
+    pub operands: Operands,
+    /// The physical register of its result. It is of no use where it has no destination.
+    pub destination: PhysicalRegister,
+    /// The physical register of its first source.
+    pub first: PhysicalRegister,
+    /// The physical register of its second source.
+    pub second: PhysicalRegister,
+}
+
+impl Renamed {
+    /// Whether it has a result that others may read.
+    pub fn has_destination(&self) -> bool
+        ensures { result ≡ not (self.now.operands.destination == 0) }
+    {
+        self.operands.destination.index() != 0
+    }
+}
+
+impl Stamped for Renamed {
+    ghost stamp_of = { λ n. n.operands.stamp };
+
+    fn stamp(&self) -> u64 {
+        self.operands.stamp
+    }
+}

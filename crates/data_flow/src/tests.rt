@@ -1,0 +1,157 @@
+//! A worked flow.
+ghost use Rattle.std.specs.Prelude.{◌≡◌, ◌<◌, IfOk, IsSome, length};
+ghost use Rattle.data_flow.specs.Flow.{lane, node_at, with_lane, without_oldest};
+ghost use Rattle.data_flow.specs.Worked.{named, with_x1, of_three, finished};
+
+use crate::{DataFlow, Operands};
+use issue_queue::{OldestFirst, Order, SpecLast};
+use join_law::Ctx;
+use rv64_decode::Register;
+use std::alloc::Global;
+use std::process::Abort;
+use std::test::Fail;
+
+// The registers of an instruction, by their numbers.
+fn named(stamp: u64, destination: u8, first: u8, second: u8) -> Operands
+    requires destination { destination < 32 }
+    requires first { first < 32 }
+    requires second { second < 32 }
+    ensures { result ≡ named stamp destination first second }
+{
+    Operands {
+        stamp,
+        destination: Register::new(destination),
+        first: Register::new(first),
+        second: Register::new(second),
+    }
+}
+
+// Contexts 0 and 1 hold 10 and 20 in x1.
+fn with_x1(alloc: Global) -> Result<DataFlow, Fail>
+    ensures { IfOk result (λ d. d ≡ with_x1) }
+{
+    let mut flow = DataFlow::new(alloc, 32, 4, 8)?;
+    let [first, second, ..] = Ctx::all();
+    flow.set_register(first, Register::new(1), 10);
+    flow.set_register(second, Register::new(1), 20);
+    Ok(flow)
+}
+
+// In context 0 an instruction makes x5 of x1, and the next makes x5 of that. One of context 1 makes x6 of x1.
+fn of_three(alloc: Global) -> Result<DataFlow, Fail>
+    ensures { IfOk result (λ d. d ≡ of_three) }
+{
+    let mut flow = with_x1(alloc)?;
+    let [first, second, ..] = Ctx::all();
+    flow.rename(first, named(1, 5, 1, 0));
+    flow.wait(first, false, false);
+    flow.rename(first, named(2, 5, 5, 1));
+    flow.wait(first, true, false);
+    flow.rename(second, named(3, 6, 1, 1));
+    flow.wait(second, false, false);
+    Ok(flow)
+}
+
+// By an order these are taken of what waits, first to last.
+fn assert_selected<O: Order>(rt: &impl Abort, flow: &mut DataFlow, order: &O, stamps: &[u64])
+    ensures { flow.new ≡ record flow.old { waiters = flow.new.waiters } }
+{
+    let selected = flow.select(order, 8);
+    assert_eq!(rt; selected.len(), stamps.len());
+    for (entry, stamp) in selected.as_slice().iter().zip(stamps) {
+        assert_eq!(rt; entry.stamp, *stamp);
+    }
+}
+
+// Commits the oldest of a context of which none waits.
+fn commit(rt: &impl Abort, flow: &mut DataFlow, context: Ctx)
+    requires some { 0 < length (lane flow.old context).nodes }
+    requires done { 0 < (node_at (lane flow.old context) 0).operands.destination → IsSome (node_at (lane flow.old context) 0).result }
+    ensures { flow.new ≡ with_lane flow.old context (without_oldest (lane flow.old context)) }
+{
+    assert!(rt; flow.waiting_count(context) == 0);
+    flow.commit(context);
+}
+
+// Both instructions of context 0 are issued and finished, the second once it has the result of the first.
+fn finish_two(rt: &impl Abort, flow: &mut DataFlow)
+    requires { flow.old ≡ of_three }
+    ensures lanes { flow.new.lanes ≡ finished.lanes }
+    ensures extra { flow.new.extra ≡ 32 }
+{
+    let [first, second, ..] = Ctx::all();
+    assert_eq!(rt; flow.sources(first, 0), Some((10, 0)));
+    assert_eq!(rt; flow.sources(first, 1), None);
+    assert_eq!(rt; flow.sources(second, 0), Some((20, 20)));
+    assert_selected(rt, flow, &OldestFirst, &[1, 3]);
+    flow.finish(first, 0, 15);
+    assert_eq!(rt; flow.sources(first, 1), Some((15, 10)));
+    assert_selected(rt, flow, &OldestFirst, &[2]);
+    flow.finish(first, 1, 25);
+}
+
+#[test]
+fn waits_for_an_older_result(rt: HostRuntime) -> Result<(), Fail> {
+    let mut flow = of_three(rt.alloc())?;
+    let [first, ..] = Ctx::all();
+    finish_two(&rt, &mut flow);
+    commit(&rt, &mut flow, first);
+    commit(&rt, &mut flow, first);
+    assert_eq!(rt; flow.free_count(), 31);
+    flow.rename(first, named(4, 0, 5, 1));
+    assert_eq!(rt; flow.sources(first, 0), Some((25, 10)));
+    Ok(())
+}
+
+#[test]
+fn restores_an_older_value(rt: HostRuntime) -> Result<(), Fail> {
+    let mut flow = with_x1(rt.alloc())?;
+    let [first, ..] = Ctx::all();
+    flow.rename(first, named(1, 5, 1, 0));
+    flow.finish(first, 0, 15);
+    flow.rename(first, named(2, 5, 5, 1));
+    flow.cut_from(first, 2);
+    flow.rename(first, named(3, 0, 5, 1));
+    assert_eq!(rt; flow.sources(first, 1), Some((15, 10)));
+    flow.cut_from(first, 1);
+    flow.rename(first, named(4, 0, 5, 1));
+    assert_eq!(rt; flow.sources(first, 0), Some((0, 10)));
+    Ok(())
+}
+
+#[test]
+fn counts_what_waits(rt: HostRuntime) -> Result<(), Fail> {
+    let mut flow = of_three(rt.alloc())?;
+    let [first, second, third, ..] = Ctx::all();
+    assert_eq!(rt; flow.free_count(), 29);
+    assert!(rt; flow.has_place());
+    assert_eq!(rt; flow.waiting_count(first), 2);
+    assert_eq!(rt; flow.guessed_count(first), 1);
+    assert_eq!(rt; flow.oldest_place(second), Some(2));
+    assert_eq!(rt; flow.oldest_place(third), None);
+    flow.cut_from(first, 2);
+    assert_eq!(rt; flow.free_count(), 30);
+    assert_eq!(rt; flow.waiting_count(first), 1);
+    assert_eq!(rt; flow.guessed_count(first), 0);
+    Ok(())
+}
+
+#[test]
+fn leaves_a_held_one(rt: HostRuntime) -> Result<(), Fail> {
+    let mut flow = of_three(rt.alloc())?;
+    let [_, second, ..] = Ctx::all();
+    flow.hold(second, 3, true);
+    assert_selected(&rt, &mut flow, &OldestFirst, &[1]);
+    flow.hold(second, 3, false);
+    assert_selected(&rt, &mut flow, &OldestFirst, &[3]);
+    Ok(())
+}
+
+#[test]
+fn takes_a_speculative_one_last(rt: HostRuntime) -> Result<(), Fail> {
+    let mut flow = of_three(rt.alloc())?;
+    let [first, ..] = Ctx::all();
+    flow.speculate(first, 1, true);
+    assert_selected(&rt, &mut flow, &SpecLast, &[3, 1]);
+    Ok(())
+}
