@@ -3,6 +3,8 @@
 
 mod contexts;
 mod cycle;
+#[cfg(test)]
+mod eight_tests;
 mod fault;
 mod fetching;
 mod renaming;
