@@ -54,7 +54,7 @@ with_fetched m c x = record m { view = record m.view { stamp = m.view.stamp + 1;
 abbrev pub with_cycle : Machine → Machine
 with_cycle m = record m { view = record m.view { cycle = m.view.cycle + 1 }; fetch_room = 8 }
 
--- the same contexts, but for the entries that a part of a cycle changes: origin, cycle, stamps and targets stay
+-- what each part of a cycle leaves as it was: the origin, the cycle's number, and each context's target
 pub record IsAlike (old new : Machine) : Type 0 where
   pub origin : new.origin ≡ old.origin
   pub cycle : new.view.cycle ≡ old.view.cycle
