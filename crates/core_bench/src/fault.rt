@@ -1,0 +1,60 @@
+//! Why nothing is measured.
+
+use rv64_asm::AsmFault;
+use std::alloc::{AllocError, AllocFailed};
+use std::error::Error;
+use std::fmt;
+
+/// Why nothing is measured.
+#[derive(Clone, Copy, Debug, PartialEq, Eq)]
+pub enum BenchFault {
+    /// The words aren't a number of cycles and one to eight files.
+    Words,
+    /// A file can't be read.
+    Unread,
+    /// A program isn't assembled.
+    Assembly(AsmFault),
+    /// A program has too many pages.
+    TooManyPages,
+    /// Memory was asked for and refused.
+    OutOfMemory,
+    /// Standard output can't be written.
+    Output,
+}
+
+impl BenchFault {
+    /// What the program ends with.
+    pub fn status(&self) -> u8 {
+        match self {
+            BenchFault::Words => 2,
+            _ => 1,
+        }
+    }
+}
+
+impl fmt::Display for BenchFault {
+    fn fmt<W: fmt::Write>(&self, f: &mut fmt::Formatter<W>) -> fmt::Result {
+        match self {
+            BenchFault::Words => write!(f, "usage: core_bench CYCLES FILE.. (one to eight)"),
+            BenchFault::Unread => write!(f, "refused: a file can't be read"),
+            BenchFault::Assembly(fault) => write!(f, "refused {fault}"),
+            BenchFault::TooManyPages => write!(f, "refused O1"),
+            BenchFault::OutOfMemory => write!(f, "refused E1"),
+            BenchFault::Output => write!(f, "refused S2 -"),
+        }
+    }
+}
+
+impl Error for BenchFault {}
+
+impl From<AllocError> for BenchFault {
+    fn from(_refused: AllocError) -> Self {
+        BenchFault::OutOfMemory
+    }
+}
+
+impl<T: Drop> From<AllocFailed<T>> for BenchFault {
+    fn from(_refused: AllocFailed<T>) -> Self {
+        BenchFault::OutOfMemory
+    }
+}
