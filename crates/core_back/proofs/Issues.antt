@@ -1,17 +1,12 @@
 -- An entry issues: what it computes with, and what it leaves of a core.
-use Rattle.std.proofs.Common.{◌≡◌, ◌≢◌, ℕ, ◌<◌, Bool, true, false, not, ◌&&◌, ◌||◌, List, ◌∷◌, length, get_or, take, map, Option, Some, None, refl, sym, ap, subst, ◌∙◌, arith, inl, inr}
+use Rattle.std.proofs.Common.{◌≡◌, ◌≢◌, ℕ, ◌<◌, ◌≤◌, Bool, true, false, not, ◌&&◌, ◌||◌, List, ◌∷◌, length, get_or, take, map, Option, Some, None, refl, sym, ap, subst, ◌∙◌, arith, inl, inr}
 use Rattle.std.specs.Prelude.{◌==◌, set}
 use Rattle.std.specs.List.{list_any}
 use Rattle.std.proofs.Math.Seq.{take-set-lt}
-use Rattle.std.proofs.lemmas.Bool.{and_from, eqb-true, eq-eqb, ne_eqb, cases_lt}
+use Rattle.std.proofs.lemmas.Bool.{eqb-true, eq-eqb, ne_eqb, cases_lt}
 use Rattle.std.proofs.lemmas.List.Folds.{list_any_at}
-use Rattle.std.proofs.lemmas.List.{length-set, length-take-le, map-set, set-get_or, get_or-map, get_or-take, drop-set-lt}
-use Rattle.paged_memory.specs.Cells.{Rights, byte_at}
+use Rattle.std.proofs.lemmas.List.{length-set, length-take-le, map-set, set-get_or, get_or-map, get_or-take, take-take, drop-set-lt}
 use Rattle.hart_step.specs.State.{State}
-use Rattle.hart_step.specs.declared.environment.Environment.{Environment}
-use Rattle.hart_step.specs.declared.effect.Effect.{Effect}
-use Rattle.hart_step.specs.declared.effect.Effect.TheVariants as effect
-use Rattle.hart_step.specs.Effects.{effect_of}
 use Rattle.issue_queue.specs.declared.entry.Selected.{Selected}
 use Rattle.core_view.specs.declared.operation.Operation.{Operation}
 use Rattle.core_view.specs.declared.operation.Operation.TheVariants as operation
@@ -19,55 +14,35 @@ use Rattle.core_view.specs.declared.outcome.Outcome.{Outcome}
 use Rattle.core_view.specs.declared.entry.Execution.{Execution}
 use Rattle.core_view.specs.declared.entry.Stage.TheVariants.{Fetched, Queued, Issued}
 use Rattle.core_view.specs.declared.entry.Entry.{Entry}
-use Rattle.core_view.specs.Operations.{is_load, first_source_of, second_source_of}
-use Rattle.core_view.specs.Outcomes.{Image, image_of, outcome_over, outcome_in}
-use Rattle.core_view.specs.Flight.{seen_of, source_value, IsOutcome}
+use Rattle.core_view.specs.Operations.{stops_at_fetch, first_source_of, second_source_of}
+use Rattle.core_view.specs.Outcomes.{Image, image_of, outcome_in}
+use Rattle.core_view.specs.Flight.{seen_of, source_value, IsOutcome, HasOutcome}
 use Rattle.core_view.specs.Events.{with_stage}
-use Rattle.core_view.specs.Queues.{is_renamed}
+use Rattle.core_view.specs.Loads.{IsPatient}
+use Rattle.core_view.specs.Queues.{AllRenamed}
 use Rattle.core_view.specs.View.{entry_at, no_entry, seen_at as flight_seen_at}
-use Rattle.core_view.proofs.Accesses.{is_load_effect, effect_loads}
-use Rattle.core_view.proofs.Sound.{sound_take}
+use Rattle.core_view.proofs.Patient.{patient_issue}
+use Rattle.core_view.proofs.Sound.{sound_at}
 use Rattle.core_view.proofs.Live.{issue_live}
 use Rattle.data_flow.specs.Flow.{Flow, lane, no_node, waits_in, both, sources_at}
 use Rattle.core_back.specs.Queued.{queued_at}
 use Rattle.core_back.specs.Track.{Track, issued}
+use Rattle.core_back.specs.Issuable.{IsAnswered, may_perform, may_issue_at}
 use Rattle.core_back.specs.Cores.{node_of_entry, is_selected, IsCore}
-use Rattle.core_back.proofs.Flights.{renamed_before, renamed-set, fetched_after, load_alone, unmixed-set, bytes_past}
+use Rattle.core_back.proofs.Flights.{renamed-set, renamed-take, fetched_after}
 use Rattle.core_back.proofs.Others.{other_core}
 use Rattle.core_back.proofs.Seen.{sources_are}
 use Rattle.core_back.proofs.Waiting.{eqb-flip, queued_place, same_place, queued-leaves}
 
--- ---- bytes
+-- ---- what issue asks
 
-effect_bytes_free : (environment : Environment) (rights : ℕ → Rights) (bytes seen : ℕ → ℕ) (pc : ℕ) (e : Effect) → is_load_effect e ≡ false → outcome_over environment rights bytes pc e ≡ outcome_over environment rights seen pc e
-effect_bytes_free environment rights bytes seen pc (effect.Loads kind address) h = absurd cc
-effect_bytes_free environment rights bytes seen pc e h = refl
-
--- an outcome depends on bytes for loads alone
-pub outcome_bytes_free : (image : Image) (bytes seen : ℕ → ℕ) (o : Operation) (pc a b : ℕ) → is_load o ≡ false → outcome_in image bytes o pc a b ≡ outcome_in image seen o pc a b
-outcome_bytes_free image bytes seen (operation.Performs insn) pc a b h = effect_bytes_free image.environment image.rights bytes seen pc (effect_of insn pc a b) (effect_loads insn pc a b ∙ h)
-outcome_bytes_free image bytes seen (operation.Stops why) pc a b h = refl
-
--- a renamed entry sees the bytes of memory, if it loads
-pub outcome_seen : {start : State} {stamp reorder c : ℕ} {f : Flow} {names : List Selected} {t : Track} → IsCore start stamp reorder f names c t → (i : ℕ) → i < t.renamed → (a b : ℕ)
-    → outcome_in (image_of t.context.state) (byte_at t.context.state.memory) (entry_at t.context i).operation (entry_at t.context i).pc a b
-    ≡ outcome_in (image_of t.context.state) (flight_seen_at t.context i).bytes (entry_at t.context i).operation (entry_at t.context i).pc a b
-outcome_seen {t = t} core i lt a b = by_load (is_load e.operation) refl
-  where
-    e : Entry
-    e = entry_at t.context i
-
-    image : Image
-    image = image_of t.context.state
-
-    by_load : (l : Bool) → is_load e.operation ≡ l → outcome_in image (byte_at t.context.state.memory) e.operation e.pc a b ≡ outcome_in image (flight_seen_at t.context i).bytes e.operation e.pc a b
-    by_load true is =
-        let within : i < length t.context.flight = omega (arith, core.within) in
-        let load : (is_load e.operation && is_renamed e.stage) ≡ true = and_from (is_load e.operation) (is_renamed e.stage) is (renamed_before t.renamed t.context.flight i core.are_renamed lt within) in
-        ap (λ (bytes : ℕ → ℕ). outcome_in image bytes e.operation e.pc a b)
-        (sym (bytes_past image (seen_of t.context.state) t.context.state.pc (take i t.context.flight) (load_alone t.context.flight i within core.unmixed load)
-        (sound_take image (seen_of t.context.state) t.context.state.pc t.context.flight i core.live.flight.sound)))
-    by_load false is = outcome_bytes_free image (byte_at t.context.state.memory) (flight_seen_at t.context i).bytes e.operation e.pc a b is
+-- the queues of loads and stores answer for an entry that is renamed, and for the one after these
+pub core_answered : {start : State} {stamp reorder c : ℕ} {f : Flow} {names : List Selected} {t : Track} → IsCore start stamp reorder f names c t → (i : ℕ) → i ≤ t.renamed → IsAnswered t.context i
+core_answered {t = t} core i le = record {
+  renamed = subst AllRenamed (take-take i t.renamed t.context.flight le) (renamed-take i (take t.renamed t.context.flight) core.are_renamed);
+  growing = core.live.flight.growing;
+  sound = core.live.flight.sound;
+}
 
 -- ---- the outcome
 
@@ -76,15 +51,15 @@ both_some None y a b h = absurd cc
 both_some (Some v) None a b h = absurd cc
 both_some (Some v) (Some w) a b h = let same : (v, w) ≡ (a, b) = cc in (ap (λ (p : ℕ × ℕ). Some p.0) same, ap (λ (p : ℕ × ℕ). Some p.1) same)
 
--- an outcome on the values of the data flow, over the bytes of memory, is that of the entry
+-- an outcome on the values of the data flow, over the bytes that are seen, is that of the entry
 pub core_outcome : {start : State} {stamp reorder c : ℕ} {f : Flow} {names : List Selected} {t : Track} → IsCore start stamp reorder f names c t → (i : ℕ) → i < t.renamed → (a b : ℕ) (outcome : Outcome)
-    → sources_at (lane f c) i ≡ Some (a, b) → outcome ≡ outcome_in (image_of t.context.state) (byte_at t.context.state.memory) (entry_at t.context i).operation (entry_at t.context i).pc a b
+    → sources_at (lane f c) i ≡ Some (a, b) → outcome ≡ outcome_in (image_of t.context.state) (flight_seen_at t.context i).bytes (entry_at t.context i).operation (entry_at t.context i).pc a b
     → IsOutcome (image_of t.context.state) (flight_seen_at t.context i) (entry_at t.context i).operation (entry_at t.context i).pc outcome
 core_outcome {t = t} core i lt a b outcome sources is =
     let seen = flight_seen_at t.context i in
     let e = entry_at t.context i in
     let ready = both_some (source_value seen.registers (first_source_of e.operation)) (source_value seen.registers (second_source_of e.operation)) a b (sym (sources_are core i lt) ∙ sources) in
-    record { first = a; second = b; first_ready = ready.0; second_ready = ready.1; is = is ∙ outcome_seen core i lt a b }
+    record { first = a; second = b; first_ready = ready.0; second_ready = ready.1; is = is }
 
 -- ---- the entry that was selected
 
@@ -146,16 +121,33 @@ left_over false t w s same none = rw same (sym (kept (w || s)))
     kept true = refl
     kept false = refl
 
+-- issue keeps a flight patient: a load that may issue doesn't wait
+issue_patient : {start : State} {stamp reorder c : ℕ} {f : Flow} {names : List Selected} {t : Track} → IsCore start stamp reorder f names c t → (i : ℕ) (x : Execution) (a b : ℕ) → i < length t.context.flight → (entry_at t.context i).stage ≡ Queued
+    → may_issue_at t.context i a b ≡ true → IsPatient (set t.context.flight i (with_stage (entry_at t.context i) (Issued x)))
+issue_patient {t = t} core i x a b lt stage may = by_operation (entry_at t.context i).operation refl may
+  where
+    e : Entry
+    e = entry_at t.context i
+
+    image : Image
+    image = image_of t.context.state
+
+    by_operation : (o : Operation) → e.operation ≡ o → may_perform (take i t.context.flight) o e.pc a b ≡ true → IsPatient (set t.context.flight i (with_stage e (Issued x)))
+    by_operation (operation.Performs insn) is clear = patient_issue t.context.flight i no_entry x insn e.pc a b lt is stage clear core.patient
+    by_operation (operation.Stops why) is clear =
+        let sound = sound_at image (seen_of t.context.state) t.context.state.pc t.context.flight i no_entry lt core.live.flight.sound in
+        let performs : stops_at_fetch e.operation ≡ false = subst (λ s. HasOutcome image (flight_seen_at t.context i) e.operation e.pc s) stage sound.outcome in
+        absurd (let bad : true ≡ false = ap stops_at_fetch (sym is) ∙ performs in cc)
+
 pub issue_core : {start : State} {stamp reorder c k : ℕ} {f : Flow} {names : List Selected} {t : Track} → IsCore start stamp reorder f (record { context = c; stamp = k } ∷ names) c t → (i : ℕ) (x : Execution) (a b : ℕ)
     → is_selected names c k ≡ false → waits_in f c k ≡ false → i < length t.context.flight → (entry_at t.context i).stamp ≡ k → (entry_at t.context i).stage ≡ Queued → sources_at (lane f c) i ≡ Some (a, b)
-    → x.outcome ≡ outcome_in (image_of t.context.state) (byte_at t.context.state.memory) (entry_at t.context i).operation (entry_at t.context i).pc a b
+    → may_issue_at t.context i a b ≡ true → x.outcome ≡ outcome_in (image_of t.context.state) (flight_seen_at t.context i).bytes (entry_at t.context i).operation (entry_at t.context i).pc a b
     → IsCore start stamp reorder f names c (issued t i x)
-issue_core {start = start} {stamp = stamp} {c = c} {k = k} {f = f} {names = names} {t = t} core i x a b other idle lt is stage sources outcome =
+issue_core {start = start} {stamp = stamp} {c = c} {k = k} {f = f} {names = names} {t = t} core i x a b other idle lt is stage sources may outcome =
     let e = entry_at t.context i in
     let n = with_stage e (Issued x) in
     let below : i < t.renamed = queued_renamed core i lt stage in
     let front : take t.renamed (set t.context.flight i n) ≡ set (take t.renamed t.context.flight) i n = take-set-lt t.renamed t.context.flight i n below in
-    let load : (is_load e.operation && true) ≡ (is_load e.operation && is_renamed e.stage) = rw stage refl in
     record {
       live = issue_live start stamp t.context i x lt stage (core_outcome core i below a b x.outcome sources outcome) core.live;
       registers = core.registers;
@@ -168,7 +160,7 @@ issue_core {start = start} {stamp = stamp} {c = c} {k = k} {f = f} {names = name
       are_renamed = rw front (renamed-set (take t.renamed t.context.flight) i n refl core.are_renamed);
       are_fetched = rw (drop-set-lt t.renamed t.context.flight i n below) core.are_fetched;
       waiting = waiting;
-      unmixed = unmixed-set t.context.flight i n lt refl (λ h. load_alone t.context.flight i lt core.unmixed (sym load ∙ h)) core.unmixed;
+      patient = issue_patient core i x a b lt stage may;
     }
   where
     issued_nodes : i < t.renamed → map node_of_entry (set (take t.renamed t.context.flight) i (with_stage (entry_at t.context i) (Issued x))) ≡ map node_of_entry (take t.renamed t.context.flight)

@@ -1,7 +1,9 @@
+pub mod Asked
 pub mod Completes
 pub mod Ends
 pub mod Fetches
 pub mod Flights
+pub mod Held
 pub mod Issues
 pub mod MachineIssues
 pub mod Machines
@@ -11,6 +13,7 @@ pub mod Renames
 pub mod Retires
 pub mod Seen
 pub mod Selections
+pub mod Slots
 pub mod Stages
 pub mod Starts
 pub mod Tracks

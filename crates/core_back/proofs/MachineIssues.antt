@@ -1,27 +1,32 @@
 -- A selection, and the issue of the first entry that was selected, in the machine.
-use Rattle.std.proofs.Common.{◌≡◌, ◌≢◌, ℕ, ◌+◌, ◌<◌, Bool, true, false, suc, List, [], ◌∷◌, length, get_or, drop, map, Option, Some, refl, sym, ap, subst, ◌∙◌, arith}
+use Rattle.std.proofs.Common.{◌≡◌, ◌≢◌, ℕ, zero, suc, ◌+◌, ◌<◌, ◌≤◌, Bool, true, false, List, [], ◌∷◌, length, get_or, drop, map, Option, Some, refl, sym, ap, subst, ◌∙◌, arith, inl, inr}
 use Rattle.std.specs.Prelude.{◌==◌, set, All, AllPairs, IfSome, is_some}
+use Rattle.std.proofs.lemmas.Bool.{cases_lt}
 use Rattle.std.proofs.lemmas.Bool.Decides.{nat_tests}
 use Rattle.std.specs.Arc.{arc_value}
-use Rattle.std.proofs.lemmas.List.{get_or-set_same, get_or-set_other, length-set, map-set}
+use Rattle.std.proofs.lemmas.List.{get_or-set_same, get_or-set_other, get_or_past, set-get_or, length-set, map-set}
 use Rattle.issue_queue.specs.declared.entry.Selected.{Selected}
 use Rattle.origin_set.specs.Start.{start}
-use Rattle.core_view.specs.View.{Context, entry_at}
+use Rattle.core_view.specs.View.{Context, entry_at, seen_at}
 use Rattle.core_view.specs.Events.{issue_event}
 use Rattle.core_view.specs.Outcomes.{image_of, outcome_in}
 use Rattle.core_view.specs.declared.entry.Execution.{Execution}
 use Rattle.core_view.specs.declared.entry.Stage.TheVariants.{Queued}
-use Rattle.paged_memory.specs.Cells.{byte_at}
 use Rattle.core_back.specs.declared.machine.Machine.TheInside.{Inside}
 use Rattle.data_flow.specs.Flow.{Flow, lane, queued, waits_in, sources_at}
 use Rattle.core_back.specs.Track.{Track, issued}
+use Rattle.core_back.specs.Issuable.{may_issue_at, IsHeld, AreHeld, IsClear}
 use Rattle.core_back.specs.Issued.{IsIssued}
+use Rattle.core_back.specs.Steps.{IsRemarked}
 use Rattle.core_back.specs.Cores.{is_selected, IsCore}
 use Rattle.core_back.specs.Machine.{Machine, context_at, with_context, no_track}
 use Rattle.core_back.specs.Shown.{machine_of, IsMachine, AreApart, IsSuppliedIn}
+use Rattle.core_back.proofs.Held.{remarked_twice, remarked_lane, held_kept, issued_clear}
 use Rattle.core_back.proofs.Issues.{issue_core, issue_other}
 use Rattle.core_back.proofs.Machines.{At, at_context, idle_names}
-use Rattle.core_back.proofs.Selections.{first_apart, rest_apart, ready_place, name_selected, select_core, select_apart, select_supplied, select_idle}
+use Rattle.core_back.proofs.Remarks.{remark_none}
+use Rattle.core_back.proofs.Selections.{first_apart, rest_apart, ready_place, name_selected, remarked_core, select_core, select_apart, select_supplied, select_free, select_clear, select_idle}
+use Rattle.core_back.proofs.Seen.{node_count}
 use Rattle.issue_queue.specs.Entry.{Entry as Waiting}
 use Rattle.issue_queue.specs.IsSelected.{IsSelected}
 
@@ -43,6 +48,23 @@ found_place t k found i h is = subst (λ (o : Option ℕ). IfSome o (λ j. (j < 
 pub some_sources : (sources read : Option (ℕ × ℕ)) → sources ≡ read → is_some read ≡ true → is_some sources ≡ true
 some_sources sources read is some = ap is_some is ∙ some
 
+-- a name is clear over these contexts
+abbrev IsClearIn : Flow → List Track → Selected → Type 0
+IsClearIn f ts n = IsClear f n.context (get_or ts n.context no_track) n.stamp
+
+-- a name that is clear is so once an entry of the context c has issued
+issued_clear_in : (f : Flow) (ts : List Track) (c : ℕ) (t : Track) (i : ℕ) (x : Execution) (n : Selected) → c < length ts → t ≡ get_or ts c no_track → (entry_at t.context i).stage ≡ Queued → IsClearIn f ts n → IsClearIn f (set ts c (issued t i x)) n
+issued_clear_in f ts c t i x n lt track stage clear = by_context (n.context == c) refl
+  where
+    by_context : (b : Bool) → (n.context == c) ≡ b → IsClearIn f (set ts c (issued t i x)) n
+    by_context true is =
+        let same : n.context ≡ c = grind (arith, nat_tests, is) in
+        let before : IsClear f c t n.stamp = subst (λ u. IsClear f c u n.stamp) (sym track) (subst (λ d. IsClear f d (get_or ts d no_track) n.stamp) same clear) in
+        rw (same, get_or-set_same ts c (issued t i x) no_track lt) (issued_clear f c n.stamp t i x stage before)
+    by_context false is =
+        let other : n.context ≢ c = λ same. absurd (grind (arith, nat_tests, is, same)) in
+        rw (get_or-set_other ts c n.context (issued t i x) no_track other) clear
+
 module _ {A : Type 0} where
   -- the first name, and what is known of the entry that it stands for
   pub record IsFirstName (m : Inside A) (now : Machine) (n : Selected) (rest : List Selected) (t : Track) : Type 0 where
@@ -53,6 +75,7 @@ module _ {A : Type 0} where
     pub other : is_selected rest n.context n.stamp ≡ false
     pub idle : waits_in m.flow n.context n.stamp ≡ false
     pub supplied : IsSuppliedIn m.flow n
+    pub clear : IsClear m.flow n.context t n.stamp
 
   pub first_name : (m : Inside A) (now : Machine) (n : Selected) (k : ℕ) (t : Track) → machine_of m ≡ now → IsMachine m → 0 < length m.selected.items → n ≡ get_or m.selected.items 0 n → n.context < 8 → k ≡ n.context → t ≡ get_or m.tracks.items k t
       → IsFirstName m now n (drop 1 m.selected.items) t
@@ -68,15 +91,22 @@ module _ {A : Type 0} where
         other = first_apart n rest (subst (AllPairs AreApart) names ok.apart);
         idle = (subst (All (λ s. waits_in m.flow s.context s.stamp ≡ false)) names ok.left) 0 n (omega arith);
         supplied = (subst (All (IsSuppliedIn m.flow)) names ok.supplied) 0 n (omega arith);
+        clear = rw h.track ((subst (All (IsClearIn m.flow m.tracks.items)) names ok.clear) 0 n (omega arith));
       }
+
+  -- the entry of the first name may issue
+  pub first_clear : (m : Inside A) (now : Machine) (n : Selected) (rest : List Selected) (t : Track) → IsFirstName m now n rest t → (i : ℕ) (values : ℕ × ℕ) (sources : Option (ℕ × ℕ))
+      → i < length t.context.flight → (entry_at t.context i).stamp ≡ n.stamp → sources ≡ sources_at (lane m.flow n.context) i → sources ≡ Some values → may_issue_at t.context i values.0 values.1 ≡ true
+  first_clear m now n rest t h i values sources lt is read some = h.clear i values.0 values.1 (ready_place h.core n.stamp i h.selected h.supplied lt is).renamed is (sym read ∙ some)
 
   -- the context of the first name is a core once its entry has issued
   pub issued_core : (m : Inside A) (now : Machine) (n : Selected) (rest : List Selected) (t : Track) → IsFirstName m now n rest t → (i : ℕ) (x : Execution) (values : ℕ × ℕ) (sources : Option (ℕ × ℕ))
       → i < length t.context.flight → (entry_at t.context i).stamp ≡ n.stamp → sources ≡ sources_at (lane m.flow n.context) i → sources ≡ Some values
-      → x.outcome ≡ outcome_in (image_of t.context.state) (byte_at t.context.state.memory) (entry_at t.context i).operation (entry_at t.context i).pc values.0 values.1
+      → x.outcome ≡ outcome_in (image_of t.context.state) (seen_at t.context i).bytes (entry_at t.context i).operation (entry_at t.context i).pc values.0 values.1
       → IsCore (start (arc_value m.origins.c0) n.context) m.stamp m.reorder m.flow rest n.context (issued t i x)
   issued_core m now n rest t h i x values sources lt is read some outcome =
-      issue_core h.core i x values.0 values.1 h.other h.idle lt is (ready_place h.core n.stamp i h.selected h.supplied lt is).stage (sym read ∙ some) outcome
+      let place = ready_place h.core n.stamp i h.selected h.supplied lt is in
+      issue_core h.core i x values.0 values.1 h.other h.idle lt is place.stage (sym read ∙ some) (first_clear m now n rest t h i values sources lt is read some) outcome
 
   -- after the entry of a name has issued, each context is a core
   issued_cores : (m : Inside A) (n : Selected) (rest : List Selected) (u : Track) → IsMachine m → m.selected.items ≡ n ∷ rest → n.context < 8
@@ -98,12 +128,16 @@ module _ {A : Type 0} where
           rw (get_or-set_other m.tracks.items n.context d u no_track other) (issue_other before other)
 
   -- the machine after the entry of the first name has issued
-  pub issued_machine : (m w : Inside A) (n : Selected) (k : ℕ) (rest : List Selected) (u : Track) → IsMachine m → m.selected.items ≡ n ∷ rest → n.context < 8
-      → IsCore (start (arc_value m.origins.c0) n.context) m.stamp m.reorder m.flow rest n.context u
-      → k ≡ n.context → w.origins ≡ m.origins → w.flow ≡ m.flow → w.tracks.items ≡ set m.tracks.items k u → w.selected.items ≡ rest → w.cycle ≡ m.cycle → w.stamp ≡ m.stamp → w.fetch_room ≡ m.fetch_room → w.reorder ≡ m.reorder → IsMachine w
-  issued_machine m w n k rest u ok names lt core same origins flow tracks_k selected cycle stamp room reorder =
+  pub issued_machine : (m w : Inside A) (now : Machine) (n : Selected) (k : ℕ) (rest : List Selected) (t : Track) (i : ℕ) (x : Execution) → IsMachine m → IsFirstName m now n rest t → n.context < 8 → i < length t.context.flight → (entry_at t.context i).stamp ≡ n.stamp
+      → IsCore (start (arc_value m.origins.c0) n.context) m.stamp m.reorder m.flow rest n.context (issued t i x)
+      → k ≡ n.context → w.origins ≡ m.origins → w.flow ≡ m.flow → w.tracks.items ≡ set m.tracks.items k (issued t i x) → w.selected.items ≡ rest → w.cycle ≡ m.cycle → w.stamp ≡ m.stamp → w.fetch_room ≡ m.fetch_room → w.reorder ≡ m.reorder → IsMachine w
+  issued_machine m w now n k rest t i x ok h lt within is core same origins flow tracks_k selected cycle stamp room reorder =
+      let names : m.selected.items ≡ n ∷ rest = h.names in
+      let u : Track = issued t i x in
+      let stage = (ready_place h.core n.stamp i h.selected h.supplied within is).stage in
       let tracks : w.tracks.items ≡ set m.tracks.items n.context u = tracks_k ∙ ap (λ i. set m.tracks.items i u) same in
       let supplied : All (IsSuppliedIn m.flow) (n ∷ rest) = subst (All (IsSuppliedIn m.flow)) names ok.supplied in
+      let clear : All (IsClearIn m.flow m.tracks.items) (n ∷ rest) = subst (All (IsClearIn m.flow m.tracks.items)) names ok.clear in
       let left : All (λ s. waits_in m.flow s.context s.stamp ≡ false) (n ∷ rest) = subst (All (λ s. waits_in m.flow s.context s.stamp ≡ false)) names ok.left in
       record {
         cores = rw (origins, flow, tracks, selected, stamp, reorder) (issued_cores m n rest u ok names lt core);
@@ -112,6 +146,7 @@ module _ {A : Type 0} where
         lanes = rw flow ok.lanes;
         apart = rw selected (rest_apart n rest (subst (AllPairs AreApart) names ok.apart));
         supplied = rw (selected, flow) (λ i d below. supplied (suc i) d (omega (arith, below)));
+        clear = rw (selected, flow, tracks) (λ j d below. issued_clear_in m.flow m.tracks.items n.context t i x (get_or rest j d) h.shown.in_tracks h.shown.track stage (clear (suc j) d (omega (arith, below))));
         left = rw (selected, flow) (λ i d below. left (suc i) d (omega (arith, below)));
         stamps = rw (stamp, room, cycle) ok.stamps;
         bounded = rw reorder ok.bounded;
@@ -161,19 +196,104 @@ same_supplied f g names same supplied i d lt =
     let lanes : lane g n.context ≡ lane f n.context = ap (λ (h : Flow). lane h n.context) same in
     rw lanes (supplied i d lt)
 
+-- the eight contexts, in order
+pub context_of : (cs : List ℕ) (i d : ℕ) → cs ≡ 0 ∷ 1 ∷ 2 ∷ 3 ∷ 4 ∷ 5 ∷ 6 ∷ 7 ∷ [] → i < 8 → get_or cs i d ≡ i
+context_of cs i d is lt = rw is (by_place i lt)
+  where
+    by_place : (i : ℕ) → i < 8 → get_or (0 ∷ 1 ∷ 2 ∷ 3 ∷ 4 ∷ 5 ∷ 6 ∷ 7 ∷ []) i d ≡ i
+    by_place zero lt = refl
+    by_place (suc zero) lt = refl
+    by_place (suc (suc zero)) lt = refl
+    by_place (suc (suc (suc zero))) lt = refl
+    by_place (suc (suc (suc (suc zero)))) lt = refl
+    by_place (suc (suc (suc (suc (suc zero))))) lt = refl
+    by_place (suc (suc (suc (suc (suc (suc zero)))))) lt = refl
+    by_place (suc (suc (suc (suc (suc (suc (suc zero))))))) lt = refl
+    by_place (suc (suc (suc (suc (suc (suc (suc (suc i)))))))) lt = absurd (omega arith)
+
 module _ {A : Type 0} where
-  -- the machine after a selection
-  pub selected_machine : (m w : Inside A) (now : Machine) {key : Waiting → ℕ} {width : ℕ} {names : List Selected} → machine_of m ≡ now → IsMachine m → now.names ≡ []
-      → w.flow ≡ record m.flow { waiters = w.flow.waiters } → IsSelected key width (queued m.flow) (queued w.flow) names
-      → w.origins ≡ m.origins → w.tracks ≡ m.tracks → w.selected.items ≡ names → w.cycle ≡ m.cycle → w.stamp ≡ m.stamp → w.fetch_room ≡ m.fetch_room → w.reorder ≡ m.reorder → IsMachine w
-  selected_machine m w now {names = names} shows ok idle same s origins tracks selected cycle stamp room reorder = record {
-    cores = rw (origins, stamp, reorder, selected, tracks) (λ c lt. select_core (subst (λ ns. IsCore (start (arc_value m.origins.c0) c) m.stamp m.reorder m.flow ns c (get_or m.tracks.items c no_track)) (idle_names m now shows idle) (ok.cores c lt)) same s);
-    origins = rw origins ok.origins;
-    tracks = rw tracks ok.tracks;
-    lanes = ap (λ (f : Flow). length f.lanes) same ∙ ok.lanes;
-    apart = rw selected (select_apart s);
-    supplied = rw selected (same_supplied m.flow w.flow names same (select_supplied m.flow s));
-    left = rw selected (select_idle m.flow w.flow s);
-    stamps = rw (stamp, room, cycle) ok.stamps;
-    bounded = rw reorder ok.bounded;
+  -- the loads of the first contexts were asked of, and nothing but marks of what waits has changed
+  pub record IsHeldTo (m h : Inside A) (n : ℕ) : Type 0 where
+    pub origins : h.origins ≡ m.origins
+    pub flow : IsRemarked m.flow h.flow
+    pub tracks : h.tracks.items ≡ m.tracks.items
+    pub cycle : h.cycle ≡ m.cycle
+    pub stamp : h.stamp ≡ m.stamp
+    pub room : h.fetch_room ≡ m.fetch_room
+    pub reorder : h.reorder ≡ m.reorder
+    pub held : (c : ℕ) → c < n → AreHeld h.flow c (get_or m.tracks.items c no_track)
+
+  pub held_to_none : (m : Inside A) → IsHeldTo m m 0
+  held_to_none m = record { origins = refl; flow = remark_none m.flow; tracks = refl; cycle = refl; stamp = refl; room = refl; reorder = refl; held = λ c lt. absurd (omega (arith, lt)) }
+
+  -- the next context
+  pub context_next : (m h : Inside A) (now : Machine) (n k : ℕ) (t : Track) → machine_of m ≡ now → IsMachine m → IsHeldTo m h n → n < 8 → k ≡ n → t ≡ get_or h.tracks.items k t → At m now n t
+  context_next m h now n k t shows ok so_far lt same read = at_context m now n k t shows ok lt same (subst (λ (ts : List Track). t ≡ get_or ts k t) so_far.tracks read)
+
+  pub held_nodes : (m h : Inside A) (now : Machine) (n c : ℕ) (t : Track) → At m now n t → IsHeldTo m h n → c ≡ n → length (lane h.flow c).nodes ≡ t.renamed
+  held_nodes m h now n c t at_n so_far same = rw (same, remarked_lane m.flow h.flow n so_far.flow) (node_count at_n.core)
+
+  pub held_to_next : (m h w : Inside A) (now : Machine) (n k c : ℕ) (t u : Track) → At m now n t → IsHeldTo m h n → k ≡ n → c ≡ n → t ≡ get_or h.tracks.items k t → u ≡ t
+      → IsRemarked h.flow w.flow → AreHeld w.flow c t → ((d j : ℕ) → d ≢ c → IsHeld h.flow d j → IsHeld w.flow d j)
+      → w.origins ≡ h.origins → w.tracks.items ≡ set h.tracks.items k u → w.cycle ≡ h.cycle → w.stamp ≡ h.stamp → w.fetch_room ≡ h.fetch_room → w.reorder ≡ h.reorder → IsHeldTo m w (n + 1)
+  held_to_next m h w now n k c t u at_n so_far same context read kept marks here others origins tracks cycle stamp room reorder = record {
+    origins = origins ∙ so_far.origins;
+    flow = remarked_twice m.flow h.flow w.flow so_far.flow marks;
+    tracks = tracks ∙ ap (set h.tracks.items k) (kept ∙ read) ∙ set-get_or h.tracks.items k t ∙ so_far.tracks;
+    cycle = cycle ∙ so_far.cycle;
+    stamp = stamp ∙ so_far.stamp;
+    room = room ∙ so_far.room;
+    reorder = reorder ∙ so_far.reorder;
+    held = λ d lt. elim (cases_lt d n) [
+      | inl before ↦ held_kept h.flow w.flow d (get_or m.tracks.items d no_track) marks (λ j. others d j (λ is. absurd (omega (arith, before, is, context)))) (so_far.held d before)
+      | inr from ↦ let last : d ≡ n = omega (arith, lt, from) in rw (last, ← at_n.track, ← context) here
+    ];
   }
+
+  -- the machine after a selection among what isn't held
+  pub selected_machine : (m h w : Inside A) (now : Machine) (n : ℕ) {key : Waiting → ℕ} {width : ℕ} {names : List Selected} → machine_of m ≡ now → IsMachine m → now.names ≡ [] → IsHeldTo m h n → 8 ≤ n
+      → w.flow ≡ record h.flow { waiters = w.flow.waiters } → IsSelected key width (queued h.flow) (queued w.flow) names
+      → w.origins ≡ h.origins → w.tracks ≡ h.tracks → w.selected.items ≡ names → w.cycle ≡ h.cycle → w.stamp ≡ h.stamp → w.fetch_room ≡ h.fetch_room → w.reorder ≡ h.reorder → IsMachine w
+  selected_machine m h w now n {names = names} shows ok idle so_far all same s origins tracks selected cycle stamp room reorder =
+      let origins_m : w.origins ≡ m.origins = origins ∙ so_far.origins in
+      let tracks_m : w.tracks.items ≡ m.tracks.items = ap (λ v. v.items) tracks ∙ so_far.tracks in
+      let stamp_m : w.stamp ≡ m.stamp = stamp ∙ so_far.stamp in
+      let reorder_m : w.reorder ≡ m.reorder = reorder ∙ so_far.reorder in
+      record {
+        cores = rw (origins_m, stamp_m, reorder_m, selected, tracks_m) cores;
+        origins = rw origins_m ok.origins;
+        tracks = rw tracks_m ok.tracks;
+        lanes = ap (λ (f : Flow). length f.lanes) (same ∙ ap (λ (f : Flow). let r : Flow = record f { waiters = w.flow.waiters } in r) so_far.flow.flow) ∙ ok.lanes;
+        apart = rw selected (select_apart s);
+        supplied = rw selected (same_supplied h.flow w.flow names same (select_supplied h.flow s));
+        clear = rw (selected, tracks_m) clear;
+        left = rw selected (select_idle h.flow w.flow s);
+        stamps = rw (stamp_m, room ∙ so_far.room, cycle ∙ so_far.cycle) ok.stamps;
+        bounded = rw reorder_m ok.bounded;
+      }
+    where
+      cores : (c : ℕ) → c < 8 → IsCore (start (arc_value m.origins.c0) c) m.stamp m.reorder w.flow names c (get_or m.tracks.items c no_track)
+      cores c lt =
+          let before = subst (λ ns. IsCore (start (arc_value m.origins.c0) c) m.stamp m.reorder m.flow ns c (get_or m.tracks.items c no_track)) (idle_names m now shows idle) (ok.cores c lt) in
+          select_core (remarked_core before so_far.flow) same s
+
+      clear : All (IsClearIn w.flow m.tracks.items) names
+      clear j d lt = elim (cases_lt (get_or names j d).context 8) [
+        | inl below ↦
+            let name = get_or names j d in
+            select_clear h.flow (cores name.context below) name.stamp (name_selected names j d lt) (so_far.held name.context (omega (arith, below, all))) (ap (λ (f : Flow). lane f name.context) same) (select_free h.flow s j d lt)
+        | inr past ↦
+            let none : get_or m.tracks.items (get_or names j d).context no_track ≡ no_track = get_or_past m.tracks.items (get_or names j d).context no_track (omega (arith, past, ok.tracks)) in
+            rw none (λ i a b under. absurd (omega (arith, under)))
+      ]
+
+  -- and what it shows
+  pub selected_shown : (m h : Inside A) (now : Machine) (n : ℕ) (names : List Selected) → machine_of m ≡ now → IsHeldTo m h n
+      → (let v : Machine = record {
+        origin = arc_value h.origins.c0;
+        view = record { cycle = h.cycle; stamp = h.stamp; contexts = map (λ (t : Track). t.context) h.tracks.items };
+        names = names;
+        fetch_room = h.fetch_room;
+        reorder = h.reorder;
+      } in v) ≡ record now { names = names }
+  selected_shown m h now n names shows so_far = rw (so_far.origins, so_far.cycle, so_far.stamp, so_far.tracks, so_far.room, so_far.reorder, ← shows) refl

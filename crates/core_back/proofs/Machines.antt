@@ -85,6 +85,7 @@ module _ {A : Type 0} where
         lanes = rw flow (lanes ∙ ok.lanes);
         apart = rw (names, none) (λ i j d lt over. absurd (omega (arith, over)));
         supplied = rw (names, none) (λ k d over. absurd (omega (arith, over)));
+        clear = rw (names, none) (λ k d over. absurd (omega (arith, over)));
         left = rw (names, none) (λ k d over. absurd (omega (arith, over)));
         stamps = rw (stamp, room, cycle) ok.stamps;
         bounded = rw reorder ok.bounded;
@@ -122,6 +123,7 @@ module _ {A : Type 0} where
         lanes = rw flow ok.lanes;
         apart = rw (names, none) (λ i j d lt over. absurd (omega (arith, over)));
         supplied = rw (names, none) (λ k d over. absurd (omega (arith, over)));
+        clear = rw (names, none) (λ k d over. absurd (omega (arith, over)));
         left = rw (names, none) (λ k d over. absurd (omega (arith, over)));
         stamps = rw cycle (omega (arith, stamps, stamp, room));
         bounded = rw reorder ok.bounded;

@@ -5,6 +5,7 @@ use Rattle.hart_step.specs.State.{State}
 use Rattle.core_view.specs.declared.entry.Execution.{Execution}
 use Rattle.core_view.specs.declared.entry.Entry.{Entry}
 use Rattle.core_view.specs.Flight.{result_in}
+use Rattle.core_view.specs.Loads.{IsPatient}
 use Rattle.core_view.specs.Queues.{AllRenamed}
 use Rattle.core_view.specs.View.{Context, IsLive}
 use Rattle.core_view.proofs.Live.{later_live}
@@ -13,7 +14,7 @@ use Rattle.data_flow.specs.Flow.{Lane, Flow, no_lane, lane, with_lane, with_resu
 use Rattle.core_back.specs.Track.{Track, cut_stamp}
 use Rattle.core_back.specs.Queued.{queued_at}
 use Rattle.core_back.specs.Steps.{cut_if, retired_flow, finished_flow, completed_flow}
-use Rattle.core_back.specs.Cores.{node_of_entry, AllFetched, IsUnmixed, is_selected, front_room, IsCore}
+use Rattle.core_back.specs.Cores.{node_of_entry, AllFetched, is_selected, front_room, IsCore}
 use Rattle.core_back.proofs.Waiting.{waits-cut_other}
 
 -- ---- a context of the data flow that is another one
@@ -107,7 +108,7 @@ other_core start stamp later reorder f g names names' d t core same waits le = r
   are_renamed = core.are_renamed;
   are_fetched = core.are_fetched;
   waiting = λ k. waits k ∙ core.waiting k;
-  unmixed = core.unmixed;
+  patient = core.patient;
 }
 
 -- the same of a context that an event at another one left
@@ -125,7 +126,7 @@ pub record IsFlightCore (reorder : ℕ) (f : Flow) (names : List Selected) (c re
   pub are_renamed : AllRenamed (take renamed es)
   pub are_fetched : AllFetched (drop renamed es)
   pub waiting : (k : ℕ) → (waits_in f c k || is_selected names c k) ≡ queued_at k es
-  pub unmixed : IsUnmixed es
+  pub patient : IsPatient es
 
 pub core_from : (start : State) (stamp reorder : ℕ) (f : Flow) (names : List Selected) (c : ℕ) (t : Track) (renamed : ℕ) (es : List Entry) → t.renamed ≡ renamed → t.context.flight ≡ es → IsLive start stamp t.context
     → (lane f c).registers ≡ t.context.state.registers → t.capacity ≡ reorder + front_room → IsFlightCore reorder f names c renamed es → IsCore start stamp reorder f names c t
@@ -143,5 +144,5 @@ core_from start stamp reorder f names c t renamed es is_renamed flight live regi
       are_renamed = p.are_renamed;
       are_fetched = p.are_fetched;
       waiting = p.waiting;
-      unmixed = p.unmixed;
+      patient = p.patient;
     }

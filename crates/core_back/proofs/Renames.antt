@@ -1,7 +1,7 @@
 -- The oldest fetched entry is renamed: what that asks, and what it leaves of a core.
 use Rattle.std.proofs.Common.{◌≡◌, ◌≢◌, ℕ, zero, suc, ◌+◌, ◌<◌, Bool, true, false, not, ◌&&◌, ◌||◌, List, [], ◌∷◌, ◌++◌, length, get_or, take, drop, map, Option, None, refl, sym, ap, subst, ◌∙◌, arith}
 use Rattle.std.specs.Prelude.{◌==◌, set, if◌then◌else◌, All}
-use Rattle.std.proofs.lemmas.Bool.{ne_eqb, and_parts, eq-eqb, or_parts}
+use Rattle.std.proofs.lemmas.Bool.{ne_eqb, eq-eqb, or_parts}
 use Rattle.std.proofs.lemmas.List.Elements.{All-map, All-from_get_or}
 use Rattle.std.proofs.lemmas.List.{length-set, length-take-le, get_or-take, take_more_set, drop_more, drop-set-lt, map_push}
 use Rattle.hart_step.specs.State.{State}
@@ -10,18 +10,19 @@ use Rattle.core_view.specs.declared.operation.Operation.{Operation}
 use Rattle.core_view.specs.declared.operation.Operation.TheVariants as operation
 use Rattle.core_view.specs.declared.entry.Stage.TheVariants.{Fetched}
 use Rattle.core_view.specs.declared.entry.Entry.{Entry}
-use Rattle.core_view.specs.Operations.{is_load, stops_at_fetch, is_guessed, destination_of}
+use Rattle.core_view.specs.Operations.{stops_at_fetch, is_guessed, destination_of}
 use Rattle.core_view.specs.Flight.{IsGrowing, result_of}
 use Rattle.core_view.specs.Events.{with_stage, renamed_stage}
 use Rattle.core_view.specs.Queues.{is_renamed}
 use Rattle.core_view.specs.View.{entry_at, no_entry}
+use Rattle.core_view.proofs.Patient.{patient_rename}
 use Rattle.core_view.proofs.Live.{rename_live}
 use Rattle.data_flow.specs.Flow.{Node, Lane, Flow, Waiter, lane, with_lane, with_node, waits_in}
 use Rattle.core_back.specs.Queued.{is_queued, queued_at}
-use Rattle.core_back.specs.Track.{Track, renamed_one, has_store}
+use Rattle.core_back.specs.Track.{Track, renamed_one}
 use Rattle.core_back.specs.Cores.{operands_of, node_of_entry, is_selected, IsCore}
 use Rattle.core_back.specs.Steps.{renamed_flow}
-use Rattle.core_back.proofs.Flights.{renamed-push, fetched_after, fetched-rest, unmixed-set}
+use Rattle.core_back.proofs.Flights.{renamed-push, fetched_after, fetched-rest}
 use Rattle.core_back.proofs.Others.{IsLeft, lane-with_same, lane-with_other, count-with_lane, with_lane_left}
 use Rattle.core_back.proofs.Waiting.{eqb-flip, growing_at, queued_place, same_place, queued-same, queued-enters, waits-push}
 
@@ -93,10 +94,10 @@ first_idle {t = t} core some = (not_queued core t.renamed some (ap is_queued (fi
 
 -- over a data flow that has it, and in which it waits where it is queued
 renamed_over : {start : State} {stamp reorder c : ℕ} {f : Flow} {names : List Selected} {t : Track} → IsCore start stamp reorder f names c t → (cycle : ℕ) (g : Flow) → t.renamed < length t.context.flight → t.renamed < reorder
-    → (is_load (entry_at t.context t.renamed).operation ≡ true → has_store (take t.renamed t.context.flight) ≡ false) → lane g c ≡ with_node (lane f c) (operands_of (entry_at t.context t.renamed))
+    → lane g c ≡ with_node (lane f c) (operands_of (entry_at t.context t.renamed))
     → ((k : ℕ) → (waits_in g c k || is_selected names c k) ≡ queued_at k (set t.context.flight t.renamed (with_stage (entry_at t.context t.renamed) (renamed_stage cycle (entry_at t.context t.renamed).operation))))
     → IsCore start stamp reorder g names c (renamed_one cycle t)
-renamed_over {start = start} {stamp = stamp} {c = c} {f = f} {t = t} core cycle g some free alone here waiting =
+renamed_over {start = start} {stamp = stamp} {c = c} {f = f} {t = t} core cycle g some free here waiting =
     let es = t.context.flight in
     let e = entry_at t.context t.renamed in
     let n = with_stage e (renamed_stage cycle e.operation) in
@@ -115,7 +116,7 @@ renamed_over {start = start} {stamp = stamp} {c = c} {f = f} {t = t} core cycle 
       are_renamed = rw front (renamed-push (take t.renamed es) n core.are_renamed (renamed_renamed cycle e.operation));
       are_fetched = rw rest (fetched-rest e (drop (t.renamed + 1) es) (drop t.renamed es) (drop_more es t.renamed no_entry some) core.are_fetched);
       waiting = waiting;
-      unmixed = unmixed-set es t.renamed n some refl (λ h. alone (and_parts (is_load e.operation) (is_renamed n.stage) h).0) core.unmixed;
+      patient = patient_rename es t.renamed no_entry cycle some (first_fetched core some) core.patient;
     }
 
 or_false : (b : Bool) → (b || false) ≡ b
@@ -132,9 +133,9 @@ one_waits false true q t u h same = rw (sym h) (or_true t)
 one_waits false false q t u h same = rw (sym h) (or_false t ∙ same)
 
 pub rename_core : {start : State} {stamp reorder c : ℕ} {f : Flow} {names : List Selected} {t : Track} → IsCore start stamp reorder f names c t → (cycle : ℕ) (speculative : Bool) → c < length f.lanes
-    → t.renamed < length t.context.flight → t.renamed < reorder → (is_load (entry_at t.context t.renamed).operation ≡ true → has_store (take t.renamed t.context.flight) ≡ false)
+    → t.renamed < length t.context.flight → t.renamed < reorder
     → IsCore start stamp reorder (renamed_flow f c (entry_at t.context t.renamed) speculative) names c (renamed_one cycle t)
-rename_core {start = start} {stamp = stamp} {reorder = reorder} {c = c} {f = f} {names = names} {t = t} core cycle speculative within some free alone = by_stop (stops_at_fetch e.operation) refl
+rename_core {start = start} {stamp = stamp} {reorder = reorder} {c = c} {f = f} {names = names} {t = t} core cycle speculative within some free = by_stop (stops_at_fetch e.operation) refl
   where
     e : Entry
     e = entry_at t.context t.renamed
@@ -157,10 +158,10 @@ rename_core {start = start} {stamp = stamp} {reorder = reorder} {c = c} {f = f} 
     by_stop : (b : Bool) → stops_at_fetch e.operation ≡ b → IsCore start stamp reorder (if b then g else record g { waiters = f.waiters ++ w ∷ [] }) names c (renamed_one cycle t)
     by_stop true is =
         let done : is_queued n.stage ≡ is_queued e.stage = renamed_queued cycle e.operation ∙ ap not is ∙ sym idle in
-        renamed_over core cycle g some free alone here (λ k. core.waiting k ∙ sym (queued-same k t.context.flight t.renamed n some refl done))
+        renamed_over core cycle g some free here (λ k. core.waiting k ∙ sym (queued-same k t.context.flight t.renamed n some refl done))
     by_stop false is =
         let queued : is_queued n.stage ≡ true = renamed_queued cycle e.operation ∙ ap not is in
-        renamed_over core cycle (record g { waiters = f.waiters ++ w ∷ [] }) some free alone here (λ k.
+        renamed_over core cycle (record g { waiters = f.waiters ++ w ∷ [] }) some free here (λ k.
         let named : ((c == c) && (e.stamp == k)) ≡ (k == e.stamp) = ap (λ b. b && (e.stamp == k)) (eq-eqb c c refl) ∙ eqb-flip e.stamp k in
         ap (λ b. b || is_selected names c k) (waits-push f w c k)
         ∙ one_waits (waits_in f c k) (is_selected names c k) (queued_at k t.context.flight) ((c == c) && (e.stamp == k)) (k == e.stamp) (core.waiting k) named

@@ -19,6 +19,7 @@ use Rattle.core_view.specs.Queues.{is_renamed, AllRenamed}
 use Rattle.core_view.specs.View.{IsLive, StatusHolds, entry_at, no_entry}
 use Rattle.core_view.specs.Events.{retire_event}
 use Rattle.core_view.proofs.Steps.{IsOutcomeSized}
+use Rattle.core_view.proofs.Patient.{patient_drop}
 use Rattle.core_view.proofs.Live.{retire_live, stop_live, flight_running, done_sized}
 use Rattle.data_flow.specs.Flow.{Node, Lane, Flow, no_node, node_at, lane, with_lane, without_oldest, cut_from, cut_flow, waits_in}
 use Rattle.core_back.specs.Track.{Track, is_last, retired, stopped}
@@ -28,7 +29,7 @@ use Rattle.core_back.specs.Machine.{done_outcome, first_done}
 use Rattle.core_back.specs.Cores.{node_of_entry, AllFetched, IsCore}
 use Rattle.core_back.proofs.Waiting.{or_none, queued-drop, queued_past, waits-cut}
 use Rattle.core_back.proofs.Others.{lane-with_same, lane-cut_same, count-with_lane, IsFlightCore, core_from}
-use Rattle.core_back.proofs.Stages.{renamed_place, renamed_drop, unmixed_drop, nodes_drop}
+use Rattle.core_back.proofs.Stages.{renamed_place, renamed_drop, nodes_drop}
 
 -- no instruction is below stamp 0
 none_left : (ns : List Node) → filter (λ (n : Node). nat_lt n.operands.stamp 0) ns ≡ []
@@ -50,7 +51,7 @@ cut_core reorder f c lt room =
       are_renamed = tt;
       are_fetched = tt;
       waiting = λ k. or_none (waits_in (cut_flow f c 0) c k) ∙ waits-cut f c 0 k ∙ and_right (waits_in f c k) (nat_lt k 0) (le-ltb k 0 (omega arith));
-      unmixed = tt;
+      patient = tt;
     }
 
 -- ---- the oldest entry of a flight is done
@@ -161,7 +162,7 @@ module _ (start : State) (stamp reorder : ℕ) (f : Flow) (c : ℕ) (t : Track) 
         are_renamed = renamed_drop (t.renamed - 1) t.context.flight (subst (λ n. AllRenamed (take n t.context.flight)) one core.are_renamed);
         are_fetched = rest_fetched (t.renamed - 1) t.context.flight (subst (λ n. AllFetched (drop n t.context.flight)) one core.are_fetched);
         waiting = λ k. core.waiting k ∙ sym (queued-drop k t.context.flight (ap is_queued stage));
-        unmixed = unmixed_drop t.context.flight core.unmixed;
+        patient = patient_drop t.context.flight core.patient;
       }
     where
       rest_fetched : (n : ℕ) (es : List Entry) → AllFetched (drop (n + 1) es) → AllFetched (drop n (drop 1 es))

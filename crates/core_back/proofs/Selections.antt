@@ -1,8 +1,8 @@
--- What is selected leaves the waiting, and has the values of its sources.
+-- What is selected leaves the waiting, has the values of its sources, and may issue on them.
 use Rattle.std.proofs.Common.{◌≡◌, ℕ, zero, suc, ◌+◌, ◌<◌, Bool, true, false, not, ◌&&◌, ◌||◌, cond, List, [], ◌∷◌, length, get_or, take, map, Option, refl, sym, ap, subst, ◌∙◌, arith}
 use Rattle.std.specs.Prelude.{◌==◌, All, AllPairs, Contains, filter, is_some}
 use Rattle.std.specs.List.{list_any}
-use Rattle.std.proofs.lemmas.Bool.{and_parts, eqb-true, eq-eqb, ne_eqb}
+use Rattle.std.proofs.lemmas.Bool.{and_parts, eqb-true, eq-eqb, ne_eqb, true≢false}
 use Rattle.std.proofs.lemmas.List.{length-map, length-take-le, get_or-map, get_or-take}
 use Rattle.std.proofs.lemmas.List.Elements.{All-head, All-tail, All-map}
 use Rattle.std.proofs.lemmas.List.Folds.{list_any_at, list_any_none}
@@ -15,11 +15,14 @@ use Rattle.core_view.specs.declared.entry.Stage.TheVariants.{Queued}
 use Rattle.core_view.specs.declared.entry.Entry.{Entry}
 use Rattle.core_view.specs.Flight.{known, IsGrowing}
 use Rattle.core_view.specs.View.{entry_at, no_entry}
-use Rattle.data_flow.specs.Flow.{Waiter, Flow, lane, seen_past_node, seen_past_nodes, sources_of, sources_at, is_supplied, waits_in, waits_of, queued_waiter, queued}
+use Rattle.data_flow.specs.Flow.{Waiter, Lane, Flow, lane, seen_past_node, seen_past_nodes, sources_of, sources_at, is_supplied, is_waiter, waits_in, waits_of, queued_waiter, queued}
+use Rattle.core_back.specs.Issuable.{may_issue_at, IsHeld, AreHeld, IsClear}
 use Rattle.core_back.specs.Shown.{AreApart, IsSuppliedIn}
+use Rattle.core_back.specs.Steps.{IsRemarked}
 use Rattle.core_back.specs.Track.{Track}
 use Rattle.core_back.specs.Cores.{operands_of, node_of_entry, is_selected, IsCore}
 use Rattle.core_back.proofs.Flights.{growing_take}
+use Rattle.core_back.proofs.Held.{remarked_lane}
 use Rattle.core_back.proofs.Issues.{selected_at}
 use Rattle.core_back.proofs.Others.{other_core}
 use Rattle.core_back.proofs.Seen.{node_count, operands_at}
@@ -151,6 +154,37 @@ ready_supplied f e from ready =
 pub select_supplied : {key : Waiting → ℕ} {width : ℕ} {rest : List Waiting} {names : List Selected} (f : Flow) → IsSelected key width (queued f) rest names → All (IsSuppliedIn f) names
 select_supplied f s = subst (All (IsSuppliedIn f)) (sym s.names) (All-map (IsSuppliedIn f) name_of s.chosen (λ i d lt. ready_supplied f (get_or s.chosen i d) (s.queued i d lt) (s.ready i d lt)))
 
+-- ---- names are clear
+
+-- a ready entry isn't held
+ready_free : (f : Flow) (e : Waiting) → Contains (queued f) e → IsReady e → ¬ (IsHeld f e.context e.stamp)
+ready_free f e from ready held =
+    let w = get_or f.waiters from.0 no_waiter in
+    let within : from.0 < length f.waiters = omega (arith, from.1, length-map f.waiters (queued_waiter f.lanes)) in
+    let is : e ≡ queued_waiter f.lanes w = sym from.2 ∙ get_or-map (queued_waiter f.lanes) f.waiters from.0 no_waiter e within in
+    let named : is_waiter e.context e.stamp w ≡ true = rw (eq-eqb w.context e.context (ap (λ (x : Waiting). x.context) (sym is)), eq-eqb w.stamp e.stamp (ap (λ (x : Waiting). x.stamp) (sym is))) refl in
+    let bad : true ≡ false = sym (held from.0 no_waiter within named) ∙ ap (λ (x : Waiting). x.held) (sym is) ∙ ready.1 in
+    absurd (true≢false bad)
+
+-- so what was selected isn't
+pub select_free : {key : Waiting → ℕ} {width : ℕ} {rest : List Waiting} {names : List Selected} (f : Flow) → IsSelected key width (queued f) rest names → All (λ n. ¬ (IsHeld f n.context n.stamp)) names
+select_free f s =
+    let free = λ (n : Selected). ¬ (IsHeld f n.context n.stamp) in
+    subst (All free) (sym s.names) (All-map free name_of s.chosen (λ i d lt. ready_free f (get_or s.chosen i d) (s.queued i d lt) (s.ready i d lt)))
+
+-- an entry that was selected and isn't held may issue
+pub select_clear : {start : State} {stamp reorder c : ℕ} {g : Flow} {names : List Selected} {t : Track} (f : Flow) → IsCore start stamp reorder g names c t → (k : ℕ) → is_selected names c k ≡ true → AreHeld f c t → lane g c ≡ lane f c → ¬ (IsHeld f c k) → IsClear g c t k
+select_clear {c = c} {t = t} f core k h held same free i a b lt is sources = by_test (may_issue_at t.context i a b) refl
+  where
+    within : i < length t.context.flight
+    within = omega (arith, lt, core.within)
+
+    by_test : (may : Bool) → may_issue_at t.context i a b ≡ may → may ≡ true
+    by_test true told = refl
+    by_test false told =
+        let here : IsHeld f c (entry_at t.context i).stamp = held i a b lt (selected_at core k i h within is).stage (ap (λ (l : Lane). sources_at l i) (sym same) ∙ sources) told in
+        absurd (free (subst (IsHeld f c) is here))
+
 -- ---- at its place
 
 -- the instruction at a place is the one of its stamp
@@ -180,6 +214,11 @@ supplied_sources {c = c} {f = f} {t = t} core i lt h =
     ∙ ap (λ (x : Entry). is_supplied (known l.registers) l.nodes x.stamp) here ∙ h
 
 -- ---- the core once its entries are selected
+
+-- marks of what waits are nothing of a core
+pub remarked_core : {start : State} {stamp reorder c : ℕ} {f g : Flow} {t : Track} {names : List Selected} → IsCore start stamp reorder f names c t → IsRemarked f g → IsCore start stamp reorder g names c t
+remarked_core {start = start} {stamp = stamp} {reorder = reorder} {c = c} {f = f} {g = g} {t = t} {names = names} core marks =
+    other_core start stamp stamp reorder f g names names c t core (remarked_lane f g c marks) (λ k. ap (λ w. w || is_selected names c k) (marks.waits c k)) (omega arith)
 
 pub select_core : {start : State} {stamp reorder c : ℕ} {f g : Flow} {t : Track} {key : Waiting → ℕ} {width : ℕ} {names : List Selected} → IsCore start stamp reorder f [] c t → g ≡ record f { waiters = g.waiters } → IsSelected key width (queued f) (queued g) names
     → IsCore start stamp reorder g names c t

@@ -2,10 +2,9 @@
 use Rattle.std.proofs.Common.{◌≡◌, ℕ, zero, suc, ◌+◌, ◌<◌, true, false, List, [], ◌∷◌, length, get_or, take, drop, map, refl, sym, ap, subst, ◌∙◌, arith}
 use Rattle.std.specs.Prelude.{set}
 use Rattle.core_view.specs.declared.entry.Entry.{Entry}
-use Rattle.core_view.specs.Operations.{is_store}
 use Rattle.core_view.specs.Queues.{is_renamed, AllRenamed}
 use Rattle.core_view.specs.View.{no_entry}
-use Rattle.core_back.specs.Cores.{node_of_entry, AllFetched, NoRenamedLoad, IsUnmixed}
+use Rattle.core_back.specs.Cores.{node_of_entry, AllFetched}
 
 -- ---- renamed entries
 
@@ -48,33 +47,6 @@ fetched_drop_take zero n es a = fetched_take n es a
 fetched_drop_take (suc r) zero es a = tt
 fetched_drop_take (suc r) (suc n) [] a = tt
 fetched_drop_take (suc r) (suc n) (e ∷ es) a = fetched_drop_take r n es a
-
--- ---- loads and stores
-
-no_load_set : (es : List Entry) (i : ℕ) (e : Entry) → e.operation ≡ (get_or es i no_entry).operation → is_renamed e.stage ≡ is_renamed (get_or es i no_entry).stage → NoRenamedLoad es → NoRenamedLoad (set es i e)
-no_load_set [] i e same stage a = tt
-no_load_set (x ∷ es) zero e same stage a = (rw (same, stage) a.0, a.1)
-no_load_set (x ∷ es) (suc i) e same stage a = (a.0, no_load_set es i e same stage a.1)
-
--- an entry goes on, and is renamed as it was
-pub unmixed_set : (es : List Entry) (i : ℕ) (e : Entry) → e.operation ≡ (get_or es i no_entry).operation → is_renamed e.stage ≡ is_renamed (get_or es i no_entry).stage → IsUnmixed es → IsUnmixed (set es i e)
-unmixed_set [] i e same stage a = tt
-unmixed_set (x ∷ es) zero e same stage a = ((λ store. a.0 (ap is_store (sym same) ∙ store)), a.1)
-unmixed_set (x ∷ es) (suc i) e same stage a = ((λ store. no_load_set es i e same stage (a.0 store)), unmixed_set es i e same stage a.1)
-
-no_load_take : (n : ℕ) (es : List Entry) → NoRenamedLoad es → NoRenamedLoad (take n es)
-no_load_take zero es a = tt
-no_load_take (suc n) [] a = tt
-no_load_take (suc n) (e ∷ es) a = (a.0, no_load_take n es a.1)
-
-pub unmixed_take : (n : ℕ) (es : List Entry) → IsUnmixed es → IsUnmixed (take n es)
-unmixed_take zero es a = tt
-unmixed_take (suc n) [] a = tt
-unmixed_take (suc n) (e ∷ es) a = ((λ store. no_load_take n es (a.0 store)), unmixed_take n es a.1)
-
-pub unmixed_drop : (es : List Entry) → IsUnmixed es → IsUnmixed (drop 1 es)
-unmixed_drop [] a = tt
-unmixed_drop (e ∷ es) a = a.1
 
 -- ---- instructions of the data flow
 

@@ -171,9 +171,9 @@ apart_of : (o : OriginValue) (c : ℕ) → IsTextApart (rights_at (start o c).me
 apart_of o c = elim (place_of o.programs c) as (λ p. IsTextApart (rights_at (start_memory p))) [ None ↦ apart_at_start [] [] | Some p ↦ apart_at_start p.words p.bytes ]
 
 -- a track and the data flow stand for a context that starts in a state
-first_core_at : (o : OriginValue) (c count target reorder : ℕ) (s : State) (f : Flow) (names : List Selected) → count ≤ target → after count (start o c) ≡ Some s → s.pc % 4 ≡ 0 → slice_index s.registers 0 ≡ 0
-    → f.waiters ≡ [] → names ≡ [] → lane f c ≡ record { registers = s.registers; nodes = []; room = reorder } → IsCore (start o c) 0 reorder f names c (first_track count target s (reorder + front_room))
-first_core_at o c count target reorder s f names le reached aligned zero_register waiters empty is = record {
+first_core_at : (o : OriginValue) (c count target reorder load_places store_places : ℕ) (s : State) (f : Flow) (names : List Selected) → count ≤ target → after count (start o c) ≡ Some s → s.pc % 4 ≡ 0 → slice_index s.registers 0 ≡ 0
+    → f.waiters ≡ [] → names ≡ [] → lane f c ≡ record { registers = s.registers; nodes = []; room = reorder } → IsCore (start o c) 0 reorder f names c (first_track count target s (reorder + front_room) load_places store_places)
+first_core_at o c count target reorder load_places store_places s f names le reached aligned zero_register waiters empty is = record {
   live = first_live (start o c) 0 count target s le reached aligned zero_register (apart_of o c);
   registers = ap (λ (l : Lane). l.registers) is;
   nodes = ap (λ (l : Lane). l.nodes) is;
@@ -185,7 +185,7 @@ first_core_at o c count target reorder s f names le reached aligned zero_registe
   are_renamed = tt;
   are_fetched = tt;
   waiting = λ k. rw (waiters, empty) refl;
-  unmixed = tt;
+  patient = tt;
 }
 
 -- the marks are of the origin of the first one
@@ -203,7 +203,7 @@ first_core o c target reorder mark f names t of bounds waiters empty lane_is fir
     let reached : after mark.count (start o c) ≡ Some t.context.state =
     ap (λ (p : OriginValue). after mark.count (start p c)) (sym of.of_origin) ∙ ap (λ (d : ℕ). after mark.count (start mark.origin d)) (sym of.of_context) ∙ first.reached in
     subst (λ (u : Track). IsCore (start o c) 0 reorder f names c u) (sym first.first)
-    (first_core_at o c mark.count target reorder t.context.state f names bounds.above reached first.aligned first.zero_register waiters empty (lane_is t.context.state first.reached))
+    (first_core_at o c mark.count target reorder t.load_places t.store_places t.context.state f names bounds.above reached first.aligned first.zero_register waiters empty (lane_is t.context.state first.reached))
 
 -- the context of a track
 pub context_of_track : (ts : List Track) (c : ℕ) → get_or (map (λ t. t.context) ts) c no_context ≡ (get_or ts c no_track).context

@@ -1,27 +1,36 @@
--- What the loops over a flight find, and what its ring leaves.
-use Rattle.std.proofs.Common.{◌≡◌, ◌≢◌, ℕ, suc, ◌+◌, ◌-◌, ◌<◌, ◌≤◌, Bool, true, false, List, [], ◌∷◌, length, get_or, take, drop, slice_get, Option, Some, None, refl, sym, ap, subst, ◌∙◌, arith, add-one, drop-cons, length-take, length-drop, inl, inr}
-use Rattle.std.specs.Prelude.{set, nat_lt, not, if◌then◌else◌}
+-- What the loops over a flight find, what its ring leaves, and what an entry cuts as it completes.
+use Rattle.std.proofs.Common.{◌≡◌, ◌≢◌, ℕ, suc, ◌+◌, ◌-◌, ◌<◌, ◌≤◌, Bool, true, false, cond, List, [], ◌∷◌, length, get_or, take, drop, slice_get, Option, Some, None, refl, sym, ap, subst, ◌∙◌, arith, add-one, length-take, length-drop, inl, inr}
+use Rattle.std.specs.Prelude.{set, nat_lt, not, min, find, option_map, if◌then◌else◌}
 use Rattle.std.specs.List.{list_any}
-use Rattle.std.proofs.lemmas.Bool.{cases_eq, lt-ltb, le-ltb}
-use Rattle.std.proofs.lemmas.List.{nil_from_length, take_all, length-set, get_or-take, get_or-set_other}
+use Rattle.std.proofs.lemmas.Bool.{cases_eq, lt-ltb, le-ltb, ltb-true, ltb-false}
+use Rattle.std.proofs.lemmas.List.{nil_from_length, take_all, length-set, get_or-drop, get_or-set_other}
 use Rattle.std.proofs.lemmas.List.Folds.{list_any_more, list_any_at}
-use Rattle.std.proofs.lemmas.Option.{get_or_from_slice_get, slice_get-get_or, slice_get_cases, none-some}
+use Rattle.std.proofs.lemmas.Option.{get_or_from_slice_get, slice_get-get_or, slice_get_cases, slice_get_within, none-some}
 use Rattle.circular_buffer.specs.Buffer.{last_item}
-use Rattle.reorder_buffer.specs.Growing.{IsGrowing, below}
+use Rattle.reorder_buffer.specs.Growing.{IsGrowing as IsRising, below}
 use Rattle.reorder_buffer.proofs.Stamps.{take-below}
+use Rattle.hart_step.specs.declared.stop.Stop.{Stop}
 use Rattle.core_view.specs.declared.span.Bytes.{Bytes}
-use Rattle.core_view.specs.declared.span.Span.{Span}
 use Rattle.core_view.specs.declared.outcome.Step.{Step}
-use Rattle.core_view.specs.declared.outcome.Outcome.TheVariants.{Goes}
+use Rattle.core_view.specs.declared.outcome.Outcome.{Outcome}
+use Rattle.core_view.specs.declared.outcome.Outcome.TheVariants.{Goes, Stops}
 use Rattle.core_view.specs.declared.entry.Execution.{Execution}
+use Rattle.core_view.specs.declared.entry.Stage.{Stage}
+use Rattle.core_view.specs.declared.entry.Stage.TheVariants.{Issued, Done}
 use Rattle.core_view.specs.declared.entry.Entry.{Entry}
-use Rattle.core_view.specs.Operations.{stops_at_fetch}
-use Rattle.core_view.specs.Spans.{shares}
-use Rattle.core_view.specs.Outcomes.{bytes_written}
-use Rattle.core_view.specs.Flight.{pc_past, is_open, span_read, touches, clean_length}
+use Rattle.core_view.specs.Operations.{stops_at_fetch, is_store}
+use Rattle.core_view.specs.Outcomes.{Image, bytes_written}
+use Rattle.core_view.specs.Flight.{Seen, seen_past, pc_past, is_open, span_read, bytes_in, touches, clean_length, HasOutcome, IsSoundEntry, IsSound}
 use Rattle.core_view.specs.Events.{is_mispredicted, kept_length, completed_entry, complete_in}
+use Rattle.core_view.specs.Queues.{loads_of, conflict_in, conflict_of}
 use Rattle.core_view.specs.View.{no_entry}
+use Rattle.core_view.proofs.Accesses.{stage_bytes}
+use Rattle.core_view.proofs.Patient.{store_predicted}
+use Rattle.core_view.proofs.Queues.{queue_conflict}
 use Rattle.core_view.proofs.RingForm.{complete_take}
+use Rattle.core_view.proofs.Sound.{sound_at}
+use Rattle.core_back.specs.Track.{Track, left_by, cut_stamp, finished, cut_at, completed}
+use Rattle.core_back.proofs.Slots.{growing_whole}
 
 -- ---- an entry at a place
 
@@ -81,58 +90,9 @@ module _ (test : Entry → Bool) where
   pub some_at : (es : List Entry) (i : ℕ) (e : Entry) → slice_get es i ≡ Some e → test e ≡ true → list_any test es ≡ true
   some_at es i e is here = list_any_at test es i e (within es i e is) (ap test (get_or_from_slice_get es i e e is) ∙ here)
 
-  -- it is one of the first n
-  pub some_in : (es : List Entry) (n i : ℕ) (e : Entry) → i < n → slice_get es i ≡ Some e → test e ≡ true → list_any test (take n es) ≡ true
-  some_in es n i e lt is here = some_at (take n es) i e (slice_get_take es n i e lt is) here
-    where
-      slice_get_take : (es : List Entry) (n i : ℕ) (e : Entry) → i < n → slice_get es i ≡ Some e → slice_get (take n es) i ≡ Some e
-      slice_get_take es n i e lt is =
-          let le : i < length (take n es) = length_past es n i lt (within es i e is) in
-          slice_get-get_or (take n es) i e le ∙ ap (λ f. Some f) (get_or-take n es i e lt ∙ get_or_from_slice_get es i e e is)
-        where
-          length_past : (es : List Entry) (n i : ℕ) → i < n → i < length es → i < length (take n es)
-          length_past es n i lt here = grind (arith, length-take)
-
   -- none of all
   pub none_all : (es : List Entry) (n : ℕ) → length es ≤ n → list_any test (take n es) ≡ false → list_any test es ≡ false
   none_all es n le none = ap (list_any test) (sym (take_all n es le)) ∙ none
-
--- ---- the oldest issued load that shares a byte
-
-module _ (b : Option Bytes) (es : List Entry) (i : ℕ) (e : Entry) (is : slice_get es i ≡ Some e) where
-  -- the entry at i does
-  pub clean_here : touches b (span_read e.stage) ≡ true → clean_length b (drop i es) ≡ 0
-  clean_here here = rw (drop-cons es i e (within es i e is), get_or_from_slice_get es i e e is, here) refl
-
-  -- it doesn't
-  pub clean_next : touches b (span_read e.stage) ≡ false → i + clean_length b (drop i es) ≡ i + 1 + clean_length b (drop (i + 1) es)
-  clean_next clear =
-      let one : i + 1 ≡ suc i = omega arith in
-      let next : clean_length b (drop i es) ≡ clean_length b (drop (suc i) es) + 1 = rw (drop-cons es i e (within es i e is), get_or_from_slice_get es i e e is, clear) refl in
-      rw one (omega (arith, next))
-
--- a store touches a load by its span
-pub touches_some : (b : Bytes) (read : Option Span) (s : Span) (t : Bool) → read ≡ Some s → shares b.span s ≡ t → touches (Some b) read ≡ t
-touches_some b read s t is shared = rw is shared
-
-pub touches_none : (b : Bytes) (read : Option Span) → read ≡ None → touches (Some b) read ≡ false
-touches_none b read is = rw is refl
-
--- nothing stands there
-pub clean_past : (b : Option Bytes) (es : List Entry) (i : ℕ) → length es ≤ i → clean_length b (drop i es) ≡ 0
-clean_past b es i le = rw (nil_from_length (drop i es) (omega (arith, length-drop i es))) refl
-
--- what writes nothing touches nothing
-clean_none : (es : List Entry) → clean_length None es ≡ length es
-clean_none [] = refl
-clean_none (e ∷ es) = rw (clean_none es, add-one) refl
-
--- an entry that goes on, was guessed right and writes nothing leaves all
-pub left_all : (es : List Entry) (i : ℕ) (e : Entry) (x : Execution) (step : Step) → slice_get es i ≡ Some e → x.outcome ≡ Goes step → is_mispredicted e step ≡ false → bytes_written step.access ≡ None
-    → i + 1 + kept_length (get_or es i no_entry) x.outcome (drop (i + 1) es) ≡ length es
-left_all es i e x step is goes right bytes =
-    let lt : i < length es = within es i e is in
-    rw (get_or_from_slice_get es i e no_entry is, goes, right, bytes) (omega (arith, lt, clean_none (drop (i + 1) es), length-drop (i + 1) es))
 
 -- ---- cuts
 
@@ -144,7 +104,7 @@ below_zero stamp (x ∷ xs) =
     rw first (below_zero stamp xs)
 
 -- what is below the stamp of the entry at k stands before it
-pub below_at : {X : Type 0} (stamp : X → ℕ) (xs : List X) (k : ℕ) (x : X) → IsGrowing stamp xs → slice_get xs k ≡ Some x → below stamp (stamp x) xs ≡ take k xs
+pub below_at : {X : Type 0} (stamp : X → ℕ) (xs : List X) (k : ℕ) (x : X) → IsRising stamp xs → slice_get xs k ≡ Some x → below stamp (stamp x) xs ≡ take k xs
 below_at stamp xs k x growing is =
     let lt : k < length xs = within xs k x is in
     sym (take-below stamp (stamp x) k xs (omega (arith, lt)) front rest)
@@ -168,36 +128,154 @@ below_at stamp xs k x growing is =
 abbrev left_in : List Entry → ℕ → Execution → ℕ
 left_in es i x = i + 1 + kept_length (get_or es i no_entry) x.outcome (drop (i + 1) es)
 
-module _ (es new : List Entry) (i n : ℕ) (e : Entry) (x : Execution) (is : slice_get es i ≡ Some e) (left : n ≡ left_in es i x) (written : new ≡ set es i (completed_entry e x)) where
-  -- the entry is written, and a front is kept
-  front : complete_in es i x ≡ take n new
-  front =
-      let here : get_or es i no_entry ≡ e = get_or_from_slice_get es i e no_entry is in
-      complete_take es i x no_entry (within es i e is) ∙ ap (λ (f : Entry). take (left_in es i x) (set es i (completed_entry f x))) here ∙ sym (ap (λ k. take k (set es i (completed_entry e x))) left) ∙ ap (take n) (sym written)
+-- the stamp of the entry at n, if there is one
+abbrev stamp_if : ℕ → List Entry → Option ℕ
+stamp_if n es = if nat_lt n (length es) then Some (get_or es n no_entry).stamp else None
 
-  as_long : length new ≡ length es
-  as_long = ap (λ (fs : List Entry). length fs) written ∙ length-set es i (completed_entry e x)
+stamp_none : (n : ℕ) (es : List Entry) → length es ≤ n → None ≡ stamp_if n es
+stamp_none n es le = rw (le-ltb n (length es) le) refl
 
-  -- nothing stands past what is left
-  pub uncut : slice_get new n ≡ None → new ≡ complete_in es i x
-  uncut none = sym (front ∙ take_all n new (past new n none))
+stamp_some : (n : ℕ) (es : List Entry) → n < length es → Some (get_or es n no_entry).stamp ≡ stamp_if n es
+stamp_some n es lt = rw (lt-ltb n (length es) lt) refl
 
-  pub no_stamp : slice_get new n ≡ None → None ≡ (if nat_lt (left_in es i x) (length es) then Some (get_or es (left_in es i x) no_entry).stamp else None)
-  no_stamp none = subst (λ k. None ≡ (if nat_lt k (length es) then Some (get_or es k no_entry).stamp else None)) left (rw (le-ltb n (length es) (subst (λ k. k ≤ n) as_long (past new n none))) refl)
+stamp_past : (n : ℕ) (es : List Entry) → stamp_if n es ≡ None → length es ≤ n
+stamp_past n es h = go (nat_lt n (length es)) refl h
+  where
+    go : (t : Bool) → nat_lt n (length es) ≡ t → (if t then Some (get_or es n no_entry).stamp else None) ≡ None → length es ≤ n
+    go true is none = absurd cc
+    go false is none = ltb-false n (length es) is
 
-  -- an entry stands there
-  module _ (f : Entry) (at : slice_get new n ≡ Some f) where
-    pub some_stamp : Some f.stamp ≡ (if nat_lt (left_in es i x) (length es) then Some (get_or es (left_in es i x) no_entry).stamp else None)
-    some_stamp =
-        let lt : n < length es = subst (λ k. n < k) as_long (within new n f at) in
-        let other : n ≢ i = λ same. omega (arith, same, left) in
-        let read : get_or es n no_entry ≡ f = sym (get_or-set_other es i n (completed_entry e x) no_entry other) ∙ ap (λ (fs : List Entry). get_or fs n no_entry) (sym written) ∙ get_or_from_slice_get new n f no_entry at in
-        subst (λ k. Some f.stamp ≡ (if nat_lt k (length es) then Some (get_or es k no_entry).stamp else None)) left (rw (lt-ltb n (length es) lt, read) refl)
+stamp_at : (n k : ℕ) (es : List Entry) → stamp_if n es ≡ Some k → (n < length es) × ((get_or es n no_entry).stamp ≡ k)
+stamp_at n k es h = go (nat_lt n (length es)) refl h
+  where
+    go : (t : Bool) → nat_lt n (length es) ≡ t → (if t then Some (get_or es n no_entry).stamp else None) ≡ Some k → (n < length es) × ((get_or es n no_entry).stamp ≡ k)
+    go true is some = (ltb-true n (length es) is, cc)
+    go false is some = absurd cc
 
-    pub cut : IsGrowing (λ (e : Entry). e.stamp) new → below (λ (e : Entry). e.stamp) f.stamp new ≡ complete_in es i x
-    cut growing = below_at (λ (e : Entry). e.stamp) new n f growing at ∙ sym front
+stamp-drop : (n i : ℕ) (es : List Entry) → i < length es → stamp_if n (drop (i + 1) es) ≡ stamp_if (i + 1 + n) es
+stamp-drop n i es lt = go (nat_lt n (length (drop (i + 1) es))) refl
+  where
+    go : (t : Bool) → nat_lt n (length (drop (i + 1) es)) ≡ t → (if t then Some (get_or (drop (i + 1) es) n no_entry).stamp else None) ≡ stamp_if (i + 1 + n) es
+    go true is = ap (λ (f : Entry). Some f.stamp) (get_or-drop (i + 1) es n no_entry) ∙ stamp_some (i + 1 + n) es (omega (arith, ltb-true n (length (drop (i + 1) es)) is, length-drop (i + 1) es))
+    go false is = stamp_none (i + 1 + n) es (omega (arith, ltb-false n (length (drop (i + 1) es)) is, length-drop (i + 1) es))
 
-    pub cut_length : IsGrowing (λ (e : Entry). e.stamp) new → length (below (λ (e : Entry). e.stamp) f.stamp new) ≡ n
-    cut_length growing =
-        let lt : n < length new = within new n f at in
-        ap (λ (fs : List Entry). length fs) (below_at (λ (e : Entry). e.stamp) new n f growing at) ∙ omega (arith, lt, length-take n new)
+-- what writes nothing touches nothing
+clean_none : (es : List Entry) → clean_length None es ≡ length es
+clean_none [] = refl
+clean_none (e ∷ es) = rw (clean_none es, add-one) refl
+
+-- the oldest conflict stands behind what a store leaves
+conflict_stamp : (b : Option Bytes) (es : List Entry) → conflict_of es b ≡ stamp_if (clean_length b es) es
+conflict_stamp b [] = refl
+conflict_stamp b (e ∷ es) = go (touches b (span_read e.stage)) (conflict_stamp b es)
+  where
+    go : (t : Bool) → conflict_of es b ≡ stamp_if (clean_length b es) es
+        → option_map (λ f. f.stamp) (cond t (Some e) (find (λ f. touches b (span_read f.stage)) es)) ≡ stamp_if (if t then 0 else clean_length b es + 1) (e ∷ es)
+    go true ih = stamp_some 0 (e ∷ es) (omega arith)
+    go false ih = ih ∙ sym (next (clean_length b es))
+      where
+        next : (n : ℕ) → stamp_if (n + 1) (e ∷ es) ≡ stamp_if n es
+        next n = by_order (nat_lt n (length es)) refl
+          where
+            one : n + 1 ≡ suc n
+            one = omega arith
+
+            by_order : (t : Bool) → nat_lt n (length es) ≡ t → stamp_if (n + 1) (e ∷ es) ≡ (if t then Some (get_or es n no_entry).stamp else None)
+            by_order true is = sym (stamp_some (n + 1) (e ∷ es) (omega (arith, ltb-true n (length es) is))) ∙ ap (λ m. Some (get_or (e ∷ es) m no_entry).stamp) one
+            by_order false is = sym (stamp_none (n + 1) (e ∷ es) (omega (arith, ltb-false n (length es) is)))
+
+module _ (es : List Entry) (i : ℕ) (e : Entry) (x : Execution) (is : slice_get es i ≡ Some e) where
+  here : get_or es i no_entry ≡ e
+  here = get_or_from_slice_get es i e no_entry is
+
+  -- a stop leaves all
+  pub cut_stop : (why : Stop) → x.outcome ≡ Stops why → None ≡ stamp_if (left_in es i x) es
+  cut_stop why stops = stamp_none (left_in es i x) es (rw stops (omega (arith, slice_get_within es i e is, length-drop (i + 1) es)))
+
+  -- so does an entry that goes on, was guessed right and writes nothing
+  pub cut_right : (step : Step) → x.outcome ≡ Goes step → is_mispredicted e step ≡ false → bytes_written step.access ≡ None → None ≡ stamp_if (left_in es i x) es
+  cut_right step goes right bytes =
+      stamp_none (left_in es i x) es (rw (goes, here, right, bytes) (omega (arith, slice_get_within es i e is, clean_none (drop (i + 1) es), length-drop (i + 1) es)))
+
+  -- a wrong guess leaves nothing behind the entry
+  left_wrong : (step : Step) → x.outcome ≡ Goes step → is_mispredicted e step ≡ true → left_in es i x ≡ i + 1
+  left_wrong step goes wrong = rw (goes, here, wrong) (omega arith)
+
+  module _ (new : List Entry) (written : new ≡ set es i (completed_entry e x)) where
+    as_long : length new ≡ length es
+    as_long = ap (λ (fs : List Entry). length fs) written ∙ length-set es i (completed_entry e x)
+
+    pub cut_wrong_none : (step : Step) → x.outcome ≡ Goes step → is_mispredicted e step ≡ true → slice_get new (i + 1) ≡ None → None ≡ stamp_if (left_in es i x) es
+    cut_wrong_none step goes wrong none = stamp_none (left_in es i x) es (omega (arith, left_wrong step goes wrong, past new (i + 1) none, as_long))
+
+    pub cut_wrong_some : (step : Step) (f : Entry) → x.outcome ≡ Goes step → is_mispredicted e step ≡ true → slice_get new (i + 1) ≡ Some f → Some f.stamp ≡ stamp_if (left_in es i x) es
+    cut_wrong_some step f goes wrong at =
+        let other : i + 1 ≢ i = λ same. omega (arith, same) in
+        let read : get_or es (i + 1) no_entry ≡ f =
+        sym (get_or-set_other es i (i + 1) (completed_entry e x) no_entry other) ∙ ap (λ (fs : List Entry). get_or fs (i + 1) no_entry) (sym written) ∙ get_or_from_slice_get new (i + 1) f no_entry at in
+        ap (λ (g : Entry). Some g.stamp) (sym read) ∙ stamp_some (i + 1) es (omega (arith, within new (i + 1) f at, as_long)) ∙ ap (λ n. stamp_if n es) (sym (left_wrong step goes wrong))
+
+  module _ (image : Image) (seen : Seen) (pc : ℕ) (stage : e.stage ≡ Issued x) (sound : IsSound image seen pc es) where
+    -- what isn't a store writes nothing
+    pub writes_none : is_store e.operation ≡ false → bytes_in x.outcome ≡ None
+    writes_none other =
+        let at : IsSoundEntry image (seen_past seen (take i es)) (pc_past pc (take i es)) e = subst (λ (f : Entry). IsSoundEntry image (seen_past seen (take i es)) (pc_past pc (take i es)) f) here (sound_at image seen pc es i no_entry (slice_get_within es i e is) sound) in
+        let out : HasOutcome image (seen_past seen (take i es)) e.operation e.pc (Done x) = issued_done (seen_past seen (take i es)) (subst (λ (s : Stage). HasOutcome image (seen_past seen (take i es)) e.operation e.pc s) stage at.outcome) in
+        stage_bytes image (seen_past seen (take i es)) e.operation e.pc (Done x) other out
+      where
+        issued_done : (at : Seen) → HasOutcome image at e.operation e.pc (Issued x) → HasOutcome image at e.operation e.pc (Done x)
+        issued_done at has = has.1
+
+    -- a store leaves what stands before the oldest conflict
+    pub cut_store : IsRising (λ (f : Entry). f.stamp) es → is_store e.operation ≡ true → conflict_in (loads_of es) e.stamp (bytes_in x.outcome) ≡ stamp_if (left_in es i x) es
+    cut_store rising store =
+        ap (λ (f : Entry). conflict_in (loads_of es) f.stamp (bytes_in x.outcome)) (sym (get_or_from_slice_get es i e e is))
+        ∙ queue_conflict image seen pc 0 es i e (bytes_in x.outcome) (slice_get_within es i e is) (growing_whole es rising) sound
+        ∙ ap (λ k. conflict_of (drop k es) (bytes_in x.outcome)) (sym (add-one i)) ∙ conflict_stamp (bytes_in x.outcome) (drop (i + 1) es)
+        ∙ stamp-drop (clean_length (bytes_in x.outcome) (drop (i + 1) es)) i es (slice_get_within es i e is)
+        ∙ ap (λ n. stamp_if (i + 1 + n) es) (kept x.outcome ∙ ap (λ (f : Entry). kept_length f x.outcome (drop (i + 1) es)) (sym here))
+      where
+        kept : (o : Outcome) → clean_length (bytes_in o) (drop (i + 1) es) ≡ kept_length e o (drop (i + 1) es)
+        kept (Stops why) = clean_none (drop (i + 1) es)
+        kept (Goes step) = let right = store_predicted e step store in rw right refl
+
+-- ---- what is left once it is cut
+
+module _ (es : List Entry) (i : ℕ) (x : Execution) (lt : i < length es) where
+  -- nothing is
+  pub uncut : stamp_if (left_in es i x) es ≡ None → set es i (completed_entry (get_or es i no_entry) x) ≡ complete_in es i x
+  uncut none =
+      let le = stamp_past (left_in es i x) es none in
+      sym (complete_take es i x no_entry lt ∙ take_all (left_in es i x) (set es i (completed_entry (get_or es i no_entry) x)) (omega (arith, le, length-set es i (completed_entry (get_or es i no_entry) x))))
+
+  module _ (k : ℕ) (some : stamp_if (left_in es i x) es ≡ Some k) where
+    pub left_within : left_in es i x < length es
+    left_within = (stamp_at (left_in es i x) k es some).0
+
+    pub cut : IsRising (λ (f : Entry). f.stamp) (set es i (completed_entry (get_or es i no_entry) x)) → below (λ (f : Entry). f.stamp) k (set es i (completed_entry (get_or es i no_entry) x)) ≡ take (left_in es i x) (set es i (completed_entry (get_or es i no_entry) x))
+    cut rising =
+        let other : left_in es i x ≢ i = λ same. omega (arith, same) in
+        let read : get_or (set es i (completed_entry (get_or es i no_entry) x)) (left_in es i x) no_entry ≡ get_or es (left_in es i x) no_entry = get_or-set_other es i (left_in es i x) (completed_entry (get_or es i no_entry) x) no_entry other in
+        let stamp : (get_or (set es i (completed_entry (get_or es i no_entry) x)) (left_in es i x) no_entry).stamp ≡ k = ap (λ (f : Entry). f.stamp) read ∙ (stamp_at (left_in es i x) k es some).1 in
+        ap (λ m. below (λ (f : Entry). f.stamp) m (set es i (completed_entry (get_or es i no_entry) x))) (sym stamp)
+        ∙ below_at (λ (f : Entry). f.stamp) (set es i (completed_entry (get_or es i no_entry) x)) (left_in es i x) (get_or (set es i (completed_entry (get_or es i no_entry) x)) (left_in es i x) no_entry) rising
+        (slice_get-get_or (set es i (completed_entry (get_or es i no_entry) x)) (left_in es i x) no_entry (omega (arith, left_within, length-set es i (completed_entry (get_or es i no_entry) x))))
+
+-- ---- the track
+
+-- an entry that cuts nothing completes
+pub complete_whole : (t : Track) (i : ℕ) (x : Execution) → i < length t.context.flight → (finished t i x).renamed ≤ length (finished t i x).context.flight → cut_stamp t.context i x ≡ None → finished t i x ≡ completed t i x
+complete_whole t i x lt within none =
+    let same : t.renamed ≡ min t.renamed (left_by t.context i x) = omega (arith, within, length-set t.context.flight i (completed_entry (get_or t.context.flight i no_entry) x), stamp_past (left_by t.context i x) t.context.flight none) in
+    ap (λ (es : List Entry). record t { context = record t.context { flight = es } }) (uncut t.context.flight i x lt none)
+    ∙ ap (λ n. record t { context = record t.context { flight = complete_in t.context.flight i x }; renamed = n }) same
+
+-- one that does
+pub complete_cut : (t : Track) (i k : ℕ) (x : Execution) → i < length t.context.flight → IsRising (λ (f : Entry). f.stamp) (finished t i x).context.flight → cut_stamp t.context i x ≡ Some k → cut_at (finished t i x) k ≡ completed t i x
+complete_cut t i k x lt rising some =
+    let front : below (λ (f : Entry). f.stamp) k (set t.context.flight i (completed_entry (get_or t.context.flight i no_entry) x)) ≡ take (left_by t.context i x) (set t.context.flight i (completed_entry (get_or t.context.flight i no_entry) x)) = cut t.context.flight i x lt k some rising in
+    let len : length (take (left_by t.context i x) (set t.context.flight i (completed_entry (get_or t.context.flight i no_entry) x))) ≡ left_by t.context i x =
+    omega (arith, left_within t.context.flight i x lt k some, length-take (left_by t.context i x) (set t.context.flight i (completed_entry (get_or t.context.flight i no_entry) x)), length-set t.context.flight i (completed_entry (get_or t.context.flight i no_entry) x)) in
+    ap (λ (fs : List Entry). record t { context = record t.context { flight = fs }; renamed = min t.renamed (length fs) }) front
+    ∙ ap (λ m. record t { context = record t.context { flight = take (left_by t.context i x) (set t.context.flight i (completed_entry (get_or t.context.flight i no_entry) x)) }; renamed = min t.renamed m }) len
+    ∙ ap (λ (fs : List Entry). record t { context = record t.context { flight = fs }; renamed = min t.renamed (left_by t.context i x) }) (sym (complete_take t.context.flight i x no_entry lt))

@@ -1,12 +1,13 @@
 -- How the parts of a core stand for its contexts.
-use Rattle.std.specs.Prelude.{◌≡◌, ℕ, ◌+◌, ◌≤◌, Bool, true, false, ◌&&◌, ◌||◌, ◌==◌, if◌then◌else◌, List, [], ◌∷◌, length, map, take, drop, None}
+use Rattle.std.specs.Prelude.{◌≡◌, ℕ, ◌+◌, ◌≤◌, Bool, ◌&&◌, ◌||◌, ◌==◌, if◌then◌else◌, List, [], ◌∷◌, length, map, take, drop, None}
 use Rattle.std.specs.List.{list_any}
 use Rattle.hart_step.specs.State.{State}
 use Rattle.core_view.specs.declared.entry.Stage.TheVariants.{Fetched}
 use Rattle.core_view.specs.declared.entry.Entry.{Entry}
-use Rattle.core_view.specs.Operations.{is_load, is_store, destination_of, first_source_of, second_source_of}
+use Rattle.core_view.specs.Loads.{IsPatient}
+use Rattle.core_view.specs.Operations.{destination_of, first_source_of, second_source_of}
 use Rattle.core_view.specs.Flight.{result_of}
-use Rattle.core_view.specs.Queues.{is_renamed, AllRenamed}
+use Rattle.core_view.specs.Queues.{AllRenamed}
 use Rattle.core_view.specs.View.{IsLive}
 use Rattle.issue_queue.specs.declared.entry.Selected.{Selected}
 use Rattle.data_flow.specs.declared.operands.Operands.{Operands}
@@ -31,16 +32,6 @@ abbrev pub AllFetched : List Entry → Type 0
 AllFetched [] = Unit {0}
 AllFetched (e ∷ es) = (e.stage ≡ Fetched) × AllFetched es
 
--- none of these is a load that is renamed
-abbrev pub NoRenamedLoad : List Entry → Type 0
-NoRenamedLoad [] = Unit {0}
-NoRenamedLoad (e ∷ es) = ((is_load e.operation && is_renamed e.stage) ≡ false) × NoRenamedLoad es
-
--- no load is renamed behind a store
-abbrev pub IsUnmixed : List Entry → Type 0
-IsUnmixed [] = Unit {0}
-IsUnmixed (e ∷ es) = (is_store e.operation ≡ true → NoRenamedLoad es) × IsUnmixed es
-
 -- the entry of a context and stamp was selected, and has not issued yet
 abbrev pub is_selected : List Selected → ℕ → ℕ → Bool
 is_selected names c k = list_any (λ n. (n.context == c) && (n.stamp == k)) names
@@ -64,4 +55,4 @@ pub record IsCore (start : State) (stamp reorder : ℕ) (f : Flow) (names : List
   pub are_renamed : AllRenamed (take t.renamed t.context.flight)
   pub are_fetched : AllFetched (drop t.renamed t.context.flight)
   pub waiting : (k : ℕ) → (waits_in f c k || is_selected names c k) ≡ queued_at k t.context.flight
-  pub unmixed : IsUnmixed t.context.flight
+  pub patient : IsPatient t.context.flight

@@ -45,7 +45,7 @@ pub record AreSizes (reorder extra places : ℕ) : Type 0 where
 -- a track in the state of a mark, with nothing in flight
 pub record IsFirstTrack (mark : MarkValue) (target capacity : ℕ) (t : Track) : Type 0 where
   pub reached : state_of mark ≡ Some t.context.state
-  pub first : t ≡ first_track mark.count target t.context.state capacity
+  pub first : t ≡ first_track mark.count target t.context.state capacity t.load_places t.store_places
   pub aligned : t.context.state.pc % 4 ≡ 0
   pub zero_register : slice_index t.context.state.registers 0 ≡ 0
 

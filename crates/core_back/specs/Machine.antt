@@ -29,7 +29,7 @@ abbrev pub no_context : Context
 no_context = first_context 0 0 no_state
 
 abbrev pub no_track : Track
-no_track = first_track 0 0 no_state 0
+no_track = first_track 0 0 no_state 0 0 0
 
 abbrev pub context_at : Machine → ℕ → Context
 context_at m c = get_or m.view.contexts c no_context

@@ -1,9 +1,10 @@
 -- Which entries can be renamed.
-use Rattle.std.specs.Prelude.{◌≡◌, ℕ, ◌<◌, true, false, length, take}
-use Rattle.core_view.specs.Operations.{destination_of, stops_at_fetch, is_load}
+use Rattle.std.specs.Prelude.{◌≡◌, ℕ, ◌<◌, true, false, length}
+use Rattle.core_view.specs.Operations.{destination_of, stops_at_fetch, is_load, is_store}
+use Rattle.core_view.specs.Queues.{loads_of, stores_of}
 use Rattle.core_view.specs.View.{entry_at}
 use Rattle.data_flow.specs.Flow.{Flow, taken}
-use Rattle.core_back.specs.Track.{Track, has_store}
+use Rattle.core_back.specs.Track.{Track}
 
 -- the oldest fetched entry has this stamp, and each place that it needs is free
 pub record IsRenamable (f : Flow) (t : Track) (reorder stamp : ℕ) : Type 0 where
@@ -12,4 +13,5 @@ pub record IsRenamable (f : Flow) (t : Track) (reorder stamp : ℕ) : Type 0 whe
   pub stamp_is : (entry_at t.context t.renamed).stamp ≡ stamp
   pub free : 0 < destination_of (entry_at t.context t.renamed).operation → taken f < f.extra
   pub place : stops_at_fetch (entry_at t.context t.renamed).operation ≡ false → length f.waiters < f.places
-  pub clear : is_load (entry_at t.context t.renamed).operation ≡ true → has_store (take t.renamed t.context.flight) ≡ false
+  pub load : is_load (entry_at t.context t.renamed).operation ≡ true → length (loads_of t.context.flight) < t.load_places
+  pub store : is_store (entry_at t.context t.renamed).operation ≡ true → length (stores_of t.context.flight) < t.store_places

@@ -8,6 +8,7 @@ use Rattle.core_back.specs.declared.machine.Machine.TheInside.{Inside}
 use Rattle.core_view.specs.Flight.{known}
 use Rattle.data_flow.specs.Flow.{Flow, lane, is_supplied, waits_in}
 use Rattle.core_back.specs.Cores.{IsCore}
+use Rattle.core_back.specs.Issuable.{IsClear}
 use Rattle.core_back.specs.Machine.{Machine, no_track}
 
 abbrev pub machine_of : {A : Type 0} → Inside A → Machine
@@ -35,6 +36,7 @@ pub record IsMachine {A : Type 0} (m : Inside A) : Type 0 where
   pub lanes : length m.flow.lanes ≡ 8
   pub apart : AllPairs AreApart m.selected.items
   pub supplied : All (IsSuppliedIn m.flow) m.selected.items
+  pub clear : All (λ n. IsClear m.flow n.context (get_or m.tracks.items n.context no_track) n.stamp) m.selected.items
   pub left : All (λ n. waits_in m.flow n.context n.stamp ≡ false) m.selected.items
   pub stamps : m.stamp + m.fetch_room ≤ 8 * (m.cycle + 1)
   pub bounded : m.reorder ≤ 64

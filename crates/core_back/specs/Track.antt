@@ -1,23 +1,24 @@
 -- One context, and what each event makes of it.
-use Rattle.std.specs.Prelude.{ℕ, ◌+◌, ◌-◌, Bool, ◌==◌, nat_lt, if◌then◌else◌, List, [], ◌∷◌, ◌++◌, length, drop, min, Option, Some, None}
-use Rattle.std.specs.List.{list_any}
+use Rattle.std.specs.Prelude.{ℕ, ◌+◌, ◌-◌, Bool, ◌==◌, nat_lt, if◌then◌else◌, [], ◌∷◌, ◌++◌, length, drop, min, slice_set, Option, Some, None}
+use Rattle.reorder_buffer.specs.Growing.{below}
 use Rattle.hart_step.specs.declared.stop.Stop.{Stop}
 use Rattle.hart_step.specs.State.{State}
 use Rattle.core_view.specs.declared.outcome.Step.{Step}
 use Rattle.core_view.specs.declared.entry.Execution.{Execution}
 use Rattle.core_view.specs.declared.entry.Entry.{Entry}
-use Rattle.core_view.specs.Operations.{is_store}
 use Rattle.core_view.specs.View.{Context, entry_at, first_context}
-use Rattle.core_view.specs.Events.{retire_event, stop_event, complete_event, kept_length, issue_event, rename_event, fetch_event, with_flight}
+use Rattle.core_view.specs.Events.{completed_entry, retire_event, stop_event, complete_event, kept_length, issue_event, rename_event, fetch_event, with_flight}
 
--- a context, how many of its entries are renamed, which are the oldest, and how many entries there may be
+-- a context, how many of its entries are renamed, which are the oldest, how many entries there may be, and how many renamed loads and stores
 pub record Track : Type 0 where
   pub context : Context
   pub renamed : ℕ
   pub capacity : ℕ
+  pub load_places : ℕ
+  pub store_places : ℕ
 
-abbrev pub first_track : ℕ → ℕ → State → ℕ → Track
-first_track count target s capacity = record { context = first_context count target s; renamed = 0; capacity = capacity }
+abbrev pub first_track : ℕ → ℕ → State → ℕ → ℕ → ℕ → Track
+first_track count target s capacity load_places store_places = record { context = first_context count target s; renamed = 0; capacity = capacity; load_places = load_places; store_places = store_places }
 
 -- the context reaches its target as its oldest entry retires
 abbrev pub is_last : Context → Bool
@@ -36,6 +37,14 @@ stopped t why = record t { context = stop_event t.context why; renamed = 0 }
 -- how many entries are left once the entry at a place has completed
 abbrev pub left_by : Context → ℕ → Execution → ℕ
 left_by c i x = i + 1 + kept_length (entry_at c i) x.outcome (drop (i + 1) c.flight)
+
+-- the entry at a place has completed, and nothing is cut yet
+abbrev pub finished : Track → ℕ → Execution → Track
+finished t i x = record t { context = with_flight t.context (slice_set t.context.flight i (completed_entry (entry_at t.context i) x)) }
+
+-- without the entries from a stamp on
+abbrev pub cut_at : Track → ℕ → Track
+cut_at t k = let es = below (λ e. e.stamp) k t.context.flight in record t { context = with_flight t.context es; renamed = min t.renamed (length es) }
 
 abbrev pub completed : Track → ℕ → Execution → Track
 completed t i x = record t { context = complete_event t.context i x; renamed = min t.renamed (left_by t.context i x) }
@@ -56,7 +65,3 @@ fetched_one stamp cycle followed t = record t { context = fetch_event stamp cycl
 -- one more entry, the youngest
 abbrev pub pushed : Track → Entry → Track
 pushed t e = record t { context = with_flight t.context (t.context.flight ++ e ∷ []) }
-
--- one of these entries is a store
-abbrev pub has_store : List Entry → Bool
-has_store es = list_any (λ e. is_store e.operation) es

@@ -7,4 +7,4 @@ use Rattle.core_back.specs.Track.{Track}
 
 -- a track is told by the tuple of its fields
 abbrev pub coded_track : Coded Track
-coded_track = code_by (Context × (ℕ × ℕ)) (coded× coded_context (coded× coded_ℕ coded_ℕ)) (λ t. (t.context, (t.renamed, t.capacity))) (λ p. record { context = p.0; renamed = p.1.0; capacity = p.1.1 }) (λ _. refl)
+coded_track = code_by (Context × (ℕ × (ℕ × (ℕ × ℕ)))) (coded× coded_context (coded× coded_ℕ (coded× coded_ℕ (coded× coded_ℕ coded_ℕ)))) (λ t. (t.context, (t.renamed, (t.capacity, (t.load_places, t.store_places))))) (λ p. record { context = p.0; renamed = p.1.0; capacity = p.1.1.0; load_places = p.1.1.1.0; store_places = p.1.1.1.1 }) (λ _. refl)

@@ -1,12 +1,16 @@
 //! The events of a cycle, each on one context and the data flow.
 
-ghost use Rattle.std.specs.Prelude.{◌≡◌, ◌+◌, ◌<◌, ◌≤◌, ◌==◌, ◌&&◌, length, IsSome, IfSome, All, Bool, false};
-ghost use Rattle.core_view.specs.Outcomes.{IsSized};
-ghost use Rattle.data_flow.specs.Flow.{lane, node_at, taken, waits_in, cut_flow};
-ghost use Rattle.core_view.specs.Operations.{destination_of, stops_at_fetch};
+ghost use Rattle.std.specs.Prelude.{◌≡◌, ◌≢◌, ℕ, ◌+◌, ◌<◌, ◌≤◌, ◌==◌, ◌&&◌, length, drop, IsSome, IfSome, Some, All, Bool, true, false};
+ghost use Rattle.core_view.specs.Outcomes.{image_of, IsSized};
+ghost use Rattle.data_flow.specs.Flow.{lane, node_at, sources_at, taken, waits_in, cut_flow};
+ghost use Rattle.core_view.specs.declared.entry.Stage.TheVariants.{Queued, Issued};
+ghost use Rattle.core_view.specs.Flight.{seen_of, IsSound};
+ghost use Rattle.core_view.specs.Operations.{destination_of, stops_at_fetch, is_load, is_store};
+ghost use Rattle.core_view.specs.Queues.{loads_of, stores_of};
 ghost use Rattle.core_view.specs.View.{entry_at};
+ghost use Rattle.core_back.specs.Issuable.{IsAnswered, IsHeld, AreHeld, may_issue_at};
 ghost use Rattle.core_back.specs.Track.{is_last, retired, stopped, completed, renamed_one};
-ghost use Rattle.core_back.specs.Cores.{operands_of};
+ghost use Rattle.core_back.specs.Cores.{operands_of, AllFetched};
 ghost use Rattle.core_back.specs.Renamable.{IsRenamable};
 ghost use Rattle.core_back.specs.Steps.{retired_flow, completed_flow, renamed_flow, IsRemarked};
 
@@ -64,6 +68,8 @@ pub(crate) fn complete<A: Allocator>(
 ) -> usize
     requires place { place < length track.old.context.flight }
     requires known { place < length (lane flow.old context).nodes }
+    requires issued { (entry_at track.old.context place).stage ≡ Issued execution }
+    requires sound { IsSound (image_of track.old.context.state) (seen_of track.old.context.state) track.old.context.state.pc track.old.context.flight }
     ensures track { track.new ≡ completed track.old place execution }
     ensures flow { flow.new ≡ completed_flow flow.old context place execution track.old.context }
     ensures cut { result + length track.new.context.flight ≡ length track.old.context.flight }
@@ -98,7 +104,10 @@ pub(crate) fn renamable<A: Allocator>(
     if operation.destination().index() != 0 && flow.free_count() == 0 {
         return None;
     }
-    if operation.is_load() && track.has_store() {
+    if operation.is_load() && !track.has_load_place() {
+        return None;
+    }
+    if operation.is_store() && !track.has_store_place() {
         return None;
     }
     if !operation.stops_at_fetch() && !flow.has_place() {
@@ -120,6 +129,9 @@ pub(crate) fn rename<A: Allocator>(
     requires free { 0 < destination_of (entry_at track.old.context track.old.renamed).operation → taken flow.old < flow.old.extra }
     requires fresh { waits_in flow.old context (entry_at track.old.context track.old.renamed).stamp ≡ false }
     requires place { stops_at_fetch (entry_at track.old.context track.old.renamed).operation ≡ false → length flow.old.waiters < flow.old.places }
+    requires fetched { AllFetched (drop track.old.renamed track.old.context.flight) }
+    requires load { is_load (entry_at track.old.context track.old.renamed).operation ≡ true → length (loads_of track.old.context.flight) < track.old.load_places }
+    requires store { is_store (entry_at track.old.context track.old.renamed).operation ≡ true → length (stores_of track.old.context.flight) < track.old.store_places }
     ensures track { track.new ≡ renamed_one cycle track.old }
     ensures flow { (speculative : Bool) × (flow.new ≡ renamed_flow flow.old context (entry_at track.old.context track.old.renamed) speculative) }
 {
@@ -162,4 +174,56 @@ pub(crate) fn settle_speculation<A: Allocator>(
             }
         }
     }
+}
+
+/// Tells the queue which loads of a context have to wait for an older store: those of which it isn't told have none of
+/// their sources' values, or nothing to wait for.
+pub(crate) fn hold_loads<A: Allocator>(flow: &mut DataFlow<A>, track: &mut Track<A>, context: Ctx)
+    requires nodes { length (lane flow.old context).nodes ≡ track.old.renamed }
+    requires answered { (i : ℕ) → i < track.old.renamed → IsAnswered track.old.context i }
+    ensures flow { IsRemarked flow.old flow.new }
+    ensures held { AreHeld flow.new context track.old }
+    ensures others { (d k : ℕ) → d ≢ context → IsHeld flow.old d k → IsHeld flow.new d k }
+    ensures track { track.new ≡ track.old }
+{
+    if !track.may_hold() {
+        return;
+    }
+    let mut holds = false;
+    for place in 0..track.renamed_count() {
+        if hold_load(flow, track, context, place) {
+            holds = true;
+        }
+    }
+    track.set_holds(holds);
+}
+
+/// Tells the queue whether the entry of a context at a place has to wait for an older store, if it is a queued load
+/// that has the values of its sources. Answers whether it has to.
+fn hold_load<A: Allocator>(
+    flow: &mut DataFlow<A>,
+    track: &Track<A>,
+    context: Ctx,
+    place: usize,
+) -> bool
+    requires place { place < track.now.renamed }
+    requires nodes { length (lane flow.old context).nodes ≡ track.now.renamed }
+    requires answered { IsAnswered track.now.context place }
+    ensures flow { IsRemarked flow.old flow.new }
+    ensures held { (a b : ℕ) → (entry_at track.now.context place).stage ≡ Queued → sources_at (lane flow.old context) place ≡ Some (a, b) → may_issue_at track.now.context place a b ≡ false →
+        IsHeld flow.new context (entry_at track.now.context place).stamp }
+    ensures others { (d k : ℕ) → (k ≡ (entry_at track.now.context place).stamp → d ≢ context) → IsHeld flow.old d k → IsHeld flow.new d k }
+{
+    // How many are renamed is at most how many there are.
+    let _renamed = track.renamed_count();
+    if !track.is_queued_load(place) {
+        return false;
+    }
+    let Some((first, second)) = flow.sources(context, place) else {
+        return false;
+    };
+    let held = track.must_wait(place, first, second);
+    let entry = track.entry_at(place);
+    flow.hold(context, entry.stamp, held);
+    held
 }

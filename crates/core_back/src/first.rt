@@ -8,8 +8,8 @@ ghost use Rattle.data_flow.specs.Flow.{lane, with_lane};
 ghost use Rattle.core_back.specs.Machine.{no_track};
 ghost use Rattle.core_back.specs.First.{IsTarget, AreSizes, IsFirstTrack, AreFirstTracks, AreFirstLanes, IsReached};
 
-use crate::machine::Sizes;
-use crate::track::{FRONT_ROOM, Track};
+use crate::sizes::Sizes;
+use crate::track::Track;
 use checkpoint::Mark;
 use data_flow::DataFlow;
 use join_law::{Ctx, Eight};
@@ -48,12 +48,13 @@ fn first_track<A: Allocator + Copy>(
     alloc: A,
     mark: &Mark<A>,
     target: u64,
-    capacity: usize,
+    sizes: Sizes,
 ) -> Result<Track<A>, AllocError>
-    requires { target ≤ 2 ^ 60 }
-    ensures { IfOk result (IsFirstTrack mark.now target capacity) }
+    requires target { target ≤ 2 ^ 60 }
+    requires reorder { sizes.reorder ≤ 64 }
+    ensures { IfOk result (IsFirstTrack mark.now target (sizes.reorder + 16)) }
 {
-    let track = Track::new(alloc, mark.state(), mark.count(), target, capacity)?;
+    let track = Track::new(alloc, mark.state(), mark.count(), target, sizes)?;
     Ok(track)
 }
 
@@ -62,17 +63,17 @@ pub(crate) fn first_tracks<A: Allocator + Copy>(
     alloc: A,
     marks: &Eight<Mark<A>>,
     targets: &[u64; 8],
-    reorder: usize,
+    sizes: Sizes,
 ) -> Result<Vec<Track<A>, A>, AllocError>
     requires targets { (c : ℕ) → c < 8 → IsTarget (place_of marks.now c) (slice_index targets.now c) }
-    requires reorder { reorder ≤ 64 }
-    ensures { IfOk result (λ ts. AreFirstTracks marks.now targets.now (reorder + 16) 8 ts.items) }
+    requires reorder { sizes.reorder ≤ 64 }
+    ensures { IfOk result (λ ts. AreFirstTracks marks.now targets.now (sizes.reorder + 16) 8 ts.items) }
 {
     let mut tracks = Vec::new(alloc);
     for number in 0..8usize {
         let context = Ctx::new(number).unwrap();
         let mark = marks.place(context);
-        let track = first_track(alloc, mark, targets[number], reorder + FRONT_ROOM)?;
+        let track = first_track(alloc, mark, targets[number], sizes)?;
         tracks.push(track).map_err(AllocError::from)?;
     }
     Ok(tracks)

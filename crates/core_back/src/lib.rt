@@ -9,11 +9,13 @@ mod issuing;
 mod lags;
 mod machine;
 mod retiring;
+mod sizes;
 mod track;
 
 pub use completing::complete;
 pub use fetching::Fetch;
 pub use issuing::issue;
-pub use machine::{Machine, Sizes};
+pub use machine::Machine;
 pub use retiring::retire;
+pub use sizes::Sizes;
 pub use track::Track;

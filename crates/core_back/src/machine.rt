@@ -17,6 +17,7 @@ use crate::events;
 use crate::fetching::{Fetch, next_entry};
 use crate::first::{first_flow, first_tracks, marks_of, origins_of};
 use crate::lags::lag_of;
+use crate::sizes::Sizes;
 use crate::track::Track;
 use arrayvec::ArrayVec;
 use branch_predict::Guess;
@@ -33,17 +34,6 @@ use reorder_buffer::Ring;
 use std::alloc::{AllocError, Allocator, Global};
 use std::marker::Model;
 use std::sync::Arc;
-
-/// How much a machine has room for.
-#[derive(Clone, Copy, Debug, PartialEq, Eq)]
-pub struct Sizes {
-    /// Renamed entries of a context, from 8 to 64.
-    pub reorder: usize,
-    /// Registers beyond those of the eight contexts, from 32 to 224.
-    pub extra: usize,
-    /// Places of the issue queue, at most 64.
-    pub places: usize,
-}
 
 /// Eight contexts in flight. A contract sees the origin, the view, and what was selected and has not issued yet.
 #[derive(Drop)]
@@ -88,7 +78,7 @@ impl<A: Allocator + Copy> Machine<A> {
     {
         let origins = origins_of(marks)?;
         let flow = first_flow(alloc, marks, sizes)?;
-        let tracks = first_tracks(alloc, marks, targets, sizes.reorder)?;
+        let tracks = first_tracks(alloc, marks, targets, sizes)?;
         Ok(Machine {
             origins,
             flow,
@@ -257,13 +247,17 @@ impl<A: Allocator> Machine<A> {
         events::settle_speculation(&mut self.flow, track, context);
     }
 
-    /// Selects the first ready entries by an order, at most so many.
+    /// Selects the first ready entries by an order, at most so many. A load that has to wait for an older store isn't ready.
     pub fn select<O: Order>(&mut self, order: &O, width: usize)
         requires width { width ≤ 8 }
         requires idle { self.old.names ≡ [] }
         ensures selected { self.new ≡ record self.old { names = self.new.names } }
         ensures most { length self.new.names ≤ width }
     {
+        for context in Ctx::all() {
+            let track = &mut self.tracks[context.index()];
+            events::hold_loads(&mut self.flow, track, context);
+        }
         self.selected = self.flow.select(order, width);
     }
 

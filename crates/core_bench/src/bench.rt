@@ -54,16 +54,15 @@ impl<'a> Bench<'a> {
         rt: &R,
         alloc: Global,
     ) -> Result<Measured, BenchFault> {
-        let origin = Arc::new(alloc, self.origin(rt, alloc)?)?;
-        let marks = starts(alloc, &origin)?;
-        if !aligned(&marks) {
-            return Err(BenchFault::OutOfMemory);
-        }
         let profile = Profile::default();
         let guess = Tables::new(alloc)?;
         let pick = NamedPick::from(profile.fetch);
         let order = NamedOrder::from(profile.issue);
         let delay = Tags::new(alloc, Latencies::from(&profile))?;
+        let marks = self.marks(rt, alloc)?;
+        if !aligned(&marks) {
+            return Err(BenchFault::OutOfMemory);
+        }
         match Core::new(
             alloc,
             &profile,
@@ -91,6 +90,16 @@ impl<'a> Bench<'a> {
             retired = retired.saturating_add(core.retired(context));
         }
         retired
+    }
+
+    /// Eight marks at the starts of the programs.
+    fn marks<R: Files + AllocGlobal>(
+        &self,
+        rt: &R,
+        alloc: Global,
+    ) -> Result<Eight<Mark>, BenchFault> {
+        let origin = Arc::new(alloc, self.origin(rt, alloc)?)?;
+        starts(alloc, &origin)
     }
 
     /// The origin with the programs.

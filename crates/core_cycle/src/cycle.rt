@@ -95,6 +95,8 @@ fn sizes_of(profile: &Profile) -> Sizes
 {
     Sizes {
         reorder: usize::from(profile.reorder_buffer),
+        loads: usize::from(profile.load_queue),
+        stores: usize::from(profile.store_queue),
         extra: usize::from(profile.extra_registers),
         places: usize::from(profile.issue_queue),
     }

@@ -114,11 +114,14 @@ fn starts(alloc: Global, origin: &Arc<Origin>) -> Result<Eight<Mark>, Fail> {
     })
 }
 
-/// A core with so many places in reorder buffers and queue, and 32 extra registers.
+/// A core with so many places in reorder buffers and issue queue, half as many in the queues of loads and stores, and
+/// 32 extra registers.
 fn core_of(alloc: Global, origin: &Arc<Origin>, places: u64) -> Result<OddCore, Fail> {
     let fields = ProfileFields {
         reorder_buffer: places,
         issue_queue: places,
+        load_queue: places / 2,
+        store_queue: places / 2,
         extra_registers: 32,
         ..ProfileFields::default()
     };

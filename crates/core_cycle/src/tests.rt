@@ -6,7 +6,7 @@ use branch_predict::{Always, Guess, Sequential, Tables};
 use checkpoint::{Mark, aligned};
 use core_profile::{Profile, ProfileFields};
 use core_view::Status;
-use data_tags::{Flat, Latencies};
+use data_tags::{Delay, Flat, Latencies, Tags};
 use fetch_policy::RoundRobin;
 use hart_step::{Environment, Stop};
 use issue_queue::OldestFirst;
@@ -48,17 +48,17 @@ fn starts(alloc: Global, origin: &Arc<Origin>) -> Result<Eight<Mark>, Fail> {
 }
 
 /// A core whose context 0 is to retire 100 instructions.
-fn core_of<G: Guess + Drop>(
+fn core_of<G: Guess + Drop, D: Delay + Drop>(
     alloc: Global,
     profile: &Profile,
     origin: &Arc<Origin>,
     guess: G,
-) -> Result<Core<G, RoundRobin, OldestFirst, Flat>, Fail> {
+    delay: D,
+) -> Result<Core<G, RoundRobin, OldestFirst, D>, Fail> {
     let marks = starts(alloc, origin)?;
     if !aligned(&marks) {
         return Err("aligned".into());
     }
-    let delay = Flat::new(Latencies::from(profile));
     let targets = [100, 0, 0, 0, 0, 0, 0, 0];
     match Core::new(
         alloc,
@@ -84,12 +84,14 @@ struct Ending {
     figures: Figures,
     status: Status,
     retired: u64,
-    registers: [u64; 8],
+    registers: [u64; 9],
     first_data: Option<u64>,
 }
 
 /// Runs a core until context 0 stops, at most a thousand cycles.
-fn run<G: Guess + Drop>(core: &mut Core<G, RoundRobin, OldestFirst, Flat>) -> Figures {
+fn run<G: Guess + Drop, D: Delay + Drop>(
+    core: &mut Core<G, RoundRobin, OldestFirst, D>,
+) -> Figures {
     let [context, ..] = Ctx::all();
     let mut figures = [0; 6];
     for _cycle in 0..1000 {
@@ -118,50 +120,78 @@ fn front_delay(cycles: u64) -> Result<Profile, Fail> {
     Profile::checked(fields).map_err(|_| "a profile".into())
 }
 
-/// What a core by a profile and a guess shows at the end of a program.
+/// What a core by a profile, a guess and a delay shows at the end of a program with some data.
+fn end_by<G: Guess + Drop, D: Delay + Drop>(
+    alloc: Global,
+    profile: &Profile,
+    words: &[u32],
+    bytes: &[u8],
+    guess: G,
+    delay: D,
+) -> Result<Ending, Fail> {
+    let origin = origin_of(alloc, words, bytes)?;
+    let mut core = core_of(alloc, profile, &origin, guess, delay)?;
+    let figures = run(&mut core);
+    Ok(ending_of(&core, figures))
+}
+
+/// The same with flat delays, and the doubleword 1 as data.
 fn end_of<G: Guess + Drop>(
     alloc: Global,
     profile: &Profile,
     words: &[u32],
     guess: G,
 ) -> Result<Ending, Fail> {
-    let origin = origin_of(alloc, words, &[1, 0, 0, 0, 0, 0, 0, 0])?;
-    let mut core = core_of(alloc, profile, &origin, guess)?;
-    let figures = run(&mut core);
-    Ok(ending_of(&core, figures))
+    let delay = Flat::new(Latencies::from(profile));
+    end_by(
+        alloc,
+        profile,
+        words,
+        &[1, 0, 0, 0, 0, 0, 0, 0],
+        guess,
+        delay,
+    )
 }
 
-fn ending_of<G: Guess + Drop>(
-    core: &Core<G, RoundRobin, OldestFirst, Flat>,
+/// The same by the default profile, with its predictor and data tags.
+fn end_by_tables(alloc: Global, words: &[u32], bytes: &[u8]) -> Result<Ending, Fail> {
+    let profile = Profile::default();
+    let guess = Tables::new(alloc)?;
+    let delay = Tags::new(alloc, Latencies::from(&profile))?;
+    end_by(alloc, &profile, words, bytes, guess, delay)
+}
+
+fn ending_of<G: Guess + Drop, D: Delay + Drop>(
+    core: &Core<G, RoundRobin, OldestFirst, D>,
     figures: Figures,
 ) -> Ending {
     let [context, ..] = Ctx::all();
     let (registers, _, _) = core.arch(context);
-    let [x0, x1, x2, x3, x4, x5, x6, x7, ..] = *registers;
+    let [x0, x1, x2, x3, x4, x5, x6, x7, x8, ..] = *registers;
     Ending {
         figures,
         status: core.state(context),
         retired: core.retired(context),
-        registers: [x0, x1, x2, x3, x4, x5, x6, x7],
+        registers: [x0, x1, x2, x3, x4, x5, x6, x7, x8],
         first_data: core.memory(context).load(0x10_0000, Width::Double).ok(),
     }
 }
 
 /// The end at an ECALL.
-fn ends(figures: Figures, retired: u64, registers: [u64; 8]) -> Ending {
+fn ends(figures: Figures, retired: u64, registers: [u64; 9], first_data: u64) -> Ending {
     Ending {
         figures,
         status: Status::Stopped { why: Stop::Ecall },
         retired,
         registers,
-        first_data: Some(1),
+        first_data: Some(first_data),
     }
 }
 
 #[test]
 fn lone_ecall(rt: HostRuntime) -> Result<(), Fail> {
     let end = end_of(rt.alloc(), &front_delay(1)?, &[0x0000_0073], Sequential)?;
-    assert_eq!(rt; end, ends([3, 1, 1, 0, 0, 1], 0, [0; 8]));
+    assert_eq!(rt; end, ends([3, 1, 1, 0, 0, 1], 0, [0; 9], 1));
     Ok(())
 }
 
@@ -173,28 +203,28 @@ fn nop_then_ecall(rt: HostRuntime) -> Result<(), Fail> {
         &[0x0000_0013, 0x0000_0073],
         Sequential,
     )?;
-    assert_eq!(rt; end, ends([5, 2, 2, 1, 1, 1], 1, [0; 8]));
+    assert_eq!(rt; end, ends([5, 2, 2, 1, 1, 1], 1, [0; 9], 1));
     Ok(())
 }
 
 #[test]
 fn countdown_in_line(rt: HostRuntime) -> Result<(), Fail> {
     let end = end_of(rt.alloc(), &Profile::default(), &COUNTDOWN, Sequential)?;
-    assert_eq!(rt; end, ends([53, 31, 31, 21, 21, 10], 21, [0; 8]));
+    assert_eq!(rt; end, ends([53, 31, 31, 21, 21, 10], 21, [0; 9], 1));
     Ok(())
 }
 
 #[test]
 fn countdown_of_wrong_guesses(rt: HostRuntime) -> Result<(), Fail> {
     let least = end_of(rt.alloc(), &Profile::default(), &COUNTDOWN, Always(0))?;
-    assert_eq!(rt; least, ends(least.figures, 21, [0; 8]));
+    assert_eq!(rt; least, ends(least.figures, 21, [0; 9], 1));
     let greatest = end_of(
         rt.alloc(),
         &Profile::default(),
         &COUNTDOWN,
         Always(u64::MAX),
     )?;
-    assert_eq!(rt; greatest, ends(greatest.figures, 21, [0; 8]));
+    assert_eq!(rt; greatest, ends(greatest.figures, 21, [0; 9], 1));
     Ok(())
 }
 
@@ -210,9 +240,46 @@ const WRONG_PATH: [u32; 6] = [
 
 #[test]
 fn wrong_path_store(rt: HostRuntime) -> Result<(), Fail> {
-    let guess = Tables::new(rt.alloc())?;
-    let end = end_of(rt.alloc(), &Profile::default(), &WRONG_PATH, guess)?;
-    let registers = [0, 0, 0, 0, 0, 0x10_0000, 7, 0];
-    assert_eq!(rt; end, ends([8, 7, 5, 3, 3, 4], 3, registers));
+    let end = end_by_tables(rt.alloc(), &WRONG_PATH, &[1, 0, 0, 0, 0, 0, 0, 0])?;
+    let registers = [0, 0, 0, 0, 0, 0x10_0000, 7, 0, 0];
+    assert_eq!(rt; end, ends([8, 7, 7, 3, 3, 4], 3, registers, 1));
+    Ok(())
+}
+
+/// A byte is stored over the first of a doubleword, which is loaded then.
+const PARTIAL_FORWARD: [u32; 5] = [
+    0x0010_02B7,
+    0x0FF0_0313,
+    0x0062_8023,
+    0x0002_B383,
+    0x0000_0073,
+];
+
+#[test]
+fn load_of_more_than_a_store_has(rt: HostRuntime) -> Result<(), Fail> {
+    let data = [0x88, 0x77, 0x66, 0x55, 0x44, 0x33, 0x22, 0x11];
+    let end = end_by_tables(rt.alloc(), &PARTIAL_FORWARD, &data)?;
+    let loaded = 0x1122_3344_5566_77FF;
+    let registers = [0, 0, 0, 0, 0, 0x10_0000, 255, loaded, 0];
+    assert_eq!(rt; end, ends([28, 5, 5, 4, 4, 1], 4, registers, loaded));
+    Ok(())
+}
+
+/// A store to an address that was loaded, and a load of what it stores.
+const LATE_STORE: [u32; 6] = [
+    0x0010_02B7,
+    0x0070_0313,
+    0x0002_B383,
+    0x0063_B023,
+    0x0082_B403,
+    0x0000_0073,
+];
+
+#[test]
+fn load_behind_a_late_store(rt: HostRuntime) -> Result<(), Fail> {
+    let data = [8, 0, 0x10, 0, 0, 0, 0, 0, 1, 0, 0, 0, 0, 0, 0, 0];
+    let end = end_by_tables(rt.alloc(), &LATE_STORE, &data)?;
+    let registers = [0, 0, 0, 0, 0, 0x10_0000, 7, 0x10_0008, 7];
+    assert_eq!(rt; end, ends([28, 6, 6, 5, 5, 1], 5, registers, 0x10_0008));
     Ok(())
 }

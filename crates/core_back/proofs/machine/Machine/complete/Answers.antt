@@ -20,6 +20,11 @@ complete-requires-clause-known g c =
     let stage : (entry_at c.index_mut-track.result.now.context c.args.place).stage ≡ Issued c.args.execution = ap (λ (x : Context). (entry_at x c.args.place).stage) h.context ∙ c.requires.issued in
     issued_known (start (arc_value c.self.inside.origins.c0) c.args.context) c.self.inside.stamp c.self.inside.reorder c.self.inside.flow c.args.context c.index_mut-track.result.now c.args.place c.args.execution core within stage
 
+pub complete-requires-clause-sound : goal.complete-requires-clause-sound
+complete-requires-clause-sound g c =
+    let h = at_context c.self.inside c.args.self.now c.args.context c.index.result c.index_mut-track.result.now c.self.view_is c.self.invariant (omega (arith, c.index.ensures)) c.index.ensures.value c.index_mut-track.ensures.value in
+    h.core.live.flight.sound
+
 pub invariant_of-self : goal.invariant_of-self
 invariant_of-self g c =
     let h = at_context c.self.inside c.args.self.now c.args.context c.index.result c.index_mut-track.result.now c.self.view_is c.self.invariant (omega (arith, c.index.ensures)) c.index.ensures.value c.index_mut-track.ensures.value in

@@ -2,9 +2,9 @@ use Rattle.std.proofs.Common.{refl, ap, arith, ◌+◌, drop}
 use Rattle.std.specs.Prelude.{set}
 use Rattle.core_view.specs.declared.entry.Execution.{Execution}
 use Rattle.data_flow.specs.Flow.{lane, sources_at}
-use Rattle.core_back.proofs.Issues.{selected_known}
+use Rattle.core_back.proofs.Issues.{core_answered, selected_known}
 use Rattle.core_back.proofs.Selections.{ready_place}
-use Rattle.core_back.proofs.MachineIssues.{first_name, some_names, found_place, some_sources, issued_core, issued_machine, is_issued}
+use Rattle.core_back.proofs.MachineIssues.{first_name, some_names, found_place, some_sources, first_clear, issued_core, issued_machine, is_issued}
 use Rattle.core_back.proofs.machine.Machine.issue_next.Goals as goal
 
 pub unwrap-place-requires : goal.unwrap-place-requires
@@ -25,13 +25,32 @@ unwrap-first-requires g c =
     let r = ready_place h.core c.remove-name.result.stamp c.unwrap-place.result h.selected h.supplied p.0 p.1 in
     some_sources c.sources.result (sources_at (lane c.self.inside.flow c.remove-name.result.context) c.unwrap-place.result) c.sources.ensures r.sources
 
+pub outcome-outcome-requires-clause-answered : goal.outcome-outcome-requires-clause-answered
+outcome-outcome-requires-clause-answered g c =
+    let h = first_name c.self.inside c.args.self.now c.remove-name.result c.index.result c.index_mut-track.result.now c.self.view_is c.self.invariant (some_names c.self.inside.selected.items c.is_empty.result c.is_empty.ensures c.if-is_empty.false) c.remove-name.ensures.value (omega (arith, c.index.ensures)) c.index.ensures.value c.index_mut-track.ensures.value in
+    let p = found_place c.index_mut-track.result.now c.remove-name.result.stamp c.place_of.result c.unwrap-place.result c.place_of.ensures.found c.unwrap-place.ensures in
+    let r = ready_place h.core c.remove-name.result.stamp c.unwrap-place.result h.selected h.supplied p.0 p.1 in
+    core_answered h.core c.unwrap-place.result (omega (arith, r.renamed))
+
+pub outcome-outcome-requires-clause-clear : goal.outcome-outcome-requires-clause-clear
+outcome-outcome-requires-clause-clear g c =
+    let h = first_name c.self.inside c.args.self.now c.remove-name.result c.index.result c.index_mut-track.result.now c.self.view_is c.self.invariant (some_names c.self.inside.selected.items c.is_empty.result c.is_empty.ensures c.if-is_empty.false) c.remove-name.ensures.value (omega (arith, c.index.ensures)) c.index.ensures.value c.index_mut-track.ensures.value in
+    let p = found_place c.index_mut-track.result.now c.remove-name.result.stamp c.place_of.result c.unwrap-place.result c.place_of.ensures.found c.unwrap-place.ensures in
+    first_clear c.self.inside c.args.self.now c.remove-name.result (drop 1 c.self.inside.selected.items) c.index_mut-track.result.now h c.unwrap-place.result c.unwrap-first.result c.sources.result p.0 p.1 c.sources.ensures c.unwrap-first.ensures
+
+pub issue-requires-clause-queued : goal.issue-requires-clause-queued
+issue-requires-clause-queued g c =
+    let h = first_name c.self.inside c.args.self.now c.remove-name.result c.index.result c.index_mut-track.result.now c.self.view_is c.self.invariant (some_names c.self.inside.selected.items c.is_empty.result c.is_empty.ensures c.if-is_empty.false) c.remove-name.ensures.value (omega (arith, c.index.ensures)) c.index.ensures.value c.index_mut-track.ensures.value in
+    let p = found_place c.index_mut-track.result.now c.remove-name.result.stamp c.place_of.result c.unwrap-place.result c.place_of.ensures.found c.unwrap-place.ensures in
+    (ready_place h.core c.remove-name.result.stamp c.unwrap-place.result h.selected h.supplied p.0 p.1).stage
+
 pub invariant_of-self : goal.invariant_of-self
 invariant_of-self g c =
     let h = first_name c.self.inside c.args.self.now c.remove-name.result c.index.result c.index_mut-track.result.now c.self.view_is c.self.invariant (some_names c.self.inside.selected.items c.is_empty.result c.is_empty.ensures c.if-is_empty.false) c.remove-name.ensures.value (omega (arith, c.index.ensures)) c.index.ensures.value c.index_mut-track.ensures.value in
     let p = found_place c.index_mut-track.result.now c.remove-name.result.stamp c.place_of.result c.unwrap-place.result c.place_of.ensures.found c.unwrap-place.ensures in
     let x : Execution = record { due = c.self.inside.cycle + c.from.result; miss = c.lag_of-lag.result.miss; outcome = c.outcome-outcome.result } in
     let core = issued_core c.self.inside c.args.self.now c.remove-name.result (drop 1 c.self.inside.selected.items) c.index_mut-track.result.now h c.unwrap-place.result x c.unwrap-first.result c.sources.result p.0 p.1 c.sources.ensures c.unwrap-first.ensures c.outcome-outcome.ensures in
-    issued_machine c.self.inside _ c.remove-name.result c.index.result (drop 1 c.self.inside.selected.items) _ c.self.invariant h.names (omega (arith, c.index.ensures)) core
+    issued_machine c.self.inside _ c.args.self.now c.remove-name.result c.index.result (drop 1 c.self.inside.selected.items) c.index_mut-track.result.now c.unwrap-place.result x c.self.invariant h (omega (arith, c.index.ensures)) p.0 p.1 core
     c.index.ensures.value refl refl (ap (set c.self.inside.tracks.items c.index.result) c.issue.ensures) c.remove-name.ensures.items refl refl refl refl
 
 pub returns-clause-issued : goal.returns-clause-issued

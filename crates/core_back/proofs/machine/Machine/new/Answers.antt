@@ -4,6 +4,7 @@ use Rattle.std.specs.Arc.{arc_value}
 use Rattle.join_law.specs.Eight.{place_of}
 use Rattle.issue_queue.specs.declared.entry.Selected.{Selected}
 use Rattle.data_flow.specs.Flow.{waits_in}
+use Rattle.core_back.specs.Issuable.{IsClear}
 use Rattle.core_back.specs.Machine.{no_track}
 use Rattle.core_back.specs.Shown.{AreApart, IsSuppliedIn}
 use Rattle.core_back.proofs.Starts.{first_core, mark_of_first, origin_of_first, first_context_at, count_of_tracks}
@@ -21,6 +22,7 @@ invariant_of-result g c =
       lanes = c.in_ok-flow.ensures.count;
       apart = subst (λ (ns : List Selected). AllPairs AreApart ns) (sym empty) (λ i j d lt below. absurd (omega arith));
       supplied = subst (λ (ns : List Selected). All (IsSuppliedIn c.in_ok-flow.flow) ns) (sym empty) (search rules);
+      clear = subst (λ (ns : List Selected). All (λ n. IsClear c.in_ok-flow.flow n.context (get_or c.in_ok-tracks.tracks.items n.context no_track) n.stamp) ns) (sym empty) (λ i d lt. absurd (omega arith));
       left = subst (λ (ns : List Selected). All (λ n. waits_in c.in_ok-flow.flow n.context n.stamp ≡ false) ns) (sym empty) (search rules);
       stamps = omega arith;
       bounded = c.requires.sizes.reorder_high;

@@ -26,6 +26,11 @@ rename-requires-clause-fresh g c =
     let t = c.index_mut-track.result.now in
     first_idle core r.some
 
+pub rename-requires-clause-fetched : goal.rename-requires-clause-fetched
+rename-requires-clause-fetched g c =
+    let h = at_context c.self.inside c.args.self.now c.args.context c.index.result c.index_mut-track.result.now c.self.view_is c.self.invariant (omega (arith, c.index.ensures)) c.index.ensures.value c.index_mut-track.ensures.value in
+    h.core.are_fetched
+
 pub invariant_of-self-2 : goal.invariant_of-self-2
 invariant_of-self-2 g c =
     let h = at_context c.self.inside c.args.self.now c.args.context c.index.result c.index_mut-track.result.now c.self.view_is c.self.invariant (omega (arith, c.index.ensures)) c.index.ensures.value c.index_mut-track.ensures.value in
@@ -33,7 +38,7 @@ invariant_of-self-2 g c =
     let r = c.in_ok-stamp.ensures in
     let t = c.index_mut-track.result.now in
     machine_after c.self.inside _ c.args.self.now c.args.context c.index.result _ (renamed_flow c.self.inside.flow c.args.context (entry_at t.context t.renamed) c.rename.ensures.flow.0) c.self.view_is c.self.invariant c.requires (omega (arith, c.index.ensures))
-    (rename_core core c.self.inside.cycle c.rename.ensures.flow.0 h.in_lanes r.some r.fits r.clear) (λ e other. renamed_flow_left c.self.inside.flow c.args.context e (entry_at t.context t.renamed) c.rename.ensures.flow.0 other) (count-renamed_flow c.self.inside.flow c.args.context (entry_at t.context t.renamed) c.rename.ensures.flow.0)
+    (rename_core core c.self.inside.cycle c.rename.ensures.flow.0 h.in_lanes r.some r.fits) (λ e other. renamed_flow_left c.self.inside.flow c.args.context e (entry_at t.context t.renamed) c.rename.ensures.flow.0 other) (count-renamed_flow c.self.inside.flow c.args.context (entry_at t.context t.renamed) c.rename.ensures.flow.0)
     c.index.ensures.value refl c.rename.ensures.flow.1 (ap (set c.self.inside.tracks.items c.index.result) c.rename.ensures.track) refl refl refl refl refl
 
 pub returns-clause-renamed : goal.returns-clause-renamed

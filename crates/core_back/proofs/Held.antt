@@ -1,0 +1,227 @@
+-- Loads that are held in the issue queue while they wait for older stores.
+use Rattle.std.proofs.Common.{◌≡◌, ◌≢◌, ℕ, zero, suc, ◌+◌, ◌<◌, ◌≤◌, Bool, true, false, not, ◌||◌, List, [], ◌∷◌, length, get_or, take, map, Option, Some, None, refl, sym, ap, ◌∙◌, arith, inl, inr}
+use Rattle.std.specs.Prelude.{◌==◌, set, if◌then◌else◌}
+use Rattle.std.specs.List.{list_any}
+use Rattle.std.proofs.lemmas.Bool.{and_parts, eqb-true, cases_lt}
+use Rattle.std.proofs.lemmas.List.Elements.{All-map}
+use Rattle.hart_step.specs.declared.effect.Effect.{Effect}
+use Rattle.hart_step.specs.declared.effect.Effect.TheVariants as effect
+use Rattle.hart_step.specs.Effects.{effect_of}
+use Rattle.core_view.specs.declared.span.Span.{Span}
+use Rattle.core_view.specs.declared.span.Bytes.{Bytes}
+use Rattle.core_view.specs.declared.operation.Operation.{Operation}
+use Rattle.core_view.specs.declared.operation.Operation.TheVariants.{Performs, Stops}
+use Rattle.core_view.specs.declared.entry.Execution.{Execution}
+use Rattle.core_view.specs.declared.entry.Stage.TheVariants.{Fetched, Queued, Issued}
+use Rattle.core_view.specs.declared.entry.Entry.{Entry}
+use Rattle.core_view.specs.Operations.{is_load}
+use Rattle.core_view.specs.Outcomes.{image_of}
+use Rattle.core_view.specs.Flight.{seen_of, IsGrowing}
+use Rattle.core_view.specs.Events.{with_stage}
+use Rattle.core_view.specs.Loads.{newest, newest_sharing, is_pending_store, waits, is_clear_waiting, may_issue_waiting}
+use Rattle.core_view.specs.Queues.{stores_of, sharing_in, is_pending_in}
+use Rattle.core_view.specs.View.{Context, entry_at, no_entry}
+use Rattle.core_view.proofs.Accesses.{is_load_effect, effect_loads}
+use Rattle.core_view.proofs.Queues.{queue_pending, queue_sharing}
+use Rattle.data_flow.specs.Flow.{Flow, Waiter, lane, sources_at, waits_in, is_waiter, with_held}
+use Rattle.core_back.specs.Issuable.{IsAnswered, may_perform, may_issue_at, IsHeld, AreHeld, IsClear}
+use Rattle.core_back.specs.Steps.{IsRemarked}
+use Rattle.core_back.specs.Track.{Track, issued}
+use Rattle.core_back.proofs.Remarks.{remark_none}
+use Rattle.core_back.proofs.Waiting.{same_place}
+
+-- ---- marks
+
+same_waiter : (c k d j : ℕ) (flag : Bool) (w : Waiter) → is_waiter d j (with_held c k flag w) ≡ is_waiter d j w
+same_waiter c k d j flag w = by_test (is_waiter c k w)
+  where
+    by_test : (b : Bool) → is_waiter d j (if b then record w { held = flag } else w) ≡ is_waiter d j w
+    by_test true = refl
+    by_test false = refl
+
+same_waiters : (c k d j : ℕ) (flag : Bool) (ws : List Waiter) → list_any (is_waiter d j) (map (with_held c k flag) ws) ≡ list_any (is_waiter d j) ws
+same_waiters c k d j flag [] = refl
+same_waiters c k d j flag (w ∷ ws) = rw (same_waiter c k d j flag w, same_waiters c k d j flag ws) refl
+
+-- an entry is held, or let go, and nothing else has changed
+pub held_remarked : (f g : Flow) (c k : ℕ) (flag : Bool) → g ≡ record f { waiters = map (with_held c k flag) f.waiters } → IsRemarked f g
+held_remarked f g c k flag is =
+    let marked : List Waiter = map (with_held c k flag) f.waiters in
+    record {
+      flow = is ∙ ap (λ (ws : List Waiter). let r : Flow = record f { waiters = ws } in r) (sym (ap (λ (q : Flow). q.waiters) is));
+      waits = λ d j. ap (λ (q : Flow). waits_in q d j) is ∙ same_waiters c k d j flag f.waiters;
+    }
+
+pub remarked_twice : (f g h : Flow) → IsRemarked f g → IsRemarked g h → IsRemarked f h
+remarked_twice f g h one two = record {
+  flow = two.flow ∙ ap (λ (q : Flow). let r : Flow = record q { waiters = h.waiters } in r) one.flow;
+  waits = λ c k. two.waits c k ∙ one.waits c k;
+}
+
+-- marks are none of a context's lane
+pub remarked_lane : (f g : Flow) (c : ℕ) → IsRemarked f g → lane g c ≡ lane f c
+remarked_lane f g c marks = ap (λ (q : Flow). lane q c) marks.flow
+
+-- the entry is held
+pub held_here : (f g : Flow) (c k : ℕ) → g ≡ record f { waiters = map (with_held c k true) f.waiters } → IsHeld g c k
+held_here f g c k is = rw is (All-map (λ (w : Waiter). is_waiter c k w ≡ true → w.held ≡ true) (with_held c k true) f.waiters (λ i d lt. one (get_or f.waiters i d)))
+  where
+    one : (w : Waiter) → is_waiter c k (with_held c k true w) ≡ true → (with_held c k true w).held ≡ true
+    one w named = let same : is_waiter c k w ≡ true = sym (same_waiter c k c k true w) ∙ named in rw same refl
+
+-- the entry at a place is held where it may not issue on the values that its sources have
+pub held_waiting : (f g : Flow) (c : ℕ) (t : Track) (i first second : ℕ) (flag : Bool) (e : Entry) (sources : Option (ℕ × ℕ)) → e ≡ entry_at t.context i → sources ≡ sources_at (lane f c) i → sources ≡ Some (first, second) → flag ≡ not (may_issue_at t.context i first second)
+    → g ≡ record f { waiters = map (with_held c e.stamp flag) f.waiters } → (a b : ℕ) → sources_at (lane f c) i ≡ Some (a, b) → may_issue_at t.context i a b ≡ false → IsHeld g c (entry_at t.context i).stamp
+held_waiting f g c t i first second flag e sources entry read some told is a b known waits =
+    let same : (first, second) ≡ (a, b) = let both : Some (first, second) ≡ Some (a, b) = sym some ∙ read ∙ known in cc in
+    let held : flag ≡ true = told ∙ ap (λ (p : ℕ × ℕ). not (may_issue_at t.context i p.0 p.1)) same ∙ ap not waits in
+    held_here f g c (entry_at t.context i).stamp (is ∙ ap (λ (k : ℕ). let r : Flow = record f { waiters = map (with_held c k flag) f.waiters } in r) (ap (λ (n : Entry). n.stamp) entry) ∙ ap (λ (b : Bool). let r : Flow = record f { waiters = map (with_held c (entry_at t.context i).stamp b) f.waiters } in r) held)
+
+-- an entry of another context or stamp is held as it was
+pub held_other : (f g : Flow) (c k : ℕ) (flag : Bool) (e : Entry) (d j : ℕ) → e.stamp ≡ k → g ≡ record f { waiters = map (with_held c e.stamp flag) f.waiters } → (j ≡ k → d ≢ c) → IsHeld f d j → IsHeld g d j
+held_other f g c k flag entry d j stamp is other before = rw (is, stamp) (All-map (λ (w : Waiter). is_waiter d j w ≡ true → w.held ≡ true) (with_held c k flag) f.waiters (λ i e lt. one (get_or f.waiters i e) (before i e lt)))
+  where
+    one : (w : Waiter) → (is_waiter d j w ≡ true → w.held ≡ true) → is_waiter d j (with_held c k flag w) ≡ true → (with_held c k flag w).held ≡ true
+    one w was named = by_test (is_waiter c k w) refl
+      where
+        of : is_waiter d j w ≡ true
+        of = sym (same_waiter c k d j flag w) ∙ named
+
+        by_test : (b : Bool) → is_waiter c k w ≡ b → (let v : Waiter = if b then record w { held = flag } else w in v.held) ≡ true
+        by_test true h =
+            let here = and_parts (w.context == c) (w.stamp == k) h in
+            let there = and_parts (w.context == d) (w.stamp == j) of in
+            absurd (other (sym (eqb-true w.stamp j there.1) ∙ eqb-true w.stamp k here.1) (sym (eqb-true w.context d there.0) ∙ eqb-true w.context c here.0))
+        by_test false h = was of
+
+-- ---- entries that may issue
+
+effect_may : (es : List Entry) (e : Effect) → is_load_effect e ≡ false → may_issue_waiting es e ≡ true
+effect_may es (effect.Loads kind address) h = absurd cc
+effect_may es e h = refl
+
+-- what isn't a load may issue
+pub plain_may : (es : List Entry) (o : Operation) (pc a b : ℕ) → is_load o ≡ false → may_perform es o pc a b ≡ true
+plain_may es (Performs insn) pc a b h = effect_may es (effect_of insn pc a b) (effect_loads insn pc a b ∙ h)
+plain_may es (Stops why) pc a b h = refl
+
+clear_may : (es : List Entry) (o : Operation) (pc a b : ℕ) → ((s : Span) → is_clear_waiting es s ≡ true) → may_perform es o pc a b ≡ true
+clear_may es (Performs insn) pc a b clear = by_effect (effect_of insn pc a b)
+  where
+    by_effect : (e : Effect) → may_issue_waiting es e ≡ true
+    by_effect (effect.Loads kind address) = clear _
+    by_effect e = refl
+clear_may es (Stops why) pc a b clear = refl
+
+-- where no store is in the queue each entry may
+pub none_stored_may : (x : Context) (i a b : ℕ) → i < length x.flight → IsAnswered x i → stores_of x.flight ≡ [] → may_issue_at x i a b ≡ true
+none_stored_may x i a b lt h none = clear_may (take i x.flight) (entry_at x i).operation (entry_at x i).pc a b clear
+  where
+    pending : waits (take i x.flight) ≡ false
+    pending = sym (queue_pending 0 x.flight i no_entry lt h.growing h.renamed) ∙ ap (λ qs. is_pending_in qs (entry_at x i).stamp) none
+
+    sharing : (s : Span) → newest_sharing (take i x.flight) s ≡ None
+    sharing s = sym (queue_sharing (image_of x.state) (seen_of x.state) x.state.pc 0 x.flight i no_entry s lt h.growing h.sound) ∙ ap (λ qs. sharing_in qs (entry_at x i).stamp s) none
+
+    clear : (s : Span) → is_clear_waiting (take i x.flight) s ≡ true
+    clear s = rw (pending, sharing s) refl
+
+-- a queued entry is in the flight
+pub queued_within : (es : List Entry) (i : ℕ) → (get_or es i no_entry).stage ≡ Queued → i < length es
+queued_within [] i h = absurd (let bad : Fetched ≡ Queued = h in cc)
+queued_within (e ∷ es) zero h = omega arith
+queued_within (e ∷ es) (suc i) h = let ih = queued_within es i h in omega (arith, ih)
+
+-- so none has to be held there
+pub none_stored_held : (f : Flow) (c : ℕ) (t : Track) → ((i : ℕ) → i < t.renamed → IsAnswered t.context i) → stores_of t.context.flight ≡ [] → AreHeld f c t
+none_stored_held f c t answered none i a b lt stage sources waits =
+    absurd (let bad : true ≡ false = sym (none_stored_may t.context i a b (queued_within t.context.flight i stage) (answered i lt) none) ∙ waits in cc)
+
+-- ---- the loads of a context, one after another
+
+-- the first entries of a context were asked of, and the loads of them that wait are held
+pub record AreHeldBelow (old f : Flow) (c : ℕ) (t : Track) (n : ℕ) : Type 0 where
+  pub flow : IsRemarked old f
+  pub held : (i a b : ℕ) → i < n → (entry_at t.context i).stage ≡ Queued → sources_at (lane old c) i ≡ Some (a, b) → may_issue_at t.context i a b ≡ false → IsHeld f c (entry_at t.context i).stamp
+  pub others : (d k : ℕ) → d ≢ c → IsHeld old d k → IsHeld f d k
+
+pub held_first : (f : Flow) (c : ℕ) (t : Track) → AreHeldBelow f f c t 0
+held_first f c t = record { flow = remark_none f; held = λ i a b lt. absurd (omega (arith, lt)); others = λ d k other h. h }
+
+-- one more
+pub held_next : (old f g : Flow) (c : ℕ) (t : Track) (n : ℕ) → AreHeldBelow old f c t n → n < length t.context.flight → IsGrowing 0 t.context.flight → IsRemarked f g
+    → ((a b : ℕ) → (entry_at t.context n).stage ≡ Queued → sources_at (lane f c) n ≡ Some (a, b) → may_issue_at t.context n a b ≡ false → IsHeld g c (entry_at t.context n).stamp)
+    → ((d k : ℕ) → (k ≡ (entry_at t.context n).stamp → d ≢ c) → IsHeld f d k → IsHeld g d k) → AreHeldBelow old g c t (n + 1)
+held_next old f g c t n h lt growing marks here others = record {
+  flow = remarked_twice old f g h.flow marks;
+  held = λ i a b below stage sources waits. elim (cases_lt i n) [
+    | inl before ↦ others c (entry_at t.context i).stamp
+        (λ same. absurd (let at = same_place 0 t.context.flight i n growing (queued_within t.context.flight i stage) lt same in omega (arith, at, before)))
+        (h.held i a b before stage sources waits)
+    | inr from ↦ let last : i ≡ n = omega (arith, from, below) in at_place i a b last stage sources waits
+  ];
+  others = λ d k other was. others d k (λ same. other) (h.others d k other was);
+}
+  where
+    at_place : (i a b : ℕ) → i ≡ n → (entry_at t.context i).stage ≡ Queued → sources_at (lane old c) i ≡ Some (a, b) → may_issue_at t.context i a b ≡ false → IsHeld g c (entry_at t.context i).stamp
+    at_place i a b last stage sources waits =
+        let lanes : lane f c ≡ lane old c = remarked_lane old f c h.flow in
+        rw last (here a b (rw last at stage) (rw lanes (rw last at sources)) (rw last at waits))
+
+-- all of them
+pub held_all : (old f : Flow) (c : ℕ) (t : Track) (n : ℕ) → AreHeldBelow old f c t n → t.renamed ≤ n → AreHeld f c t
+held_all old f c t n h le i a b lt stage sources waits =
+    let lanes : lane f c ≡ lane old c = remarked_lane old f c h.flow in
+    h.held i a b (omega (arith, le, lt)) stage (rw lanes at sources) waits
+
+-- of another context they are held still
+pub held_kept : (f g : Flow) (c : ℕ) (t : Track) → IsRemarked f g → ((k : ℕ) → IsHeld f c k → IsHeld g c k) → AreHeld f c t → AreHeld g c t
+held_kept f g c t marks keeps held i a b lt stage sources waits =
+    let lanes : lane g c ≡ lane f c = remarked_lane f g c marks in
+    keeps (entry_at t.context i).stamp (held i a b lt stage (rw lanes at sources) waits)
+
+-- ---- an entry that issues
+
+issued_waits : (j : ℕ) (es : List Entry) (i : ℕ) (x : Execution) → (get_or es i no_entry).stage ≡ Queued → waits (take j (set es i (with_stage (get_or es i no_entry) (Issued x)))) ≡ waits (take j es)
+issued_waits zero es i x stage = refl
+issued_waits (suc j) [] i x stage = refl
+issued_waits (suc j) (e ∷ es) zero x stage = rw stage refl
+issued_waits (suc j) (e ∷ es) (suc i) x stage = ap (λ b. is_pending_store e || b) (issued_waits j es i x stage)
+
+issued_newest : (test : Bytes → Bool) (j : ℕ) (es : List Entry) (i : ℕ) (x : Execution) → (get_or es i no_entry).stage ≡ Queued → newest test (take j (set es i (with_stage (get_or es i no_entry) (Issued x)))) ≡ newest test (take j es)
+issued_newest test zero es i x stage = refl
+issued_newest test (suc j) [] i x stage = refl
+issued_newest test (suc j) (e ∷ es) zero x stage = rw stage refl
+issued_newest test (suc j) (e ∷ es) (suc i) x stage = rw (issued_newest test j es i x stage) refl
+
+-- but for its stage it is what it was
+issued_entry : (es : List Entry) (i j : ℕ) (x : Execution) → with_stage (get_or (set es i (with_stage (get_or es i no_entry) (Issued x))) j no_entry) Queued ≡ with_stage (get_or es j no_entry) Queued
+issued_entry [] i j x = refl
+issued_entry (e ∷ es) zero zero x = refl
+issued_entry (e ∷ es) zero (suc j) x = refl
+issued_entry (e ∷ es) (suc i) zero x = refl
+issued_entry (e ∷ es) (suc i) (suc j) x = issued_entry es i j x
+
+same_may : (es fs : List Entry) (o : Operation) (pc a b : ℕ) → ((s : Span) → is_clear_waiting es s ≡ is_clear_waiting fs s) → may_perform es o pc a b ≡ may_perform fs o pc a b
+same_may es fs (Performs insn) pc a b same = by_effect (effect_of insn pc a b)
+  where
+    by_effect : (e : Effect) → may_issue_waiting es e ≡ may_issue_waiting fs e
+    by_effect (effect.Loads kind address) = same _
+    by_effect e = refl
+same_may es fs (Stops why) pc a b same = refl
+
+-- a queued entry that issues leaves what the others wait for
+pub issued_may : (t : Track) (i j : ℕ) (x : Execution) (a b : ℕ) → (entry_at t.context i).stage ≡ Queued → may_issue_at (issued t i x).context j a b ≡ may_issue_at t.context j a b
+issued_may t i j x a b stage =
+    let same = issued_entry t.context.flight i j x in
+    let e = entry_at (issued t i x).context j in
+    same_may (take j (issued t i x).context.flight) (take j t.context.flight) e.operation e.pc a b clear
+    ∙ ap (λ (n : Entry). may_perform (take j t.context.flight) n.operation n.pc a b) same
+  where
+    clear : (s : Span) → is_clear_waiting (take j (issued t i x).context.flight) s ≡ is_clear_waiting (take j t.context.flight) s
+    clear s = rw (issued_waits j t.context.flight i x stage, issued_newest _ j t.context.flight i x stage) refl
+
+-- so the names of the others are clear still
+pub issued_clear : (f : Flow) (c k : ℕ) (t : Track) (i : ℕ) (x : Execution) → (entry_at t.context i).stage ≡ Queued → IsClear f c t k → IsClear f c (issued t i x) k
+issued_clear f c k t i x stage clear j a b lt stamp sources =
+    issued_may t i j x a b stage ∙ clear j a b lt (sym (ap (λ (n : Entry). n.stamp) (issued_entry t.context.flight i j x)) ∙ stamp) sources

@@ -1,0 +1,4 @@
+pub mod Ends
+pub mod Replacing
+pub mod Scans
+pub mod Numbers

@@ -1,0 +1,4 @@
+pub mod FaultText
+pub mod Queues
+pub mod Replaced
+pub mod Answered

@@ -1,0 +1,13 @@
+//! What answers a load.
+
+/// What answers a load that asks for its bytes.
+#[derive(Clone, Copy, Debug, PartialEq, Eq)]
+pub enum LoadAnswer {
+    /// The number that its bytes spell, least first.
+    Ready {
+        /// The number.
+        value: u64,
+    },
+    /// It has to ask again: an older store has not completed, or has only some of its bytes.
+    Wait,
+}

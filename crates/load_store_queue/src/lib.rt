@@ -1,0 +1,20 @@
+//! The loads and stores in flight of one context of an out-of-order core, in order of stamp.
+//!
+//! A load takes its bytes from the newest older store that shares a byte with it and has completed, where that
+//! covers the load, else from memory. A store that completes names the oldest issued younger load that shares a byte
+//! with it.
+#![tactic(auto)]
+
+mod answer;
+mod fault;
+mod load_store_queue;
+mod place;
+mod reading;
+mod ring;
+
+pub use answer::LoadAnswer;
+pub use fault::QueueFault;
+pub use load_store_queue::LoadStoreQueue;
+
+#[cfg(test)]
+mod tests;

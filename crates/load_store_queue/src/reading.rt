@@ -1,0 +1,70 @@
+//! The numbers that memory's bytes spell, also where an access would be refused.
+
+ghost use Rattle.std.specs.Prelude.{◌≡◌, ◌+◌, ◌%◌, ◌≤◌};
+ghost use Rattle.paged_memory.specs.Cells.{byte_at, bytes_of, load_of, number_at};
+ghost use Rattle.load_store_queue.specs.Answered.{addressed_byte, bytes_read};
+
+use core_view::Span;
+use paged_memory::{Memory, Width};
+use std::alloc::Allocator;
+
+/// The span of a load.
+#[inline]
+pub fn span_of(address: u64, width: Width) -> Span
+    ensures { result ≡ record { address = address; size = bytes_of width } }
+{
+    let size = match width {
+        Width::Byte => 1,
+        Width::Half => 2,
+        Width::Word => 4,
+        Width::Double => 8,
+    };
+    Span { address, size }
+}
+
+/// The number that memory's bytes spell at an address, 0 for those that are not mapped.
+#[inline]
+pub fn number<A: Allocator>(memory: &Memory<A>, address: u64, width: Width) -> u64
+    ensures { result ≡ number_at (bytes_read memory.now (load_of memory.now address (bytes_of width))) address (bytes_of width) }
+{
+    match memory.load(address, width) {
+        Ok(value) => value,
+        Err(_) => number_by_bytes(memory, span_of(address, width)),
+    }
+}
+
+/// The same, byte by byte from the highest down.
+#[cold]
+fn number_by_bytes<A: Allocator>(memory: &Memory<A>, span: Span) -> u64
+    requires { span.size ≤ 8 }
+    ensures { result ≡ number_at (addressed_byte memory.now) span.address span.size }
+{
+    let mut number: u64 = 0;
+    let mut offset = span.size;
+    while offset > 0 {
+        offset -= 1;
+        let byte = byte_past(memory, span.address, offset);
+        number = number.wrapping_mul(256).wrapping_add(u64::from(byte));
+    }
+    number
+}
+
+/// The byte so far past an address, 0 where none is mapped.
+fn byte_past<A: Allocator>(memory: &Memory<A>, address: u64, offset: u8) -> u8
+    ensures { result ≡ addressed_byte memory.now (address + offset) }
+{
+    match address.checked_add(u64::from(offset)) {
+        None => 0,
+        Some(address) => byte(memory, address),
+    }
+}
+
+/// The byte at an address, 0 where none is mapped.
+fn byte<A: Allocator>(memory: &Memory<A>, address: u64) -> u8
+    ensures { result ≡ byte_at memory.now address % 256 }
+{
+    match memory.load(address, Width::Byte) {
+        Ok(value) => (value % 256) as u8,
+        Err(_) => 0,
+    }
+}
