@@ -1,0 +1,95 @@
+"""Processor time by crate: a thread looks twice a second at the provers that run."""
+
+import os
+import resource
+import threading
+import time
+from typing import Dict, List, Optional, Tuple
+
+COLUMNS = ("proof", "tests", "edits")
+TICK = os.sysconf("SC_CLK_TCK")
+
+
+class Clock:
+    """Minutes of processors by crate and column, from `/proc`; what a process does after its last look isn't counted."""
+
+    def __init__(self) -> None:
+        self.is_in_edits = False
+        self.spent: Dict[Tuple[int, str], float] = {}
+        self.owner: Dict[Tuple[int, str], Tuple[str, str]] = {}
+        self.begun = time.time()
+        self.is_over = threading.Event()
+        self.thread = threading.Thread(target=self.look_on, daemon=True)
+
+    def start(self) -> None:
+        """Begins to look."""
+        self.thread.start()
+
+    def stop(self) -> None:
+        """Ends looking."""
+        self.is_over.set()
+        self.thread.join()
+
+    def look_on(self) -> None:
+        """Looks until it is stopped."""
+        while not self.is_over.wait(0.5):
+            self.look()
+
+    def look(self) -> None:
+        """Adds what each prover that runs has used so far."""
+        for pid in filter(str.isdigit, os.listdir("/proc")):
+            try:
+                with open(f"/proc/{pid}/stat", encoding="utf-8", errors="replace") as it:
+                    name, _, rest = it.read().partition(" (")[2].rpartition(") ")
+                if name != "rattle":
+                    continue
+                words = rest.split()
+                key = (int(pid), words[19])
+                if key not in self.owner:
+                    with open(f"/proc/{pid}/cmdline", "rb") as file:
+                        of = self.column_of(file.read().decode(errors="replace").split("\0"))
+                    if of is None:
+                        continue
+                    self.owner[key] = of
+                self.spent[key] = (int(words[11]) + int(words[12])) / TICK / 60
+            except (OSError, ValueError, IndexError):
+                continue
+
+    def column_of(self, words: List[str]) -> Optional[Tuple[str, str]]:
+        """The crate and the column that a prover's command line belongs to."""
+        if "--crate-name" not in words[:-1]:
+            return None
+        crate = words[words.index("--crate-name") + 1]
+        if self.is_in_edits:
+            return crate, "edits"
+        return crate, "tests" if "--test" in words else "proof"
+
+    def minutes(self) -> Dict[Tuple[str, str], float]:
+        """Minutes by crate and column."""
+        found: Dict[Tuple[str, str], float] = {}
+        for key, spent in list(self.spent.items()):
+            of = self.owner[key]
+            found[of] = found.get(of, 0.0) + spent
+        return found
+
+    def wall(self) -> float:
+        """Minutes since it was made."""
+        return (time.time() - self.begun) / 60
+
+
+def whole() -> float:
+    """Minutes of processors that this process and all that it waited for have used, user and system."""
+    used = [resource.getrusage(it) for it in (resource.RUSAGE_SELF, resource.RUSAGE_CHILDREN)]
+    return sum(it.ru_utime + it.ru_stime for it in used) / 60
+
+
+def table(minutes: Dict[Tuple[str, str], float]) -> List[str]:
+    """The table of minutes by crate, its sums last."""
+    names = sorted({name for name, _ in minutes})
+    width = max([len(it) for it in names] + [len("crate")])
+    row = "{:<" + str(width) + "} {:>7} {:>7} {:>7}"
+    lines = [row.format("crate", *COLUMNS) + "   processor minutes"]
+    for name in names:
+        lines.append(row.format(name, *(f"{minutes.get((name, it), 0.0):.1f}" for it in COLUMNS)))
+    sums = [sum(spent for of, spent in minutes.items() if of[1] == it) for it in COLUMNS]
+    return lines + [row.format("sum", *(f"{it:.1f}" for it in sums))]

@@ -1,0 +1,134 @@
+"""Must-fail edits: which function each changes, and the texts of several together."""
+
+import os
+import re
+from typing import Dict, List, NamedTuple, Optional, Sequence, Tuple
+
+from gate_lib import source
+
+
+class Edit(NamedTuple):
+    """An edit of the body of one function."""
+
+    # Its file, and what it is called.
+    file: str
+    label: str
+    # The source file that it changes, and the function as the prover names it.
+    path: str
+    function: str
+    # How the names of the function's closures begin.
+    closures: str
+    # The function's place in the file, and its text with the edit.
+    start: int
+    end: int
+    text: str
+
+
+class Placed(NamedTuple):
+    """An edit in a text that may hold others too: the lines that its function takes there."""
+
+    edit: Edit
+    first: int
+    last: int
+
+
+def in_one_function(crate: str, folder: str, file: str, label: str, texts: Dict[str, str],
+                    known: Sequence[str]) -> Optional[Edit]:
+    """The edit that these texts are, if it changes the body of one function that the prover knows and nothing else."""
+    if len(texts) != 1:
+        return None
+    (path, after), = texts.items()
+    if not path.startswith("src/"):
+        return None
+    before = read(f"{folder}/{path}")
+    start, end = changed(before, after)
+    for function in source.functions(before):
+        if not function.body <= start <= end <= function.end or function.cycle:
+            continue
+        name = known_name(crate, path, function, known)
+        if name is None:
+            return None
+        text = after[function.start:len(after) - (len(before) - function.end)]
+        return Edit(file, label, path, name, closures_of(crate, path, name), function.start, function.end, text)
+    return None
+
+
+def changed(before: str, after: str) -> Tuple[int, int]:
+    """The part of the first text in which the two differ."""
+    start = len(os.path.commonprefix([before, after]))
+    most = min(len(before), len(after)) - start
+    same = len(os.path.commonprefix([before[::-1][:most], after[::-1][:most]]))
+    return start, len(before) - same
+
+
+def known_name(crate: str, path: str, function: source.Function, known: Sequence[str]) -> Optional[str]:
+    """The name of a function among those that the prover printed; None where that isn't certain."""
+    name = source.printed_name(crate, path, function)
+    if name in known:
+        return name
+    # An impl may stand in another module than its type, whose name the prover gives.
+    owner = source.printed_owner(function.owner) if function.owner else ""
+    found = [it for it in known if owner and it.startswith(f"{crate}::") and it.endswith(f"::{owner}::{function.name}")
+             and "::fn::" not in it]
+    return found[0] if len(found) == 1 else None
+
+
+def closures_of(crate: str, path: str, name: str) -> str:
+    """How the prover's names of a function's closures begin."""
+    module = "::".join([crate, *source.module_of(path)])
+    return f"{module}::fn::{name[len(module) + 2:]}::" if name.startswith(f"{module}::") else f"{name}::"
+
+
+def together(folder: str, edits: Sequence[Edit]) -> Tuple[Dict[str, str], List[Placed]]:
+    """The texts of files with edits of different functions, and where those functions stand in them."""
+    texts: Dict[str, str] = {}
+    placed: List[Placed] = []
+    for path in sorted({it.path for it in edits}):
+        before, after, at = read(f"{folder}/{path}"), "", 0
+        for edit in sorted((it for it in edits if it.path == path), key=lambda it: it.start):
+            after += before[at:edit.start]
+            first = after.count("\n") + 1
+            after += edit.text
+            placed.append(Placed(edit, first, after.count("\n")))
+            at = edit.end
+        texts[path] = after + before[at:]
+    return texts, placed
+
+
+def harmless(crate: str, folder: str, room: str, edits: Sequence[Edit], known: Sequence[str]) -> Optional[Edit]:
+    """An edit, written to a file in a folder, that changes nothing, in a function that calls an edited one."""
+    files = [os.path.join(at, it) for at, _, names in os.walk(f"{folder}/src") for it in names if it.endswith(".rt")]
+    texts = {os.path.relpath(it, folder): read(it) for it in sorted(files)}
+    all_functions = [(path, it) for path, text in texts.items() for it in source.functions(text)]
+    names = [it.name for _, it in all_functions]
+    for called in edits:
+        name = called.function.split("::")[-1]
+        if names.count(name) != 1:
+            continue
+        for path, function in all_functions:
+            body = texts[path][function.body:function.end]
+            line = marked_line(texts[path], body)
+            if function.name == name or function.cycle or not line or not source.calls(body, name):
+                continue
+            file = f"{room}/changes_nothing.edit"
+            with open(file, "w", encoding="utf-8") as it:
+                it.write(f"file: {path}\nold: {line}\nnew: {line} // as it was\n")
+            changed_text = {path: texts[path].replace(line, f"{line} // as it was")}
+            made = in_one_function(crate, folder, file, f"{crate}/changes_nothing.edit", changed_text, known)
+            if made:
+                return made
+    return None
+
+
+def marked_line(text: str, body: str) -> str:
+    """A line of a body that stands once in its file and that a comment may follow."""
+    for line in body.split("\n")[1:]:
+        if line.strip() and text.count(line) == 1 and not re.search(r'["/]', line):
+            return line
+    return ""
+
+
+def read(file: str) -> str:
+    """A file's text."""
+    with open(file, encoding="utf-8") as it:
+        return it.read()

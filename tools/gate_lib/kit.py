@@ -1,0 +1,106 @@
+"""The toolchain's command `rt` as a module: its crates, its way of trying one edit, its lanes.
+
+It is loaded from the `rt` on PATH. What is used of it is that of one version, which `KIT` names: under another one the
+gate runs plain `rt ci`.
+"""
+
+import importlib.machinery
+import importlib.util
+import os
+import shutil
+import subprocess
+import sys
+import types
+from typing import Any, Callable, Dict, List, NamedTuple, Optional, Tuple
+
+KIT = "rattle-kit-13b logic dac8208d650f15bf"
+
+
+class Ran(NamedTuple):
+    """What a check ended with, and what it said."""
+
+    status: int
+    text: str
+
+
+def version() -> str:
+    """The version of the `rt` on PATH, "" where there is none."""
+    try:
+        ran = subprocess.run(["rt", "version"], capture_output=True, text=True, check=False)
+    except OSError:
+        return ""
+    return ran.stdout.strip()
+
+
+class Kit:
+    """The crates of a repository, as `rt ci` sees them, and the checks of edited copies of them."""
+
+    def __init__(self, root: str, from_ci: bool) -> None:
+        self.rt = load()
+        self.lib = self.rt.rtlib
+        self.lib.guarded()
+        if from_ci:
+            # The libraries that `rt ci` leaves hold statements alone, and it alone reads them.
+            self.rt.Crate.cuts_libraries = True
+            self.rt.Crate.allowed = self.rt.handles_of(root)
+            self.lib.Crate = self.rt.Crate
+        self.crates: Dict[str, Any] = {it.name: it for it in self.lib.crates_below(root)}
+
+    def builds_below(self, name: str) -> bool:
+        """Builds the libraries below a crate where they aren't built; tells whether all are."""
+        return not any(it.build_rlib(["--jobs", "1"], anew=False) for it in self.crates[name].below())
+
+    def folder(self, name: str) -> str:
+        """The folder of a crate."""
+        return self.crates[name].folder
+
+    def edits(self, name: str, root: str) -> Tuple[List[str], List[str]]:
+        """The edit files of a crate in a checkout, and the files beside them that are none."""
+        folder = f"{root}/crates/{name}"
+        good, bad = self.rt.edits_of(types.SimpleNamespace(folder=folder))
+        links = [it for it in good if os.path.islink(it)]
+        return [it for it in good if it not in links], bad + links
+
+    def read_edit(self, edit: str, folder: str) -> Tuple[Optional[Dict[str, str]], str]:
+        """The texts of the files that an edit changes, or why it can't be applied."""
+        texts, why = self.rt.read_edit(edit, folder)
+        return texts, why or ""
+
+    def checked(self, name: str, texts: Dict[str, str], only: List[str], kept: str) -> Ran:
+        """Checks a crate with these texts in place of its own, all of it or only some functions."""
+        flags = ["--jobs", "1"]
+        for function in only:
+            flags += ["--only", function.partition("::")[2]]
+        ran = self.rt.checked(self.crates[name], texts, flags, kept)
+        return Ran(ran.returncode, ran.stdout)
+
+    def is_unread(self, ran: Ran, texts: Dict[str, str]) -> bool:
+        """Whether the prover could not read an edited text, or the kept work of a library could not be used."""
+        lines = ran.text.split("\n")
+        return any(self.rt.unread(it, texts) for it in lines) or self.lib.STALE.search(ran.text) is not None
+
+    def must_fail(self, name: str, edit: str, kept: Optional[str]) -> Tuple[bool, str]:
+        """Tries one edit in the toolchain's own way: whether it is refused, and what to say."""
+        return self.rt.must_fail(self.crates[name], edit, ["--jobs", "1"], kept)
+
+    def lines(self, name: str) -> int:
+        """How many lines a crate has."""
+        return self.crates[name].count(rb"\n")
+
+    def in_lanes(self, weights: Dict[str, int], call: Callable[[str], Any]) -> Dict[str, Any]:
+        """Calls a function for each crate, as many side by side as processors and memory allow, the heaviest first."""
+        tasks = {(it, "edits"): ([], weight, self.rt.need(self.crates[it]), lambda given, jobs, at=it: call(at))
+                 for it, weight in weights.items()}
+        return {key[0]: it for key, it in self.rt.in_lanes(tasks).items()}
+
+
+def load() -> Any:
+    """The `rt` on PATH as a module."""
+    sys.dont_write_bytecode = True
+    file = os.path.realpath(shutil.which("rt") or "rt")
+    loader = importlib.machinery.SourceFileLoader("rt", file)
+    spec = importlib.util.spec_from_loader("rt", loader)
+    assert spec
+    made = importlib.util.module_from_spec(spec)
+    loader.exec_module(made)
+    return made

@@ -1,0 +1,81 @@
+"""What the prover says of a function, and whether that is a reason of the function's own.
+
+A function's line says `proved`, or why not: goals of its own that `search` did not prove, answers of its own that were
+refused, or calls of functions that are not proved. Only the first two are reasons of its own. What stands here is the
+text of one version of the toolchain; a line that isn't known is no reason.
+"""
+
+import re
+from typing import Dict, List, NamedTuple, Tuple
+
+LINE = re.compile(r"^(?:fn|impl|struct|enum|trait) ([^ ]+): (.*)$")
+NOTE = re.compile(r"^note: (?:\./)?(src/\S+?):(\d+):\d+: (?:it is not proved that |`search` found no proof)")
+ERROR = re.compile(r"^\./(proofs/\S+)/(?:Answers|Invariants|Proof)\.antt:\d+:\d+: error: (.*)$")
+# An answer that wasn't looked at, and one that names what an edit took away: no goal was refused there.
+NOT_TRIED = re.compile(r"was not checked|were not checked|has no field|is not in scope|has no `|was not admitted")
+CALLS = r"it calls `[^;]*, which (?:is|are) not proved"
+OWN = re.compile(
+    r"no proof: expected answers in \./proofs/\S+/Answers\.antt; `search` did not prove `[^;]*(?:; " + CALLS + ")?"
+    r"|not proved(?:; " + CALLS + ")?"
+)
+CALLED = re.compile(r"(?:no proof: |not proved; )" + CALLS)
+LAST = re.compile(r"logic=not-proved\b.*|only=\d+ proved=\d+")
+
+
+class Said(NamedTuple):
+    """What a check says of one function."""
+
+    line: str
+    # Files and lines of the goals that were not proved in it.
+    goals: List[Tuple[str, int]]
+    # Whether an answer of its own was refused.
+    refused_answer: bool
+
+    @property
+    def is_proved(self) -> bool:
+        """Whether it is proved."""
+        return self.line == "proved"
+
+    @property
+    def is_called_only(self) -> bool:
+        """Whether all that is said against it is what it calls."""
+        return CALLED.fullmatch(self.line) is not None and not self.goals and not self.refused_answer
+
+    def is_own(self, path: str, first: int, last: int) -> bool:
+        """Whether it is unproved for a reason of its own, where it stands in these lines of a file."""
+        if OWN.fullmatch(self.line) is None:
+            return False
+        if any(it[0] != path or not first <= it[1] <= last for it in self.goals):
+            return False
+        return bool(self.goals) or self.refused_answer
+
+
+def read(text: str) -> Dict[str, Said]:
+    """What a check says of each function, by its name."""
+    refused = set()
+    for line in text.split("\n"):
+        error = ERROR.match(line)
+        if error and not NOT_TRIED.search(error[2]):
+            refused.add(error[1])
+    found: Dict[str, Said] = {}
+    goals: List[Tuple[str, int]] = []
+    for line in text.split("\n"):
+        note, said = NOTE.match(line), LINE.match(line)
+        if note:
+            goals.append((note[1], int(note[2])))
+        elif said:
+            if line.startswith("fn "):
+                answers = "/".join(["proofs", *said[1].split("::")[1:]])
+                found[said[1]] = Said(said[2], goals, answers in refused)
+            goals = []
+    return found
+
+
+def is_judged(text: str, status: int) -> bool:
+    """Whether a check came to its end and proved not all of it."""
+    return status == 1 and LAST.fullmatch(text.rstrip("\n").rpartition("\n")[2]) is not None
+
+
+def names(text: str) -> List[str]:
+    """The functions that a text of the prover's speaks of."""
+    return re.findall(r"^fn (\S+): ", text, re.M)

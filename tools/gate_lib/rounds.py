@@ -1,0 +1,203 @@
+"""A crate's must-fail edits, tried together in rounds.
+
+A round's check has at most one edit of each function. An edit is refused there where its own function isn't proved for
+a reason of its own: what a function calls is cited by its contract, which an edit of a body leaves as it is. What isn't
+certified so is tried in another round, and at last alone, in the toolchain's own way; so is each edit that isn't one of
+a single function's body, and each of a function in a cycle of calls, whose proofs are one.
+"""
+
+import os
+import re
+import tempfile
+from typing import Any, Callable, Dict, List, NamedTuple, Optional, Sequence, Set
+
+from gate_lib import edits as edits_of_text
+from gate_lib import output
+from gate_lib.edits import Edit, Placed
+
+TRIES = 2
+
+
+class Result(NamedTuple):
+    """What became of an edit."""
+
+    label: str
+    refused: bool
+    said: str
+
+
+class Plant(NamedTuple):
+    """What became of the edit that changes nothing."""
+
+    label: str
+    # Whether a round had it beside an edit of what it calls.
+    was_beside: bool
+    # Whether it came out as not refused.
+    was_found: bool
+
+
+class Tried(NamedTuple):
+    """What became of a crate's edits, and of the edit that changes nothing where one was planted there."""
+
+    results: List[Result]
+    plant: Optional[Plant]
+
+
+class Trial:
+    """The edits of one crate, on their way through the rounds."""
+
+    def __init__(self, kit: Any, crate: str, kept: str, tell: Callable[[str], None]) -> None:
+        self.kit, self.crate, self.kept, self.tell = kit, crate, kept, tell
+        self.folder = kit.folder(crate)
+        self.results: List[Result] = []
+        self.alone: List[str] = []
+        self.together: List[Edit] = []
+        # Each edit's name by its file.
+        self.labels: Dict[str, str] = {}
+        self.tries: Dict[str, int] = {}
+        # Functions whose certificate rests on what earlier rounds kept.
+        self.over_kept: Set[str] = set()
+        self.plant: Optional[Edit] = None
+        self.was_beside = False
+        self.plant_found = False
+
+    def sort_out(self, files: Sequence[str], known: Sequence[str]) -> None:
+        """Reads the edits, and tells which can be tried together."""
+        for file in files:
+            label = self.labels[file] = f"{self.crate}/{os.path.basename(file)}"
+            texts, why = self.kit.read_edit(file, self.folder)
+            if texts is None:
+                self.results.append(Result(label, False, f"BAD EDIT: {why}"))
+                continue
+            edit = edits_of_text.in_one_function(self.crate, self.folder, file, label, texts, known)
+            if edit:
+                self.together.append(edit)
+            else:
+                self.alone.append(file)
+
+    def put_plant(self, room: str, known: Sequence[str]) -> bool:
+        """Puts an edit that changes nothing before the others; tells whether the crate has a place for one."""
+        self.plant = edits_of_text.harmless(self.crate, self.folder, room, self.together, known)
+        if self.plant:
+            self.together.insert(0, self.plant)
+        return self.plant is not None
+
+    def run(self) -> None:
+        """Tries all."""
+        number = 0
+        while self.together:
+            number += 1
+            self.round(number)
+        for file in self.alone:
+            self.try_alone(file)
+        if not self.is_sound():
+            self.tell("kept work proves less than it should: what rests on it is tried again from nothing")
+            self.try_again()
+
+    def round(self, number: int) -> None:
+        """Tries one edit of each function, and certifies what it can."""
+        now: Dict[str, Edit] = {}
+        for edit in self.together:
+            now.setdefault(edit.function, edit)
+        texts, placed = edits_of_text.together(self.folder, list(now.values()))
+        ran = self.kit.checked(self.crate, texts, sorted(now), self.kept)
+        is_judged = output.is_judged(ran.text, ran.status) and not self.kit.is_unread(ran, texts)
+        said = output.read(ran.text)
+        cycles = functions_in_cycles(self.crate, self.kept)
+        for it in placed:
+            self.together.remove(it.edit)
+            if it.edit.function in cycles:
+                self.alone.append(it.edit.file)
+            elif is_judged and self.certify(it, said):
+                self.over_kept |= {it.edit.function} if number > 1 else set()
+            else:
+                self.wait(it.edit, is_judged)
+        refused = sum(it.refused for it in self.results)
+        self.tell(f"round {number}: {len(now)} edits tried, {refused} refused so far, {len(self.together)} to come, "
+                  f"{len(self.alone)} to be tried alone")
+
+    def certify(self, placed: Placed, said: Dict[str, output.Said]) -> bool:
+        """Counts an edit as refused where its function, or a closure in it, is unproved for a reason of its own."""
+        edit = placed.edit
+        if edit is self.plant and edit.function in said:
+            self.was_beside |= said[edit.function].is_called_only
+        for name, it in said.items():
+            is_its = name == edit.function or name.startswith(edit.closures)
+            if is_its and it.is_own(edit.path, placed.first, placed.last):
+                if edit is self.plant:
+                    return True
+                self.results.append(Result(edit.label, True, f"refused, as it must be: {name}: {it.line}"))
+                return True
+        return False
+
+    def wait(self, edit: Edit, is_judged: bool) -> None:
+        """Puts an edit that wasn't certified behind the others, or gives it up for the rounds."""
+        tries = self.tries[edit.file] = self.tries.get(edit.file, 0) + 1
+        if is_judged and tries < TRIES:
+            self.together.append(edit)
+        else:
+            self.alone.append(edit.file)
+
+    def try_alone(self, file: str) -> None:
+        """Tries an edit in the toolchain's own way, and again from nothing where it isn't refused."""
+        is_plant = self.plant is not None and file == self.plant.file
+        refused, said = self.kit.must_fail(self.crate, file, self.kept)
+        if is_plant:
+            self.plant_found = not refused and ": NOT REFUSED" in said
+            return
+        if not refused:
+            refused, said = self.kit.must_fail(self.crate, file, None)
+        self.results.append(Result(self.labels[file], refused, said.partition(": ")[2]))
+        self.tell(f"alone: {said[:150]}")
+
+    def is_sound(self) -> bool:
+        """Whether what was refused over kept work is proved over it without edits."""
+        functions = [] if self.alone else sorted(self.over_kept)
+        if not self.alone and not functions:
+            return True
+        return self.kit.checked(self.crate, {}, functions, self.kept).status == 0
+
+    def try_again(self) -> None:
+        """Tries all edits that are refused so far once more, each alone and from nothing."""
+        refused = {it.label for it in self.results if it.refused}
+        self.results = [it for it in self.results if not it.refused]
+        for file, label in self.labels.items():
+            if label in refused:
+                well, said = self.kit.must_fail(self.crate, file, None)
+                self.results.append(Result(label, well, said.partition(": ")[2]))
+
+
+def functions_in_cycles(crate: str, kept: str) -> Set[str]:
+    """The functions of a crate that call themselves, by the names of kept work: the proof of `m::f` is the module
+    `m.+f`. Functions that call one another bear an attribute instead."""
+    found = set()
+    modules = re.compile(rf"Rattle-{crate}-proofs\.((?:\w+\.)*)\+(\w+)\.")
+    for _, _, names in os.walk(kept):
+        for it in names:
+            module = modules.match(it)
+            if module:
+                found.add("::".join([crate, *module[1].split(".")[:-1], module[2]]))
+    return found
+
+
+def try_crate(kit: Any, crate: str, good: Sequence[str], bad: Sequence[str], known: Sequence[str], is_planted: bool,
+              tell: Callable[[str], None]) -> Tried:
+    """Tries the edits of a crate, and where asked for, beside them one that changes nothing."""
+    with tempfile.TemporaryDirectory(prefix="gate-kept-") as kept, tempfile.TemporaryDirectory(prefix="gate-") as room:
+        trial = Trial(kit, crate, kept, tell)
+        trial.results = [Result(f"{crate}/{os.path.basename(it)}", False, "BAD EDIT: no plain file NAME.edit")
+                         for it in bad]
+        trial.sort_out(good, known)
+        if is_planted:
+            trial.put_plant(room, known)
+        trial.run()
+        plant = Plant(trial.plant.label, trial.was_beside, trial.plant_found) if trial.plant else None
+        return Tried(trial.results, plant)
+
+
+def has_place_for_plant(kit: Any, crate: str, good: Sequence[str], known: Sequence[str]) -> bool:
+    """Whether a crate has a function that calls one that an edit changes."""
+    with tempfile.TemporaryDirectory(prefix="gate-") as room:
+        trial = Trial(kit, crate, room, print)
+        trial.sort_out(good, known)
+        return trial.put_plant(room, known)

@@ -1,0 +1,384 @@
+#!/usr/bin/env python3
+"""Tests of the gate's parts, on lines that the prover printed."""
+
+import os
+import shutil
+import subprocess
+import sys
+import tempfile
+import unittest
+from typing import Dict, List, Optional, Sequence, Tuple
+
+sys.dont_write_bytecode = True
+sys.path.insert(0, os.path.dirname(os.path.abspath(__file__)))
+
+from gate_lib import clock, edits, kit, output, rounds, source  # noqa: E402 (found by the line above)
+
+# A ring: `cut_from` calls `count_below`.
+RING = """\
+//! A ring.
+
+impl<E: Stamped, A: Allocator> Ring<E, A> {
+    /// How many entries it holds.
+    pub fn len(&self) -> usize
+        ensures { result ≡ length self.now }
+    {
+        self.buffer.len()
+    }
+
+    /// How many entries are older.
+    fn count_below(&self, stamp: u64) -> usize
+        ensures below { IsTrue (all_below stamp
+            (take result self.now)) }
+    {
+        if entry.stamp() < stamp {
+            return count + 1;
+        }
+        count
+    }
+
+    /// Drops the entries from a stamp on.
+    pub fn cut_from(&mut self, stamp: u64) -> usize {
+        let keep = self.count_below(stamp);
+        self.buffer.truncate_back(keep);
+        keep
+    }
+}
+"""
+LEN, BELOW, CUT = (f"reorder_buffer::ring::Ring::{it}" for it in ("len", "count_below", "cut_from"))
+KNOWN = [LEN, BELOW, CUT]
+
+# What the prover printed, long lines cut.
+NOTE = "note: src/ring.rt:{}:5: it is not proved that what the function ensures holds when it returns (`returns`)\n"
+BY_ITSELF = (
+    "fn {0}: no proof: expected answers in ./proofs/ring/Ring/len/Answers.antt; `search` did not prove `returns`, "
+    "`returns-clause-front`\n"
+)
+BY_ITSELF_TOO = (
+    "fn {0}: no proof: expected answers in ./proofs/ring/Ring/len/Answers.antt; `search` did not prove `returns`; "
+    f"it calls `{BELOW}`, which is not proved\n"
+)
+BY_A_CALL = f"fn {{0}}: no proof: it calls `{BELOW}`, which is not proved\n"
+REFUSED_ANSWER = (
+    "./proofs/ring/Ring/count_below/Answers.antt:8:80: error: `returns-then-stamp-clause-below`: `omega`: the goal "
+    "does not follow from what it read.\n"
+)
+ANSWER_NOT_TRIED = (
+    "./proofs/ring/Ring/count_below/Answers.antt:9:5: error: 1 declaration that depends on `invariant_of-self`, which "
+    "was rejected, was not checked: returns-clause-growing\n"
+)
+ANSWER_NAMES = (
+    "./proofs/ring/Ring/count_below/Answers.antt:7:63: error: `invariant_of-self`: record `Lts.After-map_err` has no "
+    "field `try_push_back` (nearest: .try_push_front)\n"
+)
+PROVED, BARE = "fn {0}: proved\n", "fn {0}: not proved\n"
+NOT_PROVED = "logic=not-proved\n"
+UNREADABLE = "src/ring.rt:17:9: error: `entri` is not in scope\n"
+
+
+class OutputTest(unittest.TestCase):
+    """What counts as a reason of the function's own."""
+
+    def is_own(self, text: str, name: str, first: int = 1, last: int = 99) -> bool:
+        return output.read(text)[name].is_own("src/ring.rt", first, last)
+
+    def test_a_goal_of_its_own(self) -> None:
+        self.assertTrue(self.is_own(NOTE.format(5) + BY_ITSELF.format(LEN), LEN))
+        self.assertTrue(self.is_own(NOTE.format(5) + BY_ITSELF_TOO.format(LEN), LEN))
+
+    def test_a_goal_that_stands_elsewhere(self) -> None:
+        self.assertFalse(self.is_own(NOTE.format(5) + BY_ITSELF.format(LEN), LEN, 6, 9))
+        self.assertFalse(self.is_own(NOTE.format(5) + PROVED.format(CUT) + BY_ITSELF.format(LEN), LEN))
+
+    def test_a_call(self) -> None:
+        said = output.read(BARE.format(BELOW) + BY_A_CALL.format(CUT))[CUT]
+        self.assertFalse(said.is_own("src/ring.rt", 1, 99))
+        self.assertTrue(said.is_called_only)
+
+    def test_a_refused_answer(self) -> None:
+        self.assertTrue(self.is_own(REFUSED_ANSWER + BARE.format(BELOW), BELOW))
+        self.assertFalse(self.is_own(ANSWER_NOT_TRIED + BARE.format(BELOW), BELOW))
+        self.assertFalse(self.is_own(ANSWER_NAMES + BARE.format(BELOW), BELOW))
+        self.assertFalse(self.is_own(REFUSED_ANSWER + BARE.format(LEN), LEN))
+
+    def test_proved(self) -> None:
+        self.assertTrue(output.read(PROVED.format(LEN))[LEN].is_proved)
+        self.assertFalse(self.is_own(NOTE.format(5) + PROVED.format(LEN), LEN))
+
+    def test_a_line_that_is_not_known(self) -> None:
+        for line in ("fn {0}: could not tell\n", "fn {0}: not proved, for now\n", "fn {0}: no proof: it has a loop\n"):
+            self.assertFalse(self.is_own(NOTE.format(5) + line.format(LEN), LEN))
+
+    def test_an_end_that_is_not_known(self) -> None:
+        self.assertTrue(output.is_judged(NOT_PROVED, 1))
+        self.assertTrue(output.is_judged("only=3 proved=2\n", 1))
+        self.assertFalse(output.is_judged(NOT_PROVED, 2))
+        self.assertFalse(output.is_judged("rattle: no verdict\n", 1))
+        self.assertFalse(output.is_judged(NOT_PROVED + UNREADABLE, 1))
+
+
+class SourceTest(unittest.TestCase):
+    """Where functions stand, and how the prover names them."""
+
+    def test_functions(self) -> None:
+        found = source.functions(RING)
+        self.assertEqual([it.name for it in found], ["len", "count_below", "cut_from"])
+        self.assertEqual([source.printed_name("reorder_buffer", "src/ring.rt", it) for it in found], KNOWN)
+        self.assertTrue(RING[found[1].start:].startswith("    fn count_below"))
+        self.assertTrue(RING[:found[1].end].endswith("count\n    }\n"))
+
+    def test_no_body(self) -> None:
+        text = "trait Order {\n    fn key(&self) -> u64\n        ensures { result ≡ key_of self.now };\n}\n\nfn f() {}\n"
+        self.assertEqual(source.functions(text), [])
+
+    def test_owners(self) -> None:
+        for head, name in (
+                ("impl<A: Allocator> Guess for Tables<A>", "TablesGuess"),
+                ("impl<T: Drop> From<AllocFailed<T>> for AsmFault", "AsmFaultFromAllocFailed"),
+                ("impl From<&Profile> for Latencies", "LatenciesFromRefProfile"),
+                ("impl Join for Option<u64>", "OptionU64Join"),
+                ("impl<A: Join, B: Join> Join for (A, B)", "Tuple2Join"),
+                ("impl fmt::Display for RingFault", "RingFaultDisplay"),
+                ("impl<'a, R: Files> LazyFile<'a, R>", "LazyFile"),
+                ("impl<G: Guess + Drop, A: Allocator> Core< G, A, >", "Core"),
+                ("pub trait Pick", "Pick")):
+            self.assertEqual(source.printed_owner(head), name)
+
+    def test_cycle(self) -> None:
+        text = "#[cycle(parity)]\n/// Whether a number is even.\nfn even(n: u64) -> bool {\n    odd(n - 1)\n}\n"
+        self.assertEqual([it.cycle for it in source.functions(text)], ["parity"])
+
+    def test_calls(self) -> None:
+        self.assertTrue(source.calls("self.count_below(stamp)", "count_below"))
+        self.assertTrue(source.calls("(count_below(stamp))", "count_below"))
+        self.assertFalse(source.calls("self.buffer.len()", "len"))
+        self.assertFalse(source.calls("recount_below(stamp)", "count_below"))
+
+
+class FakeKit:
+    """A toolchain whose checks answer as they are told to."""
+
+    def __init__(self, top: str, answers: Sequence[str], alone: Dict[str, bool]) -> None:
+        self.top, self.answers, self.refused_alone = top, list(answers), alone
+        self.only: List[List[str]] = []
+        self.texts: List[Dict[str, str]] = []
+        self.tried: List[str] = []
+        self.kept_module = ""
+        os.makedirs(f"{top}/src", exist_ok=True)
+        with open(f"{top}/src/ring.rt", "w", encoding="utf-8") as it:
+            it.write(RING)
+
+    def folder(self, _crate: str) -> str:
+        return self.top
+
+    def edit(self, name: str, old: str, new: str) -> str:
+        """Writes an edit."""
+        file = f"{self.top}/{name}.edit"
+        with open(file, "w", encoding="utf-8") as it:
+            it.write(f"{old}\n{new}")
+        return file
+
+    def read_edit(self, file: str, folder: str) -> Tuple[Optional[Dict[str, str]], str]:
+        if file.endswith("changes_nothing.edit"):
+            raise AssertionError("the planted edit is not read")
+        old, _, new = edits.read(file).partition("\n")
+        text = edits.read(f"{folder}/src/ring.rt")
+        if text.count(old) != 1:
+            return None, "an 'old:' text is in src/ring.rt 0 times, and not once"
+        return {"src/ring.rt": text.replace(old, new)}, ""
+
+    def checked(self, _crate: str, texts: Dict[str, str], only: List[str], kept: str) -> kit.Ran:
+        self.only.append(only)
+        self.texts.append(texts)
+        if self.kept_module:
+            with open(f"{kept}/{self.kept_module}", "w", encoding="utf-8"):
+                pass
+        text = self.answers.pop(0)
+        return kit.Ran(0 if text == "logic=proved\n" else 1, text)
+
+    def is_unread(self, ran: kit.Ran, _texts: Dict[str, str]) -> bool:
+        return UNREADABLE in ran.text
+
+    def must_fail(self, crate: str, edit: str, kept: Optional[str]) -> Tuple[bool, str]:
+        name = os.path.basename(edit)
+        self.tried.append(name if kept else f"{name} from nothing")
+        label = f"must-fail {crate}/{name}"
+        if self.refused_alone.get(name[:-len(".edit")], False):
+            return True, f"{label}: refused, as it must be"
+        return False, f"{label}: NOT REFUSED: the crate is still proved with this edit"
+
+
+class RoundsTest(unittest.TestCase):
+    """How edits go through the rounds."""
+
+    def setUp(self) -> None:
+        room = tempfile.TemporaryDirectory()
+        self.addCleanup(room.cleanup)
+        self.top = room.name
+
+    def trial(self, answers: Sequence[str], files: Dict[str, Tuple[str, str]], is_planted: bool = False,
+              **alone: bool) -> Tuple[FakeKit, rounds.Tried]:
+        made = FakeKit(self.top, answers, alone)
+        good = [made.edit(name, *text) for name, text in files.items()]
+        return made, rounds.try_crate(made, "reorder_buffer", good, [], KNOWN, is_planted, lambda _text: None)
+
+    def refused(self, tried: rounds.Tried) -> Dict[str, bool]:
+        return {it.label: it.refused for it in tried.results}
+
+    LEN_EDIT = ("self.buffer.len()", "self.buffer.capacity()")
+    LEN_EDIT_2 = ("        self.buffer.len()", "        self.buffer.len() / 2")
+    BELOW_EDIT = ("entry.stamp() < stamp", "entry.stamp() <= stamp")
+    CUT_EDIT = ("truncate_back(keep)", "truncate_front(keep)")
+
+    def test_all_refused_in_one_round(self) -> None:
+        said = NOTE.format(5) + BY_ITSELF.format(LEN) + REFUSED_ANSWER + BARE.format(BELOW) + NOT_PROVED
+        made, tried = self.trial([said], {"len": self.LEN_EDIT, "below": self.BELOW_EDIT})
+        self.assertEqual(self.refused(tried), {"reorder_buffer/len.edit": True, "reorder_buffer/below.edit": True})
+        self.assertEqual(made.tried, [])
+        self.assertIn("capacity", made.texts[0]["src/ring.rt"])
+        self.assertIn("<= stamp", made.texts[0]["src/ring.rt"])
+
+    def test_edits_of_one_function_go_to_two_rounds(self) -> None:
+        said = NOTE.format(5) + BY_ITSELF.format(LEN) + NOT_PROVED
+        made, tried = self.trial([said, said, "logic=proved\n"], {"one": self.LEN_EDIT, "two": self.LEN_EDIT_2})
+        self.assertEqual([it.refused for it in tried.results], [True, True])
+        # (the last check has no edit: what the second round rests on is proved)
+        self.assertEqual(made.texts[2], {})
+
+    def test_refused_only_through_a_call(self) -> None:
+        said = REFUSED_ANSWER + BARE.format(BELOW) + BY_A_CALL.format(CUT) + NOT_PROVED
+        proved = PROVED.format(BELOW) + PROVED.format(CUT) + NOT_PROVED
+        made, tried = self.trial([said, proved, "logic=proved\n"], {"below": self.BELOW_EDIT, "cut": self.CUT_EDIT})
+        self.assertEqual(self.refused(tried), {"reorder_buffer/below.edit": True, "reorder_buffer/cut.edit": False})
+        self.assertEqual(made.tried, ["cut.edit", "cut.edit from nothing"])
+
+    def test_proved(self) -> None:
+        said = PROVED.format(LEN) + NOT_PROVED
+        made, tried = self.trial([said, said, "logic=proved\n"], {"len": self.LEN_EDIT})
+        self.assertEqual([it.refused for it in tried.results], [False])
+        self.assertIn("NOT REFUSED", tried.results[0].said)
+
+    def test_an_unreadable_one_sends_all_to_the_toolchain(self) -> None:
+        said = UNREADABLE + NOTE.format(5) + BY_ITSELF.format(LEN) + REFUSED_ANSWER + BARE.format(BELOW) + NOT_PROVED
+        made, tried = self.trial([said, "logic=proved\n"], {"len": self.LEN_EDIT, "below": self.BELOW_EDIT}, len=True)
+        self.assertEqual(self.refused(tried), {"reorder_buffer/len.edit": True, "reorder_buffer/below.edit": False})
+        self.assertEqual(made.tried, ["len.edit", "below.edit", "below.edit from nothing"])
+
+    def test_an_edit_that_does_not_apply(self) -> None:
+        _, tried = self.trial([], {"gone": ("self.buffer.gone()", "1")})
+        self.assertEqual([it.refused for it in tried.results], [False])
+        self.assertIn("BAD EDIT", tried.results[0].said)
+
+    def test_outside_a_body_goes_alone(self) -> None:
+        made, tried = self.trial(["logic=proved\n"], {"clause": ("length self.now", "0")}, clause=True)
+        self.assertEqual([it.refused for it in tried.results], [True])
+        self.assertEqual(made.tried, ["clause.edit"])
+
+    def test_a_cycle_goes_alone(self) -> None:
+        made = FakeKit(self.top, [REFUSED_ANSWER + BARE.format(BELOW) + NOT_PROVED, "logic=proved\n"], {"below": True})
+        made.kept_module = "Rattle-reorder_buffer-proofs.ring.Ring.+count_below.Goals.oantt"
+        good = [made.edit("below", *self.BELOW_EDIT)]
+        tried = rounds.try_crate(made, "reorder_buffer", good, [], KNOWN, False, lambda _text: None)
+        self.assertEqual([it.refused for it in tried.results], [True])
+        self.assertEqual(made.tried, ["below.edit"])
+
+    def test_kept_work_that_proves_too_little(self) -> None:
+        said = NOTE.format(5) + BY_ITSELF.format(LEN) + NOT_PROVED
+        made, tried = self.trial([said, said, said], {"one": self.LEN_EDIT, "two": self.LEN_EDIT_2}, one=True)
+        self.assertEqual(made.tried, ["one.edit from nothing", "two.edit from nothing"])
+        self.assertEqual([it.refused for it in tried.results], [True, False])
+
+    def test_the_planted_edit(self) -> None:
+        said = REFUSED_ANSWER + BARE.format(BELOW) + BY_A_CALL.format(CUT) + NOT_PROVED
+        proved = PROVED.format(CUT) + "only=1 proved=1\n"
+        made, tried = self.trial([said, proved, "logic=proved\n"], {"below": self.BELOW_EDIT}, is_planted=True)
+        self.assertEqual(tried.plant, rounds.Plant("reorder_buffer/changes_nothing.edit", True, True))
+        self.assertEqual(self.refused(tried), {"reorder_buffer/below.edit": True})
+        self.assertEqual(made.only[0], [BELOW, CUT])
+
+    def test_the_planted_edit_is_certified(self) -> None:
+        said = REFUSED_ANSWER + BARE.format(BELOW) + NOTE.format(25) + BY_ITSELF.format(CUT) + NOT_PROVED
+        _, tried = self.trial([said], {"below": self.BELOW_EDIT}, is_planted=True)
+        self.assertEqual(tried.plant, rounds.Plant("reorder_buffer/changes_nothing.edit", False, False))
+
+    def test_the_planted_edit_is_refused_alone(self) -> None:
+        said = REFUSED_ANSWER + BARE.format(BELOW) + BY_A_CALL.format(CUT) + NOT_PROVED
+        _, tried = self.trial([said, said, "logic=proved\n"], {"below": self.BELOW_EDIT}, is_planted=True,
+                              changes_nothing=True)
+        self.assertEqual(tried.plant, rounds.Plant("reorder_buffer/changes_nothing.edit", True, False))
+
+
+FAKE_RT = """\
+#!/bin/sh
+case "$1" in
+    version) echo "another kit" ;;
+    ci) ls crates/low; cat crates/low/says; exit "$(cat crates/low/status)" ;;
+esac
+"""
+
+
+class WholeTest(unittest.TestCase):
+    """The gate under a toolchain that isn't the one named: plain `rt ci`, on a copy that has the edits."""
+
+    def run_gate(self, says: str, status: int) -> "subprocess.CompletedProcess[str]":
+        here = os.path.dirname(os.path.abspath(__file__))
+        with tempfile.TemporaryDirectory() as room:
+            os.makedirs(f"{room}/bin")
+            os.makedirs(f"{room}/top/tools")
+            for folder in ("must-fail", "out"):
+                os.makedirs(f"{room}/top/crates/low/{folder}")
+            shutil.copy(f"{here}/gate", f"{room}/top/tools/gate")
+            shutil.copytree(f"{here}/gate_lib", f"{room}/top/tools/gate_lib")
+            for file, text in (("bin/rt", FAKE_RT), ("top/crates/low/says", says),
+                               ("top/crates/low/status", str(status))):
+                with open(f"{room}/{file}", "w", encoding="utf-8") as it:
+                    it.write(text)
+            os.chmod(f"{room}/bin/rt", 0o755)
+            environment = {**os.environ, "PATH": f"{room}/bin:{os.environ['PATH']}"}
+            return subprocess.run([sys.executable, f"{room}/top/tools/gate"], env=environment, capture_output=True,
+                                  text=True, check=False)
+
+    def test_passed(self) -> None:
+        ran = self.run_gate("3 passed, 0 failed\n", 0)
+        self.assertEqual((ran.returncode, ran.stdout.splitlines()[-1]), (0, "3 passed, 0 failed"))
+        self.assertIn("must-fail\n", ran.stdout)
+        self.assertNotIn("out\n", ran.stdout)
+        self.assertIn("another kit", ran.stderr)
+
+    def test_failed(self) -> None:
+        ran = self.run_gate("rt: FAILED: low/edit\n3 passed, 1 failed\n", 1)
+        self.assertEqual((ran.returncode, ran.stdout.splitlines()[-2:]),
+                         (1, ["FAILED: low/edit", "3 passed, 1 failed"]))
+
+    def test_failed_without_a_name(self) -> None:
+        for says, status, last in (("3 passed, 0 failed\n", 1, "3 passed, 1 failed"),
+                                   ("3 passed, 2 failed\n", 0, "3 passed, 1 failed"),
+                                   ("killed\n", 0, "0 passed, 1 failed")):
+            ran = self.run_gate(says, status)
+            self.assertEqual((ran.returncode, ran.stdout.splitlines()[-1]), (1, last))
+
+
+class ClockTest(unittest.TestCase):
+    """The table of processor time."""
+
+    def test_table(self) -> None:
+        lines = clock.table({("join_law", "proof"): 1.25, ("join_law", "edits"): 3.0, ("asm_tests", "tests"): 2.0})
+        self.assertEqual([it.split() for it in lines], [
+            ["crate", "proof", "tests", "edits", "processor", "minutes"],
+            ["asm_tests", "0.0", "2.0", "0.0"],
+            ["join_law", "1.2", "0.0", "3.0"],
+            ["sum", "1.2", "2.0", "3.0"],
+        ])
+
+    def test_columns(self) -> None:
+        made = clock.Clock()
+        words = ["rattle", "check", "--crate-name", "join_law", "src/lib.rt"]
+        self.assertEqual(made.column_of(words), ("join_law", "proof"))
+        self.assertEqual(made.column_of([*words, "--test"]), ("join_law", "tests"))
+        made.is_in_edits = True
+        self.assertEqual(made.column_of(words), ("join_law", "edits"))
+        self.assertIsNone(made.column_of(["rattle", "--version"]))
+
+
+if __name__ == "__main__":
+    unittest.main()
