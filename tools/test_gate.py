@@ -127,6 +127,12 @@ class SourceTest(unittest.TestCase):
         self.assertTrue(RING[found[1].start:].startswith("    fn count_below"))
         self.assertTrue(RING[:found[1].end].endswith("count\n    }\n"))
 
+    def test_a_head_of_several_lines(self) -> None:
+        text = "impl<G: Guess, A: Allocator> Core<\n    G,\n    A,\n> {\n    fn cycles(&self) -> u64 {\n        1\n    }\n}\n"
+        found = source.functions(text)
+        self.assertEqual([source.printed_name("core_cycle", "src/cycle.rt", it) for it in found],
+                         ["core_cycle::cycle::Core::cycles"])
+
     def test_no_body(self) -> None:
         text = "trait Order {\n    fn key(&self) -> u64\n        ensures { result ≡ key_of self.now };\n}\n\nfn f() {}\n"
         self.assertEqual(source.functions(text), [])
@@ -290,8 +296,7 @@ class RoundsTest(unittest.TestCase):
 
     def test_the_planted_edit(self) -> None:
         said = REFUSED_ANSWER + BARE.format(BELOW) + BY_A_CALL.format(CUT) + NOT_PROVED
-        proved = PROVED.format(CUT) + "only=1 proved=1\n"
-        made, tried = self.trial([said, proved, "logic=proved\n"], {"below": self.BELOW_EDIT}, is_planted=True)
+        made, tried = self.trial([said, "logic=proved\n"], {"below": self.BELOW_EDIT}, is_planted=True)
         self.assertEqual(tried.plant, rounds.Plant("reorder_buffer/changes_nothing.edit", True, True))
         self.assertEqual(self.refused(tried), {"reorder_buffer/below.edit": True})
         self.assertEqual(made.only[0], [BELOW, CUT])
@@ -303,7 +308,7 @@ class RoundsTest(unittest.TestCase):
 
     def test_the_planted_edit_is_refused_alone(self) -> None:
         said = REFUSED_ANSWER + BARE.format(BELOW) + BY_A_CALL.format(CUT) + NOT_PROVED
-        _, tried = self.trial([said, said, "logic=proved\n"], {"below": self.BELOW_EDIT}, is_planted=True,
+        _, tried = self.trial([said, "logic=proved\n"], {"below": self.BELOW_EDIT}, is_planted=True,
                               changes_nothing=True)
         self.assertEqual(tried.plant, rounds.Plant("reorder_buffer/changes_nothing.edit", True, False))
 

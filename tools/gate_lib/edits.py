@@ -96,28 +96,30 @@ def together(folder: str, edits: Sequence[Edit]) -> Tuple[Dict[str, str], List[P
 
 
 def harmless(crate: str, folder: str, room: str, edits: Sequence[Edit], known: Sequence[str]) -> Optional[Edit]:
-    """An edit, written to a file in a folder, that changes nothing, in a function that calls an edited one."""
+    """An edit, written to a file in a folder, that changes nothing, in a function that calls an edited one; one in a
+    function without edits of its own where there is such a function."""
     files = [os.path.join(at, it) for at, _, names in os.walk(f"{folder}/src") for it in names if it.endswith(".rt")]
     texts = {os.path.relpath(it, folder): read(it) for it in sorted(files)}
     all_functions = [(path, it) for path, text in texts.items() for it in source.functions(text)]
     names = [it.name for _, it in all_functions]
-    for called in edits:
-        name = called.function.split("::")[-1]
-        if names.count(name) != 1:
+    edited = {it.function for it in edits}
+    called = [it for it in sorted(it.split("::")[-1] for it in edited) if names.count(it) == 1]
+    found: Optional[Edit] = None
+    for path, function in all_functions:
+        body = texts[path][function.body:function.end]
+        line = marked_line(texts[path], body)
+        if not line or not any(source.calls(body, it) for it in called if it != function.name):
             continue
-        for path, function in all_functions:
-            body = texts[path][function.body:function.end]
-            line = marked_line(texts[path], body)
-            if function.name == name or function.cycle or not line or not source.calls(body, name):
-                continue
-            file = f"{room}/changes_nothing.edit"
-            with open(file, "w", encoding="utf-8") as it:
+        marked = {path: texts[path].replace(line, f"{line} // as it was")}
+        label = f"{crate}/changes_nothing.edit"
+        made = in_one_function(crate, folder, f"{room}/changes_nothing.edit", label, marked, known)
+        if made and (found is None or made.function not in edited):
+            found = made
+            with open(made.file, "w", encoding="utf-8") as it:
                 it.write(f"file: {path}\nold: {line}\nnew: {line} // as it was\n")
-            changed_text = {path: texts[path].replace(line, f"{line} // as it was")}
-            made = in_one_function(crate, folder, file, f"{crate}/changes_nothing.edit", changed_text, known)
-            if made:
-                return made
-    return None
+            if made.function not in edited:
+                break
+    return found
 
 
 def marked_line(text: str, body: str) -> str:

@@ -133,7 +133,7 @@ class Trial:
     def wait(self, edit: Edit, is_judged: bool) -> None:
         """Puts an edit that wasn't certified behind the others, or gives it up for the rounds."""
         tries = self.tries[edit.file] = self.tries.get(edit.file, 0) + 1
-        if is_judged and tries < TRIES:
+        if is_judged and tries < TRIES and not (edit is self.plant and self.was_beside):
             self.together.append(edit)
         else:
             self.alone.append(edit.file)

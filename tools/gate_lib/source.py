@@ -34,7 +34,7 @@ def functions(text: str) -> List[Function]:
     found: List[Function] = []
     item = at = 0
     while at < len(lines):
-        if lines[at][:1] not in ("", " ", "}", ")", "{"):
+        if lines[at][:1] not in ("", " ", "}", ")", "{", ">"):
             item = at
         head = HEAD.match(lines[at])
         body = body_of(lines, at, head[1]) if head else None
