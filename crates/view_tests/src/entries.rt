@@ -1,7 +1,7 @@
 // Operations, outcomes and entries of programs whose figures are known.
 ghost use Rattle.std.specs.Prelude.{◌≡◌, ◌≤◌, length};
 
-use crate::{
+use core_view::{
     Access, Bytes, CycleNote, Entry, EntryId, Execution, Issue, Operation, Outcome, Span, Stage,
     Status, Step, access_fault, write_access,
 };
