@@ -1,9 +1,9 @@
 //! A worked flow.
 ghost use Rattle.std.specs.Prelude.{◌≡◌, ◌<◌, IfOk, IsSome, length};
 ghost use Rattle.data_flow.specs.Flow.{lane, node_at, with_lane, without_oldest};
-ghost use Rattle.data_flow.specs.Worked.{named, with_x1, of_three, finished};
+ghost use Rattle.queue_tests.specs.Worked.{named, with_x1, of_three, finished};
 
-use crate::{DataFlow, Operands};
+use data_flow::{DataFlow, Operands};
 use issue_queue::{OldestFirst, Order, SpecLast};
 use join_law::Ctx;
 use rv64_decode::Register;

@@ -1,7 +1,7 @@
 //! A ring at a concrete type.
 ghost use Rattle.std.specs.Prelude.{◌≡◌};
 
-use crate::{Ring, RingFault, Stamped};
+use reorder_buffer::{Ring, RingFault, Stamped};
 use std::test::Fail;
 
 // An instruction in flight: its stamp, and whether it is done.

@@ -1,6 +1,6 @@
 //! Renames at concrete values.
-use crate::{PhysicalRegister, Registers, RenameFault};
 use join_law::Ctx;
+use rename_file::{PhysicalRegister, Registers, RenameFault};
 use std::test::Fail;
 
 // The value that a source reads, once it is there.

@@ -1,9 +1,9 @@
 //! The worked examples.
 
-use crate::{
+use core_profile::IssuePolicy;
+use issue_queue::{
     BranchFirst, NamedOrder, OldestFirst, Order, Queue, QueueFault, Selected, SpecLast, Waiting,
 };
-use core_profile::IssuePolicy;
 use join_law::Ctx;
 use rename_file::PhysicalRegister;
 use std::process::Abort;
