@@ -4,4 +4,4 @@ use Rattle.view_tests.proofs.entries.byte_over_a_doubleword.Goals as goal
 
 -- one byte is a width
 pub write_access-requires : goal.write_access-requires
-write_access-requires g c = (Byte, sym c.one_byte-2.ensures)
+write_access-requires g c = (Byte, sym c.one_byte.ensures)
