@@ -63,6 +63,11 @@ fn assert_selected<O: Order>(rt: &impl Abort, flow: &mut DataFlow, order: &O, st
     }
 }
 
+// How many of a context wait, and how many of these are guessed.
+fn waiting_and_guessed(flow: &DataFlow, context: Ctx) -> [usize; 2] {
+    [flow.waiting_count(context), flow.guessed_count(context)]
+}
+
 // Commits the oldest of a context of which none waits.
 fn commit(rt: &impl Abort, flow: &mut DataFlow, context: Ctx)
     requires some { 0 < length (lane flow.old context).nodes }
@@ -125,14 +130,12 @@ fn counts_what_waits(rt: HostRuntime) -> Result<(), Fail> {
     let [first, second, third, ..] = Ctx::all();
     assert_eq!(rt; flow.free_count(), 29);
     assert!(rt; flow.has_place());
-    assert_eq!(rt; flow.waiting_count(first), 2);
-    assert_eq!(rt; flow.guessed_count(first), 1);
+    assert_eq!(rt; waiting_and_guessed(&flow, first), [2, 1]);
     assert_eq!(rt; flow.oldest_place(second), Some(2));
     assert_eq!(rt; flow.oldest_place(third), None);
     flow.cut_from(first, 2);
     assert_eq!(rt; flow.free_count(), 30);
-    assert_eq!(rt; flow.waiting_count(first), 1);
-    assert_eq!(rt; flow.guessed_count(first), 0);
+    assert_eq!(rt; waiting_and_guessed(&flow, first), [1, 0]);
     Ok(())
 }
 

@@ -168,12 +168,20 @@ fn the_oldest_issued_younger_load_conflicts(rt: HostRuntime) -> Result<(), Fail>
 }
 
 #[test]
-fn a_place_is_refused_exactly_at_the_capacity(rt: HostRuntime) -> Result<(), Fail> {
+fn a_store_is_refused_exactly_at_the_capacity(rt: HostRuntime) -> Result<(), Fail> {
     let mut queue = LoadStoreQueue::new(rt.alloc(), 2, 1)?;
     assert!(rt; queue.has_store_place());
     queue.place_store(1)?;
     assert!(rt; !queue.has_store_place());
     assert_eq!(rt; queue.place_store(4), Err(QueueFault::Full));
+    Ok(())
+}
+
+// The one place for a store is taken, which leaves the places for loads.
+#[test]
+fn a_load_is_refused_exactly_at_the_capacity(rt: HostRuntime) -> Result<(), Fail> {
+    let mut queue = LoadStoreQueue::new(rt.alloc(), 2, 1)?;
+    queue.place_store(1)?;
     queue.place_load(2)?;
     assert!(rt; queue.has_load_place());
     queue.place_load(3)?;
