@@ -10,8 +10,6 @@ mod counter;
 mod guess;
 mod return_stack;
 mod tables;
-#[cfg(test)]
-mod tests;
 
 pub use constant::{Always, Sequential};
 pub use guess::Guess;

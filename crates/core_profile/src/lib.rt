@@ -16,6 +16,3 @@ pub use fields::ProfileFields;
 pub use key::Key;
 pub use policy::{FetchPolicy, IssuePolicy};
 pub use profile::Profile;
-
-#[cfg(test)]
-mod tests;

@@ -18,8 +18,3 @@ pub use operation::Operation;
 pub use outcome::{Access, Outcome, Step};
 pub use span::{Bytes, Span};
 pub use status::Status;
-
-#[cfg(test)]
-mod span_tests;
-#[cfg(test)]
-mod tests;

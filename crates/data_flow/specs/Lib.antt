@@ -1,4 +1,3 @@
 pub mod Flow
 pub mod Banks
 pub mod Wired
-pub mod Worked

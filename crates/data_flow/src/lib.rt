@@ -6,6 +6,3 @@ mod operands;
 
 pub use data_flow::DataFlow;
 pub use operands::Operands;
-
-#[cfg(test)]
-mod tests;

@@ -9,8 +9,6 @@ mod delay;
 mod flat;
 mod latencies;
 mod tags;
-#[cfg(test)]
-mod tests;
 
 pub use alternating::Alternating;
 pub use delay::{Delay, Kind, Lag};

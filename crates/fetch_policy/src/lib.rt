@@ -10,6 +10,3 @@ pub use choice::choose;
 pub use named::NamedPick;
 pub use policies::{Brcount, Icount, Iqposn, Misscount, Pick, RoundRobin};
 pub use view::{FetchContext, FetchView};
-
-#[cfg(test)]
-mod tests;

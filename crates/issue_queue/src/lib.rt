@@ -8,8 +8,6 @@ mod order;
 mod queue;
 mod selecting;
 mod stamps;
-#[cfg(test)]
-mod tests;
 
 pub use entry::{QueueView, Selected, Waiting};
 pub use order::{BranchFirst, NamedOrder, OldestFirst, Order, SpecLast};

@@ -15,6 +15,3 @@ mod ring;
 pub use answer::LoadAnswer;
 pub use fault::QueueFault;
 pub use load_store_queue::LoadStoreQueue;
-
-#[cfg(test)]
-mod tests;

@@ -9,8 +9,6 @@ mod fault;
 mod physical_register;
 mod registers;
 mod rename_map;
-#[cfg(test)]
-mod tests;
 
 pub use fault::RenameFault;
 pub use physical_register::PhysicalRegister;

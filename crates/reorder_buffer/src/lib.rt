@@ -7,8 +7,6 @@
 mod fault;
 mod ring;
 mod stamped;
-#[cfg(test)]
-mod tests;
 
 pub use fault::RingFault;
 pub use ring::Ring;

@@ -1,9 +1,9 @@
 //! The worked examples.
 
-use crate::{
+use core_profile::IssuePolicy;
+use issue_queue::{
     BranchFirst, NamedOrder, OldestFirst, Order, Queue, QueueFault, Selected, SpecLast, Waiting,
 };
-use core_profile::IssuePolicy;
 use join_law::Ctx;
 use rename_file::PhysicalRegister;
 use std::process::Abort;
@@ -159,21 +159,30 @@ fn leaves_a_held_entry(rt: HostRuntime) {
     assert_stamps(&rt, queue.select(&OldestFirst, 8).as_slice(), &[1]);
 }
 
-// By stamp, contexts 2, 2, 5, 0, 5.
+// Five ready entries, by stamp of contexts 2, 2, 5, 0 and 5, the last of them guessed.
+fn five_ready(rt: &impl Abort) -> Queue {
+    let mut queue = Queue::new(8);
+    let mut branch = waiting(context(rt, 5), 34, [None, None]);
+    branch.guessed = true;
+    put(rt, &mut queue, branch);
+    put_ready(rt, &mut queue, 2, 31);
+    put_ready(rt, &mut queue, 2, 30);
+    put_ready(rt, &mut queue, 0, 33);
+    put_ready(rt, &mut queue, 5, 32);
+    queue
+}
+
 #[test]
 fn counts_the_entries_of_a_context(rt: HostRuntime) {
-    let mut queue = Queue::new(8);
-    let mut branch = waiting(context(&rt, 5), 34, [None, None]);
-    branch.guessed = true;
-    put(&rt, &mut queue, branch);
-    put_ready(&rt, &mut queue, 2, 31);
-    put_ready(&rt, &mut queue, 2, 30);
-    put_ready(&rt, &mut queue, 0, 33);
-    put_ready(&rt, &mut queue, 5, 32);
+    let queue = five_ready(&rt);
     assert_eq!(rt; queue.count(context(&rt, 5)), 2);
     assert_eq!(rt; queue.guessed_count(context(&rt, 5)), 1);
-    assert_eq!(rt; queue.oldest_place(context(&rt, 2)), Some(0));
-    assert_eq!(rt; queue.oldest_place(context(&rt, 5)), Some(2));
-    assert_eq!(rt; queue.oldest_place(context(&rt, 0)), Some(3));
-    assert_eq!(rt; queue.oldest_place(context(&rt, 1)), None);
+}
+
+#[test]
+fn finds_the_oldest_place_of_a_context(rt: HostRuntime) {
+    let queue = five_ready(&rt);
+    for (number, place) in [(2, Some(0)), (5, Some(2)), (0, Some(3)), (1, None)] {
+        assert_eq!(rt; queue.oldest_place(context(&rt, number)), place, "{number}");
+    }
 }

@@ -4,7 +4,7 @@ use Rattle.std.specs.List.{list_any}
 use Rattle.std.proofs.lemmas.Bool.Decides.{nat_tests}
 use Rattle.std.proofs.lemmas.List.Sums.{sum_by-cons}
 use Rattle.data_flow.specs.Flow.{Waiter, lane, node_at, is_waiter}
-use Rattle.data_flow.proofs.tests.commit.Goals as goal
+use Rattle.queue_tests.proofs.flows.commit.Goals as goal
 
 -- where none of a context waits, the one of a stamp does not
 none_waits : (c k : ℕ) (ws : List Waiter) → count_by (λ w. w.context == c) ws ≡ 0 → list_any (is_waiter c k) ws ≡ false

@@ -1,8 +1,9 @@
 //! The queues on a few loads and stores. The values follow from the bytes, least first.
-use crate::{LoadAnswer, LoadStoreQueue, QueueFault};
 use core_view::{Bytes, Span};
+use load_store_queue::{LoadAnswer, LoadStoreQueue, QueueFault};
 use paged_memory::{Memory, Width};
 use std::alloc::Global;
+use std::process::Abort;
 use std::test::Fail;
 
 /// The first address of the data.
@@ -51,6 +52,22 @@ fn three_loads(alloc: Global) -> Result<LoadStoreQueue, Fail> {
     Ok(queue)
 }
 
+/// Loads, each by its stamp, address and width, are answered as the table says.
+fn assert_loads(
+    rt: &impl Abort,
+    queue: &LoadStoreQueue,
+    memory: &Memory,
+    table: &[(u64, u64, Width, LoadAnswer)],
+) {
+    for &(stamp, address, width, want) in table {
+        assert_eq!(rt;
+            queue.ask_load(memory, stamp, address, width),
+            want,
+            "load {stamp} of {address}"
+        );
+    }
+}
+
 #[test]
 fn the_newest_older_store_is_forwarded(rt: HostRuntime) -> Result<(), Fail> {
     let memory = small_memory(rt.alloc())?;
@@ -58,15 +75,12 @@ fn the_newest_older_store_is_forwarded(rt: HostRuntime) -> Result<(), Fail> {
     queue.resolve_store(1, bytes(DATA, 8, 0xAAAA_AAAA_BBBB_BBBB));
     queue.resolve_store(3, bytes(DATA, 8, 0xCCCC_CCCC_DDDD_DDDD));
     // Load 4 comes after both stores, load 2 between them, load 0 before both.
-    assert_eq!(rt;
-        queue.ask_load(&memory, 4, DATA + 4, Width::Word),
-        ready(0xCCCC_CCCC)
-    );
-    assert_eq!(rt;
-        queue.ask_load(&memory, 2, DATA, Width::Half),
-        ready(0xBBBB)
-    );
-    assert_eq!(rt; queue.ask_load(&memory, 0, DATA, Width::Byte), ready(0x88));
+    let table = [
+        (4, DATA + 4, Width::Word, ready(0xCCCC_CCCC)),
+        (2, DATA, Width::Half, ready(0xBBBB)),
+        (0, DATA, Width::Byte, ready(0x88)),
+    ];
+    assert_loads(&rt, &queue, &memory, &table);
     Ok(())
 }
 
@@ -77,15 +91,12 @@ fn a_store_of_a_part_is_waited_for(rt: HostRuntime) -> Result<(), Fail> {
     queue.resolve_store(1, bytes(DATA, 8, 0));
     queue.resolve_store(3, bytes(DATA + 1, 1, 0xEE));
     // The newest store has only one of the eight bytes, though an older one has all.
-    assert_eq!(rt;
-        queue.ask_load(&memory, 4, DATA, Width::Double),
-        LoadAnswer::Wait
-    );
-    assert_eq!(rt;
-        queue.ask_load(&memory, 4, DATA + 1, Width::Byte),
-        ready(0xEE)
-    );
-    assert_eq!(rt; queue.ask_load(&memory, 4, DATA + 2, Width::Half), ready(0));
+    let table = [
+        (4, DATA, Width::Double, LoadAnswer::Wait),
+        (4, DATA + 1, Width::Byte, ready(0xEE)),
+        (4, DATA + 2, Width::Half, ready(0)),
+    ];
+    assert_loads(&rt, &queue, &memory, &table);
     Ok(())
 }
 
@@ -94,19 +105,21 @@ fn a_store_that_has_not_completed_is_waited_for(rt: HostRuntime) -> Result<(), F
     let memory = small_memory(rt.alloc())?;
     let mut queue = two_stores(rt.alloc())?;
     queue.resolve_store(3, bytes(DATA, 4, 7));
-    assert_eq!(rt;
-        queue.ask_load(&memory, 4, DATA, Width::Word),
-        LoadAnswer::Wait
+    assert_loads(
+        &rt,
+        &queue,
+        &memory,
+        &[(4, DATA, Width::Word, LoadAnswer::Wait)],
     );
     // Store 1 stops: it shares a byte with nothing.
     assert_eq!(rt; queue.resolve_store(1, None), None);
-    assert_eq!(rt; queue.ask_load(&memory, 4, DATA, Width::Word), ready(7));
-    assert_eq!(rt;
-        queue.ask_load(&memory, 2, DATA, Width::Word),
-        ready(0x5566_7788)
-    );
-    // A load waits for no younger store.
-    assert_eq!(rt; queue.ask_load(&memory, 1, DATA, Width::Byte), ready(0x88));
+    // Load 1 waits for no younger store.
+    let table = [
+        (4, DATA, Width::Word, ready(7)),
+        (2, DATA, Width::Word, ready(0x5566_7788)),
+        (1, DATA, Width::Byte, ready(0x88)),
+    ];
+    assert_loads(&rt, &queue, &memory, &table);
     Ok(())
 }
 
@@ -116,10 +129,8 @@ fn memory_answers_where_no_store_shares_a_byte(rt: HostRuntime) -> Result<(), Fa
     let mut queue = two_stores(rt.alloc())?;
     queue.resolve_store(1, bytes(DATA + 8, 8, 9));
     queue.resolve_store(3, None);
-    assert_eq!(rt;
-        queue.ask_load(&memory, 4, DATA, Width::Double),
-        ready(0x1122_3344_5566_7788)
-    );
+    let table = [(4, DATA, Width::Double, ready(0x1122_3344_5566_7788))];
+    assert_loads(&rt, &queue, &memory, &table);
     Ok(())
 }
 
@@ -127,25 +138,16 @@ fn memory_answers_where_no_store_shares_a_byte(rt: HostRuntime) -> Result<(), Fa
 fn refused_loads_read_byte_by_byte(rt: HostRuntime) -> Result<(), Fail> {
     let memory = small_memory(rt.alloc())?;
     let queue = LoadStoreQueue::new(rt.alloc(), 1, 1)?;
-    // Misaligned: 0x77, 0x66, 0x55, 0x44; two of data and two past them; one before text, and text.
-    assert_eq!(rt;
-        queue.ask_load(&memory, 0, DATA + 1, Width::Word),
-        ready(0x4455_6677)
-    );
-    assert_eq!(rt;
-        queue.ask_load(&memory, 0, DATA + 6, Width::Word),
-        ready(0x1122)
-    );
-    assert_eq!(rt;
-        queue.ask_load(&memory, 0, 0xFFFF, Width::Half),
-        ready(0x7300)
-    );
-    // Not mapped, and past the last address.
-    assert_eq!(rt;
-        queue.ask_load(&memory, 0, 0x20_0000, Width::Double),
-        ready(0)
-    );
-    assert_eq!(rt; queue.ask_load(&memory, 0, LAST, Width::Double), ready(0));
+    // Misaligned: 0x77, 0x66, 0x55, 0x44; two of data and two past them; one before text, and text;
+    // not mapped, and past the last address.
+    let table = [
+        (0, DATA + 1, Width::Word, ready(0x4455_6677)),
+        (0, DATA + 6, Width::Word, ready(0x1122)),
+        (0, 0xFFFF, Width::Half, ready(0x7300)),
+        (0, 0x20_0000, Width::Double, ready(0)),
+        (0, LAST, Width::Double, ready(0)),
+    ];
+    assert_loads(&rt, &queue, &memory, &table);
     Ok(())
 }
 
@@ -166,12 +168,20 @@ fn the_oldest_issued_younger_load_conflicts(rt: HostRuntime) -> Result<(), Fail>
 }
 
 #[test]
-fn a_place_is_refused_exactly_at_the_capacity(rt: HostRuntime) -> Result<(), Fail> {
+fn a_store_is_refused_exactly_at_the_capacity(rt: HostRuntime) -> Result<(), Fail> {
     let mut queue = LoadStoreQueue::new(rt.alloc(), 2, 1)?;
     assert!(rt; queue.has_store_place());
     queue.place_store(1)?;
     assert!(rt; !queue.has_store_place());
     assert_eq!(rt; queue.place_store(4), Err(QueueFault::Full));
+    Ok(())
+}
+
+// The one place for a store is taken, which leaves the places for loads.
+#[test]
+fn a_load_is_refused_exactly_at_the_capacity(rt: HostRuntime) -> Result<(), Fail> {
+    let mut queue = LoadStoreQueue::new(rt.alloc(), 2, 1)?;
+    queue.place_store(1)?;
     queue.place_load(2)?;
     assert!(rt; queue.has_load_place());
     queue.place_load(3)?;
@@ -191,12 +201,14 @@ fn the_oldest_retire_and_the_youngest_are_dropped(rt: HostRuntime) -> Result<(),
     queue.retire(2);
     assert!(rt; queue.has_load_place());
     // Store 3 stays, so load 4 waits; then it retires.
-    assert_eq!(rt;
-        queue.ask_load(&memory, 4, DATA, Width::Byte),
-        LoadAnswer::Wait
+    assert_loads(
+        &rt,
+        &queue,
+        &memory,
+        &[(4, DATA, Width::Byte, LoadAnswer::Wait)],
     );
     queue.retire(3);
-    assert_eq!(rt; queue.ask_load(&memory, 4, DATA, Width::Byte), ready(0x88));
+    assert_loads(&rt, &queue, &memory, &[(4, DATA, Width::Byte, ready(0x88))]);
     Ok(())
 }
 
@@ -208,11 +220,11 @@ fn a_cut_drops_loads_and_stores_alike(rt: HostRuntime) -> Result<(), Fail> {
     queue.drop_from(5);
     assert!(rt; queue.has_load_place());
     assert_eq!(rt; queue.resolve_store(3, bytes(DATA, 1, 1)), None);
-    assert_eq!(rt; queue.ask_load(&memory, 4, DATA, Width::Byte), ready(1));
+    assert_loads(&rt, &queue, &memory, &[(4, DATA, Width::Byte, ready(1))]);
     assert!(rt; !queue.has_no_store());
     queue.drop_from(3);
     assert!(rt; queue.has_no_store());
-    assert_eq!(rt; queue.ask_load(&memory, 4, DATA, Width::Byte), ready(0x88));
+    assert_loads(&rt, &queue, &memory, &[(4, DATA, Width::Byte, ready(0x88))]);
     Ok(())
 }
 

@@ -1,9 +1,9 @@
 //! A worked flow.
 ghost use Rattle.std.specs.Prelude.{◌≡◌, ◌<◌, IfOk, IsSome, length};
 ghost use Rattle.data_flow.specs.Flow.{lane, node_at, with_lane, without_oldest};
-ghost use Rattle.data_flow.specs.Worked.{named, with_x1, of_three, finished};
+ghost use Rattle.queue_tests.specs.Worked.{named, with_x1, of_three, finished};
 
-use crate::{DataFlow, Operands};
+use data_flow::{DataFlow, Operands};
 use issue_queue::{OldestFirst, Order, SpecLast};
 use join_law::Ctx;
 use rv64_decode::Register;
@@ -61,6 +61,11 @@ fn assert_selected<O: Order>(rt: &impl Abort, flow: &mut DataFlow, order: &O, st
     for (entry, stamp) in selected.as_slice().iter().zip(stamps) {
         assert_eq!(rt; entry.stamp, *stamp);
     }
+}
+
+// How many of a context wait, and how many of these are guessed.
+fn waiting_and_guessed(flow: &DataFlow, context: Ctx) -> [usize; 2] {
+    [flow.waiting_count(context), flow.guessed_count(context)]
 }
 
 // Commits the oldest of a context of which none waits.
@@ -125,14 +130,12 @@ fn counts_what_waits(rt: HostRuntime) -> Result<(), Fail> {
     let [first, second, third, ..] = Ctx::all();
     assert_eq!(rt; flow.free_count(), 29);
     assert!(rt; flow.has_place());
-    assert_eq!(rt; flow.waiting_count(first), 2);
-    assert_eq!(rt; flow.guessed_count(first), 1);
+    assert_eq!(rt; waiting_and_guessed(&flow, first), [2, 1]);
     assert_eq!(rt; flow.oldest_place(second), Some(2));
     assert_eq!(rt; flow.oldest_place(third), None);
     flow.cut_from(first, 2);
     assert_eq!(rt; flow.free_count(), 30);
-    assert_eq!(rt; flow.waiting_count(first), 1);
-    assert_eq!(rt; flow.guessed_count(first), 0);
+    assert_eq!(rt; waiting_and_guessed(&flow, first), [1, 0]);
     Ok(())
 }
 

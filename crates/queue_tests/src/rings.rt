@@ -1,7 +1,8 @@
 //! A ring at a concrete type.
 ghost use Rattle.std.specs.Prelude.{◌≡◌};
 
-use crate::{Ring, RingFault, Stamped};
+use reorder_buffer::{Ring, RingFault, Stamped};
+use std::process::Abort;
 use std::test::Fail;
 
 // An instruction in flight: its stamp, and whether it is done.
@@ -53,45 +54,66 @@ fn stamps(ring: &Ring<Entry>, place: usize) -> [Option<u64>; 3] {
     ]
 }
 
+// Pushes entries with these stamps, of which none is refused.
+fn push_each(rt: &impl Abort, ring: &mut Ring<Entry>, stamps: &[u64]) {
+    for &stamp in stamps {
+        assert_eq!(rt; try_push(ring, stamp), None, "{stamp}");
+    }
+}
+
+// Pushes so many entries with stamps from 10 on.
+fn push_from_10(rt: &impl Abort, ring: &mut Ring<Entry>, count: u64) {
+    for k in 0..count {
+        assert_eq!(rt; try_push(ring, k.saturating_add(10)), None, "{k}");
+    }
+}
+
+// Entries with these stamps retire one after another.
+fn assert_retire(rt: &impl Abort, ring: &mut Ring<Entry>, stamps: &[u64]) {
+    for &stamp in stamps {
+        assert_eq!(rt; ring.retire(), Some(queued(stamp)));
+    }
+}
+
+// So many entries, with these stamps at the head, at a place and at the end.
+fn assert_ring(
+    rt: &impl Abort,
+    ring: &Ring<Entry>,
+    len: usize,
+    place: usize,
+    want: [Option<u64>; 3],
+) {
+    assert_eq!(rt; ring.len(), len);
+    assert_eq!(rt; stamps(ring, place), want);
+}
+
 #[test]
 fn a_full_ring_hands_the_entry_back(rt: HostRuntime) -> Result<(), Fail> {
     let mut ring = Ring::new(rt.alloc(), 64)?;
     assert!(rt; ring.is_empty());
-    for k in 0..64 {
-        assert_eq!(rt; try_push(&mut ring, 10 + k), None);
-    }
+    push_from_10(&rt, &mut ring, 64);
     assert!(rt; ring.is_full());
     assert_eq!(rt; try_push(&mut ring, 100), Some(RingFault::Full));
-    assert_eq!(rt; (ring.len(), ring.capacity()), (64, 64));
-    assert_eq!(rt; stamps(&ring, 63), [Some(10), Some(73), Some(73)]);
+    assert_eq!(rt; ring.capacity(), 64);
+    assert_ring(&rt, &ring, 64, 63, [Some(10), Some(73), Some(73)]);
     // Behind place 63 there is nothing to cut, from it on one entry.
     ring.cut_from(74);
     assert_eq!(rt; ring.len(), 64);
     ring.cut_from(73);
-    assert_eq!(rt;
-        (ring.len(), stamps(&ring, 62)),
-        (63, [Some(10), Some(72), Some(72)])
-    );
+    assert_ring(&rt, &ring, 63, 62, [Some(10), Some(72), Some(72)]);
     Ok(())
 }
 
 #[test]
 fn a_ring_wraps_round_and_is_cut_in_the_middle(rt: HostRuntime) -> Result<(), Fail> {
     let mut ring = Ring::new(rt.alloc(), 4)?;
-    for stamp in 1..5 {
-        assert_eq!(rt; try_push(&mut ring, stamp), None);
-    }
-    assert_eq!(rt; ring.retire(), Some(queued(1)));
-    assert_eq!(rt; ring.retire(), Some(queued(2)));
-    assert_eq!(rt; try_push(&mut ring, 8), None);
-    assert_eq!(rt; try_push(&mut ring, 9), None);
-    assert_eq!(rt; stamps(&ring, 2), [Some(3), Some(8), Some(9)]);
+    push_each(&rt, &mut ring, &[1, 2, 3, 4]);
+    assert_retire(&rt, &mut ring, &[1, 2]);
+    push_each(&rt, &mut ring, &[8, 9]);
+    assert_ring(&rt, &ring, 4, 2, [Some(3), Some(8), Some(9)]);
     // No entry has the stamp 6.
     ring.cut_from(6);
-    assert_eq!(rt;
-        (ring.len(), stamps(&ring, 2)),
-        (2, [Some(3), None, Some(4)])
-    );
+    assert_ring(&rt, &ring, 2, 2, [Some(3), None, Some(4)]);
     ring.cut_from(0);
     assert_eq!(rt; ring.retire(), None);
     Ok(())

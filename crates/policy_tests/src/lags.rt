@@ -1,7 +1,8 @@
 // Lags by the table of kinds and tags.
-use crate::{Alternating, Delay, Flat, Kind, Lag, Latencies, Tags};
 use core_profile::Profile;
+use data_tags::{Alternating, Delay, Flat, Kind, Lag, Latencies, Tags};
 use join_law::Ctx;
+use std::process::Abort;
 use std::test::Fail;
 
 const KINDS: [Kind; 4] = [Kind::Branch, Kind::Load, Kind::Store, Kind::Alu];
@@ -78,34 +79,41 @@ fn greatest_is_that_of_five(rt: HostRuntime) {
     }
 }
 
+// Loads of context 0, one after another, hit or miss as the table says.
+fn assert_loads(rt: &impl Abort, tags: &mut Tags, table: &[(u64, Lag)]) {
+    for &(address, want) in table {
+        assert_eq!(rt; ask(tags, Kind::Load, address), want, "{address}");
+    }
+}
+
+// The line is loaded once, and so is the next, which is another.
 #[test]
 fn a_load_misses_once(rt: HostRuntime) -> Result<(), Fail> {
     let mut tags = Tags::new(rt.alloc(), latencies())?;
     assert_eq!(rt; tags.greatest(), 20);
-    assert_eq!(rt; ask(&mut tags, Kind::Load, 0x100000), miss());
-    for address in [0x100000, 0x10003F, 0x100008] {
-        assert_eq!(rt; ask(&mut tags, Kind::Load, address), hit(), "{address}");
-    }
-    assert_eq!(rt;
-        ask(&mut tags, Kind::Load, 0x100040),
-        miss(),
-        "the next line"
-    );
-    assert_eq!(rt;
-        ask(&mut tags, Kind::Load, 0x100000),
-        hit(),
-        "which is another"
-    );
+    let table = [
+        (0x100000, miss()),
+        (0x100000, hit()),
+        (0x10003F, hit()),
+        (0x100008, hit()),
+        (0x100040, miss()),
+        (0x100000, hit()),
+    ];
+    assert_loads(&rt, &mut tags, &table);
     Ok(())
 }
 
 #[test]
 fn loads_4096_bytes_apart_share_a_line(rt: HostRuntime) -> Result<(), Fail> {
     let mut tags = Tags::new(rt.alloc(), latencies())?;
-    for address in [0x100000, 0x101000, 0x100000, 0] {
-        assert_eq!(rt; ask(&mut tags, Kind::Load, address), miss(), "{address}");
-    }
-    assert_eq!(rt; ask(&mut tags, Kind::Load, 63), hit());
+    let table = [
+        (0x100000, miss()),
+        (0x101000, miss()),
+        (0x100000, miss()),
+        (0, miss()),
+        (63, hit()),
+    ];
+    assert_loads(&rt, &mut tags, &table);
     Ok(())
 }
 
@@ -119,6 +127,7 @@ fn contexts_share_the_table_and_no_tag(rt: HostRuntime) -> Result<(), Fail> {
     Ok(())
 }
 
+// No store leaves a tag, and none takes one.
 #[test]
 fn other_kinds_touch_no_tag(rt: HostRuntime) -> Result<(), Fail> {
     let mut tags = Tags::new(rt.alloc(), latencies())?;
@@ -126,13 +135,9 @@ fn other_kinds_touch_no_tag(rt: HostRuntime) -> Result<(), Fail> {
         let lag = ask(&mut tags, kind, 0);
         assert_eq!(rt; (lag.cycles, lag.miss), (want, false), "{kind:?}");
     }
-    assert_eq!(rt;
-        ask(&mut tags, Kind::Load, 0),
-        miss(),
-        "no store left a tag"
-    );
+    assert_loads(&rt, &mut tags, &[(0, miss())]);
     ask(&mut tags, Kind::Store, 4096);
-    assert_eq!(rt; ask(&mut tags, Kind::Load, 0), hit(), "no store took it");
+    assert_loads(&rt, &mut tags, &[(0, hit())]);
     Ok(())
 }
 

@@ -1,7 +1,7 @@
 //! Spans that touch at their ends, and what loads take of stores. The values follow from the
 //! addresses and from the bytes of a value, least first.
 
-use super::{Bytes, Span, load_answer, span_asked};
+use core_view::{Bytes, Span, load_answer, span_asked};
 use hart_step::Effect;
 use rv64_decode::{LoadKind, StoreWidth};
 use std::process::Abort;

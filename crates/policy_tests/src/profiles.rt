@@ -1,4 +1,4 @@
-use crate::{FetchPolicy, IssuePolicy, Key, Profile, ProfileFault, ProfileFields};
+use core_profile::{FetchPolicy, IssuePolicy, Key, Profile, ProfileFault, ProfileFields};
 use std::alloc::Global;
 use std::test::Fail;
 
@@ -33,6 +33,15 @@ fn refusal_of(alloc: Global, text: &str) -> Result<String, Fail> {
     match Profile::from_table(alloc, &table) {
         Ok(_) => Ok(String::from_str(alloc, "ok")?),
         Err(fault) => Ok(format!(in alloc; "{fault}")?),
+    }
+}
+
+/// The profile of a text that is accepted.
+fn profile_of(alloc: Global, text: &str) -> Result<Profile, Fail> {
+    let table = toml::table_from_str(alloc, text)?;
+    match Profile::from_table(alloc, &table) {
+        Ok(profile) => Ok(profile),
+        Err(_) => Err("refused".into()),
     }
 }
 
@@ -112,14 +121,16 @@ fn tells_kinds_from_names_and_ranges(rt: HostRuntime) -> Result<(), Fail> {
 }
 
 #[test]
-fn reads_every_policy(rt: HostRuntime) -> Result<(), Fail> {
+fn reads_policies_and_numbers(rt: HostRuntime) -> Result<(), Fail> {
     let text = "fetch = \"RR\"\nissue = \"BRANCH_FIRST\"\nnum1 = 4";
-    let table = toml::table_from_str(rt.alloc(), text)?;
-    let Ok(profile) = Profile::from_table(rt.alloc(), &table) else {
-        return Err("refused".into());
-    };
+    let profile = profile_of(rt.alloc(), text)?;
     assert!(rt; profile.fetch == FetchPolicy::RoundRobin && profile.num1 == 4);
     assert!(rt; profile.issue == IssuePolicy::BranchFirst && profile.num2 == 8);
+    Ok(())
+}
+
+#[test]
+fn reads_every_policy(rt: HostRuntime) {
     for name in ["RR", "ICOUNT", "BRCOUNT", "MISSCOUNT", "IQPOSN"] {
         assert!(rt;
             FetchPolicy::from_name(name).is_some_and(|p| p.name() == name),
@@ -132,15 +143,11 @@ fn reads_every_policy(rt: HostRuntime) -> Result<(), Fail> {
             "{name}"
         );
     }
-    Ok(())
 }
 
 #[test]
 fn the_empty_table_gives_the_defaults(rt: HostRuntime) -> Result<(), Fail> {
-    let table = toml::table_from_str(rt.alloc(), "")?;
-    let Ok(profile) = Profile::from_table(rt.alloc(), &table) else {
-        return Err("refused".into());
-    };
+    let profile = profile_of(rt.alloc(), "")?;
     assert_eq!(rt; profile, Profile::default());
     let fields = ProfileFields::from(profile);
     assert!(rt; fields.fetch == FetchPolicy::Icount && fields.issue == IssuePolicy::OldestFirst);

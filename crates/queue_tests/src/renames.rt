@@ -1,6 +1,7 @@
 //! Renames at concrete values.
-use crate::{PhysicalRegister, Registers, RenameFault};
 use join_law::Ctx;
+use rename_file::{PhysicalRegister, Registers, RenameFault};
+use std::process::Abort;
 use std::test::Fail;
 
 // The value that a source reads, once it is there.
@@ -39,7 +40,7 @@ fn refusals_are_printed_as_their_codes(rt: HostRuntime) -> Result<(), Fail> {
 }
 
 #[test]
-fn a_rename_is_seen_until_it_is_undone(rt: HostRuntime) -> Result<(), Fail> {
+fn a_rename_is_seen_once_it_is_written(rt: HostRuntime) -> Result<(), Fail> {
     let mut registers = Registers::new(rt.alloc(), 32)?;
     let [first, second, ..] = Ctx::all();
     registers.set_committed(first, 5, 70);
@@ -53,8 +54,21 @@ fn a_rename_is_seen_until_it_is_undone(rt: HostRuntime) -> Result<(), Fail> {
     assert_eq!(rt; read(&registers, first, 5), Some(71));
     assert_eq!(rt; registers.committed(first, 5), 70);
     assert_eq!(rt; read(&registers, second, 5), Some(0));
-    registers.undo(first);
-    assert_eq!(rt; read(&registers, first, 5), Some(70));
+    Ok(())
+}
+
+#[test]
+fn a_rename_is_undone(rt: HostRuntime) -> Result<(), Fail> {
+    let mut registers = Registers::new(rt.alloc(), 32)?;
+    let [context, ..] = Ctx::all();
+    registers.set_committed(context, 5, 70);
+    let Ok(register) = registers.rename(context, 5) else {
+        return Ok(());
+    };
+    registers.write(register, 71);
+    assert_eq!(rt; read(&registers, context, 5), Some(71));
+    registers.undo(context);
+    assert_eq!(rt; read(&registers, context, 5), Some(70));
     assert_eq!(rt; registers.free_count(), 32);
     Ok(())
 }
@@ -74,13 +88,18 @@ fn the_oldest_rename_is_committed(rt: HostRuntime) -> Result<(), Fail> {
     Ok(())
 }
 
+// Renames x1 to x31 of the context, and writes 0 to 30.
+fn produce_each(rt: &impl Abort, registers: &mut Registers, context: Ctx) {
+    for k in 0..31 {
+        assert!(rt; produce(registers, context, 1 + k as u8, k));
+    }
+}
+
 #[test]
 fn none_is_free_once_the_extra_ones_are_in_use(rt: HostRuntime) -> Result<(), Fail> {
     let mut registers = Registers::new(rt.alloc(), 32)?;
     let [.., context] = Ctx::all();
-    for k in 0..31 {
-        assert!(rt; produce(&mut registers, context, 1 + k as u8, k));
-    }
+    produce_each(&rt, &mut registers, context);
     assert!(rt; produce(&mut registers, context, 1, 100));
     assert_eq!(rt; registers.free_count(), 0);
     assert!(rt; !produce(&mut registers, context, 2, 101));

@@ -1,9 +1,10 @@
 // The predictor's table, by the answers that it gives.
 ghost use Rattle.std.specs.Prelude.{◌<◌};
 
-use crate::{Always, Guess, Sequential, Tables};
+use branch_predict::{Always, Guess, Sequential, Tables};
 use join_law::Ctx;
 use rv64_decode::{AluOp, BranchCondition, BranchOffset, Immediate, Insn, JumpOffset, Register};
+use std::process::Abort;
 use std::test::Fail;
 
 const PC: u64 = 0x10000;
@@ -17,6 +18,13 @@ fn ask<G: Guess>(guess: &mut G, pc: u64, insn: &Insn) -> u64 {
 fn tell<G: Guess>(guess: &mut G, pc: u64, insn: &Insn, next: u64, times: u32) {
     for k in 0..times {
         guess.learn(Ctx::all()[0], pc, insn, next);
+    }
+}
+
+// Context 0 fetches each in turn, and goes on as the table says.
+fn assert_asked<G: Guess>(rt: &impl Abort, guess: &mut G, table: &[(u64, Insn, u64)]) {
+    for (pc, insn, want) in table {
+        assert_eq!(rt; ask(guess, *pc, insn), *want, "{insn:?} at {pc}");
     }
 }
 
@@ -79,14 +87,13 @@ fn counters_start_at_1_and_stop_at_0_and_3(rt: HostRuntime) -> Result<(), Fail> 
 fn branches_1024_bytes_apart_share_a_counter(rt: HostRuntime) -> Result<(), Fail> {
     let mut tables = Tables::new(rt.alloc())?;
     tell(&mut tables, PC, &branch(), PC + 64, 1);
-    for (pc, want) in [
-        (PC + 1024, PC + 1088),
-        (PC + 1020, PC + 1024),
-        (PC + 4, PC + 8),
-        (PC + 256, PC + 260),
-    ] {
-        assert_eq!(rt; ask(&mut tables, pc, &branch()), want, "at {pc}");
-    }
+    let table = [
+        (PC + 1024, branch(), PC + 1088),
+        (PC + 1020, branch(), PC + 1024),
+        (PC + 4, branch(), PC + 8),
+        (PC + 256, branch(), PC + 260),
+    ];
+    assert_asked(&rt, &mut tables, &table);
     Ok(())
 }
 
@@ -114,32 +121,35 @@ fn a_cut_leaves_the_stack(rt: HostRuntime) -> Result<(), Fail> {
     ask(&mut tables, PC, &jal(1));
     ask(&mut tables, PC + 32, &jalr(1, 5));
     tell(&mut tables, PC, &jal(1), PC + 16, 1);
-    for (pc, want) in [(PC + 64, PC + 36), (PC + 64, PC + 4), (PC + 64, PC + 68)] {
-        assert_eq!(rt; ask(&mut tables, pc, &jalr(0, 1)), want);
-    }
+    let table = [
+        (PC + 64, jalr(0, 1), PC + 36),
+        (PC + 64, jalr(0, 1), PC + 4),
+        (PC + 64, jalr(0, 1), PC + 68),
+    ];
+    assert_asked(&rt, &mut tables, &table);
     Ok(())
 }
 
 #[test]
 fn other_jumps_go_by_their_last_targets(rt: HostRuntime) -> Result<(), Fail> {
     let mut tables = Tables::new(rt.alloc())?;
-    for (rd, rs1) in [(1, 5), (1, 1), (0, 5), (5, 1)] {
-        assert_eq!(rt;
-            ask(&mut tables, PC, &jalr(rd, rs1)),
-            PC + 4,
-            "{rd} and {rs1}"
-        );
-    }
+    let untold = [
+        (PC, jalr(1, 5), PC + 4),
+        (PC, jalr(1, 1), PC + 4),
+        (PC, jalr(0, 5), PC + 4),
+        (PC, jalr(5, 1), PC + 4),
+    ];
+    assert_asked(&rt, &mut tables, &untold);
+    // A return writes no target.
     tell(&mut tables, PC, &jalr(0, 1), 0x20000, 1);
-    assert_eq!(rt;
-        ask(&mut tables, PC, &jalr(0, 5)),
-        PC + 4,
-        "a return writes none"
-    );
+    assert_asked(&rt, &mut tables, &[(PC, jalr(0, 5), PC + 4)]);
     tell(&mut tables, PC, &jalr(1, 5), 0x30000, 1);
-    for (pc, want) in [(PC, 0x30000), (PC + 256, 0x30000), (PC + 4, PC + 8)] {
-        assert_eq!(rt; ask(&mut tables, pc, &jalr(0, 5)), want, "at {pc}");
-    }
+    let told = [
+        (PC, jalr(0, 5), 0x30000),
+        (PC + 256, jalr(0, 5), 0x30000),
+        (PC + 4, jalr(0, 5), PC + 8),
+    ];
+    assert_asked(&rt, &mut tables, &told);
     Ok(())
 }
 
@@ -166,16 +176,15 @@ fn what_is_no_call_pushes_nothing(rt: HostRuntime) -> Result<(), Fail> {
         rs1: Register::new(0),
         rs2: Register::new(0),
     };
-    for (insn, want) in [
-        (jal(0), PC + 16),
-        (jal(5), PC + 16),
-        (jalr(5, 6), PC + 4),
-        (branch(), PC + 4),
-        (add, PC + 4),
-    ] {
-        assert_eq!(rt; ask(&mut tables, PC, &insn), want);
-    }
-    assert_eq!(rt; ask(&mut tables, PC + 64, &jalr(0, 1)), PC + 68);
+    let table = [
+        (PC, jal(0), PC + 16),
+        (PC, jal(5), PC + 16),
+        (PC, jalr(5, 6), PC + 4),
+        (PC, branch(), PC + 4),
+        (PC, add, PC + 4),
+        (PC + 64, jalr(0, 1), PC + 68),
+    ];
+    assert_asked(&rt, &mut tables, &table);
     Ok(())
 }
 

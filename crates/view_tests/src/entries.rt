@@ -1,7 +1,7 @@
 // Operations, outcomes and entries of programs whose figures are known.
 ghost use Rattle.std.specs.Prelude.{◌≡◌, ◌≤◌, length};
 
-use crate::{
+use core_view::{
     Access, Bytes, CycleNote, Entry, EntryId, Execution, Issue, Operation, Outcome, Span, Stage,
     Status, Step, access_fault, write_access,
 };
@@ -10,6 +10,7 @@ use join_law::Ctx;
 use paged_memory::{Fault, Memory, Width};
 use rv64_decode::{LoadKind, Register, StoreWidth, decode};
 use std::alloc::Global;
+use std::process::Abort;
 use std::test::Fail;
 
 const ADDI_X5_10: u32 = 0x00A0_0293;
@@ -31,6 +32,18 @@ fn performs(word: u32) -> Operation {
     match decode(word) {
         Some(insn) => Operation::Performs { insn },
         None => Operation::Stops { why: Stop::Illegal },
+    }
+}
+
+fn stops(why: Stop) -> Operation {
+    Operation::Stops { why }
+}
+
+/// The operation at each pc is the one that the table says.
+fn assert_operations(rt: &impl Abort, memory: &Memory, table: &[(u64, Operation)]) {
+    for &(pc, want) in table {
+        assert!(rt; pc % 4 == 0);
+        assert_eq!(rt; Operation::at(memory, pc), want, "at {pc}");
     }
 }
 
@@ -66,28 +79,15 @@ fn due_in(due: u64, outcome: Outcome) -> Execution {
 fn countdown_text(rt: HostRuntime) -> Result<(), Fail> {
     let words = [ADDI_X5_10, ADDI_X5_LESS_1, BNE_X5_BACK, ECALL];
     let memory = memory_of(rt.alloc(), &words)?;
-    assert_eq!(rt; Operation::at(&memory, 0x10000), performs(ADDI_X5_10));
-    assert_eq!(rt; Operation::at(&memory, 0x10008), performs(BNE_X5_BACK));
-    assert_eq!(rt;
-        Operation::at(&memory, 0x1000C),
-        Operation::Stops { why: Stop::Ecall }
-    );
-    assert_eq!(rt;
-        Operation::at(&memory, 0x10010),
-        Operation::Stops { why: Stop::Illegal }
-    );
-    assert_eq!(rt;
-        Operation::at(&memory, 0x11000),
-        Operation::Stops {
-            why: Stop::FetchAccess
-        }
-    );
-    assert_eq!(rt;
-        Operation::at(&memory, 0x100000),
-        Operation::Stops {
-            why: Stop::FetchAccess
-        }
-    );
+    let table = [
+        (0x10000, performs(ADDI_X5_10)),
+        (0x10008, performs(BNE_X5_BACK)),
+        (0x1000C, stops(Stop::Ecall)),
+        (0x10010, stops(Stop::Illegal)),
+        (0x11000, stops(Stop::FetchAccess)),
+        (0x100000, stops(Stop::FetchAccess)),
+    ];
+    assert_operations(&rt, &memory, &table);
     Ok(())
 }
 
@@ -95,24 +95,17 @@ fn countdown_text(rt: HostRuntime) -> Result<(), Fail> {
 fn stops_at_fetch(rt: HostRuntime) -> Result<(), Fail> {
     // ebreak; jal x0, 2
     let memory = memory_of(rt.alloc(), &[0x0010_0073, 0x0020_006F])?;
-    assert_eq!(rt;
-        Operation::at(&memory, 0x10000),
-        Operation::Stops { why: Stop::Ebreak }
-    );
-    assert_eq!(rt;
-        Operation::at(&memory, 0x10004),
-        Operation::Stops {
-            why: Stop::TargetMisaligned
-        }
-    );
+    let table = [
+        (0x10000, stops(Stop::Ebreak)),
+        (0x10004, stops(Stop::TargetMisaligned)),
+    ];
+    assert_operations(&rt, &memory, &table);
     Ok(())
 }
 
 #[test]
 fn after_a_stop_at_fetch(rt: HostRuntime) {
-    let misaligned = Operation::Stops {
-        why: Stop::TargetMisaligned,
-    };
+    let misaligned = stops(Stop::TargetMisaligned);
     assert!(rt; misaligned.stops_at_fetch());
     assert_eq!(rt; misaligned.unguessed_next(0x10004), 0x10008);
 }
@@ -127,15 +120,21 @@ fn jump(rt: HostRuntime) {
 }
 
 #[test]
-fn kinds_and_registers(rt: HostRuntime) {
+fn kinds(rt: HostRuntime) {
     // ld x7, 0(x5); sd x6, 0(x5)
     let load = performs(0x0002_B383);
     let store = performs(0x0062_B023);
-    let branch = performs(BNE_X5_BACK);
     assert!(rt; load.is_load());
     assert!(rt; !load.is_store());
     assert!(rt; store.is_store());
-    assert!(rt; branch.is_guessed());
+    assert!(rt; performs(BNE_X5_BACK).is_guessed());
+}
+
+#[test]
+fn registers(rt: HostRuntime) {
+    // ld x7, 0(x5); sd x6, 0(x5)
+    let load = performs(0x0002_B383);
+    let store = performs(0x0062_B023);
     assert_eq!(rt; load.destination(), Register::new(7));
     assert_eq!(rt; store.destination(), Register::new(0));
     assert_eq!(rt; store.first_source(), Register::new(5));
@@ -143,37 +142,54 @@ fn kinds_and_registers(rt: HostRuntime) {
 }
 
 #[test]
-fn first_of_countdown(rt: HostRuntime) -> Result<(), Fail> {
-    // fetched in cycle 0, renamed in 2, issued there and done in 3
+fn outcomes_of_countdown(rt: HostRuntime) -> Result<(), Fail> {
+    // with x5 9 the branch is taken; with 0 it isn't
     assert_eq!(rt; outcome(ADDI_X5_10, 0x10000, 0, 0)?, goes(10, 0x10004));
-    let fetched = Entry::new(0, 0, 0x10000, performs(ADDI_X5_10), 0x10004);
-    assert!(rt; !fetched.stage.is_renamed());
-    let renamed = fetched.renamed(2);
-    assert_eq!(rt; renamed.stage, Stage::Queued);
-    let issued = renamed.issued(due_in(3, goes(10, 0x10004)));
-    assert!(rt; issued.stage.is_issued());
-    assert!(rt; !issued.stage.is_done());
-    assert_eq!(rt; issued.stage.result(), None);
-    assert_eq!(rt; issued.stage.due(2), None);
-    assert_eq!(rt; issued.stage.due(3), Some(due_in(3, goes(10, 0x10004))));
-    let done = issued.completed(due_in(3, goes(10, 0x10004)));
-    assert!(rt; done.stage.is_done());
-    assert_eq!(rt; done.stage.result(), Some(10));
-    assert_eq!(rt; done.followed, 0x10004);
+    assert_eq!(rt; outcome(BNE_X5_BACK, 0x10008, 9, 0)?, goes(0, 0x10004));
+    assert_eq!(rt; outcome(BNE_X5_BACK, 0x10008, 0, 0)?, goes(0, 0x1000C));
     Ok(())
 }
 
+/// The first instruction of the countdown, fetched in cycle 0.
+fn first_fetched() -> Entry {
+    Entry::new(0, 0, 0x10000, performs(ADDI_X5_10), 0x10004)
+}
+
+/// It is renamed and issued in cycle 2, and done in 3.
+fn first_execution() -> Execution {
+    due_in(3, goes(10, 0x10004))
+}
+
 #[test]
-fn branch_of_countdown(rt: HostRuntime) -> Result<(), Fail> {
-    // with x5 9 the branch is taken; with 0 it isn't
-    assert_eq!(rt; outcome(BNE_X5_BACK, 0x10008, 9, 0)?, goes(0, 0x10004));
-    assert_eq!(rt; outcome(BNE_X5_BACK, 0x10008, 0, 0)?, goes(0, 0x1000C));
+fn first_is_renamed_and_issued(rt: HostRuntime) {
+    let fetched = first_fetched();
+    assert!(rt; !fetched.stage.is_renamed());
+    let renamed = fetched.renamed(2);
+    assert_eq!(rt; renamed.stage, Stage::Queued);
+    let issued = renamed.issued(first_execution());
+    assert!(rt; issued.stage.is_issued());
+    assert!(rt; !issued.stage.is_done());
+    assert_eq!(rt; issued.stage.result(), None);
+}
+
+#[test]
+fn first_is_due_and_done(rt: HostRuntime) {
+    let issued = first_fetched().renamed(2).issued(first_execution());
+    assert_eq!(rt; issued.stage.due(2), None);
+    assert_eq!(rt; issued.stage.due(3), Some(first_execution()));
+    let done = issued.completed(first_execution());
+    assert!(rt; done.stage.is_done());
+    assert_eq!(rt; done.stage.result(), Some(10));
+    assert_eq!(rt; done.followed, 0x10004);
+}
+
+#[test]
+fn branch_of_countdown(rt: HostRuntime) {
     let entry = Entry::new(2, 0, 0x10008, performs(BNE_X5_BACK), 0x1000C);
     assert!(rt; entry.is_mispredicted(&value_and_next(0, 0x10004)));
     assert!(rt; !entry.is_mispredicted(&value_and_next(0, 0x1000C)));
     let done = entry.completed(due_in(5, goes(0, 0x10004)));
     assert_eq!(rt; done.followed, 0x10004);
-    Ok(())
 }
 
 #[test]
@@ -253,12 +269,16 @@ fn one_byte() -> Bytes
 }
 
 #[test]
-fn byte_over_a_doubleword(rt: HostRuntime) -> Result<(), Fail> {
-    let mut memory = memory_of(rt.alloc(), &[ECALL])?;
+fn byte_store(rt: HostRuntime) {
     let effect = store_of(StoreWidth::Byte, 0x100000, 255);
     let stores = Outcome::of_effect(0x10008, effect, Ok(0));
     assert_eq!(rt; stores.bytes(), Some(one_byte()));
     assert_eq!(rt; stores.span(), None);
+}
+
+#[test]
+fn byte_over_a_doubleword(rt: HostRuntime) -> Result<(), Fail> {
+    let mut memory = memory_of(rt.alloc(), &[ECALL])?;
     write_access(
         Environment::One,
         &mut memory,

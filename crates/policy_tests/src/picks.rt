@@ -1,10 +1,10 @@
 ghost use Rattle.std.specs.Prelude.{◌≤◌};
 
-use crate::{
+use core_profile::FetchPolicy;
+use fetch_policy::{
     Brcount, FetchContext, FetchView, Icount, Iqposn, Misscount, NamedPick, Pick, RoundRobin,
     choose,
 };
-use core_profile::FetchPolicy;
 use join_law::{Ctx, Eight};
 
 /// An eligible context with nothing in flight.

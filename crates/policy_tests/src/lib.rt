@@ -1,0 +1,11 @@
+//! Tests of what a core is given: its profile, guesses, latencies and fetch policies. They call only what is public.
+#![tactic(auto)]
+
+#[cfg(test)]
+mod guesses;
+#[cfg(test)]
+mod lags;
+#[cfg(test)]
+mod picks;
+#[cfg(test)]
+mod profiles;

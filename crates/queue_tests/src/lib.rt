@@ -1,0 +1,14 @@
+//! Tests of the queues of a core: renaming, the issue queue, reorder buffers, loads and stores, and the data flow
+//! over them. They call only what is public.
+#![tactic(auto)]
+
+#[cfg(test)]
+mod flows;
+#[cfg(test)]
+mod issuing;
+#[cfg(test)]
+mod loads_and_stores;
+#[cfg(test)]
+mod renames;
+#[cfg(test)]
+mod rings;
