@@ -9,10 +9,12 @@ ghost use Rattle.checkpoint.specs.MarkValue.{Advances, state_of};
 ghost use Rattle.origin_set.specs.OriginValue.{OriginValue};
 
 mod best;
+mod eight_starts;
 mod eights;
 mod fault;
 
 pub use best::{furthest, furthest_each, furthest_leaf, furthest_leaf_each};
+pub use eight_starts::starts;
 pub use eights::aligned;
 pub use fault::MarkFault;
 use hart_step::{Hart, Stop};

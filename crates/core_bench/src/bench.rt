@@ -1,19 +1,19 @@
 //! Eight contexts that run programs for a number of cycles.
+ghost use Rattle.std.specs.Prelude.{IfOk};
+ghost use Rattle.checkpoint.specs.Aligned.{IsAligned};
 
 use crate::fault::BenchFault;
+use crate::programs;
 use branch_predict::Tables;
-use checkpoint::{Mark, aligned};
+use checkpoint::{Mark, starts};
 use core_cycle::Core;
 use core_profile::Profile;
 use data_tags::{Latencies, Tags};
 use fetch_policy::NamedPick;
-use hart_step::Environment;
 use issue_queue::NamedOrder;
 use join_law::{Ctx, Eight};
 use origin_set::Origin;
-use rv64_asm::{Program, assemble};
 use std::alloc::Global;
-use std::fs;
 use std::rt::Files;
 use std::sync::Arc;
 
@@ -54,28 +54,9 @@ impl<'a> Bench<'a> {
         rt: &R,
         alloc: Global,
     ) -> Result<Measured, BenchFault> {
-        let profile = Profile::default();
-        let guess = Tables::new(alloc)?;
-        let pick = NamedPick::from(profile.fetch);
-        let order = NamedOrder::from(profile.issue);
-        let delay = Tags::new(alloc, Latencies::from(&profile))?;
-        let marks = self.marks(rt, alloc)?;
-        if !aligned(&marks) {
-            return Err(BenchFault::OutOfMemory);
-        }
-        match Core::new(
-            alloc,
-            &profile,
-            marks,
-            [TARGET; 8],
-            guess,
-            pick,
-            order,
-            delay,
-        ) {
-            Ok(core) => Ok(core),
-            Err(_) => Err(BenchFault::OutOfMemory),
-        }
+        let origin = programs::origin(rt, alloc, self.files)?;
+        let marks = starts_of(alloc, origin)?;
+        core_at(alloc, marks)
     }
 
     /// Runs a core for the cycles. Answers how many instructions its contexts retired.
@@ -91,75 +72,45 @@ impl<'a> Bench<'a> {
         }
         retired
     }
-
-    /// Eight marks at the starts of the programs.
-    fn marks<R: Files + AllocGlobal>(
-        &self,
-        rt: &R,
-        alloc: Global,
-    ) -> Result<Eight<Mark>, BenchFault> {
-        let origin = Arc::new(alloc, self.origin(rt, alloc)?)?;
-        starts(alloc, &origin)
-    }
-
-    /// The origin with the programs.
-    fn origin<R: Files + AllocGlobal>(&self, rt: &R, alloc: Global) -> Result<Origin, BenchFault> {
-        let programs = [
-            self.program(rt, alloc, 0)?,
-            self.program(rt, alloc, 1)?,
-            self.program(rt, alloc, 2)?,
-            self.program(rt, alloc, 3)?,
-            self.program(rt, alloc, 4)?,
-            self.program(rt, alloc, 5)?,
-            self.program(rt, alloc, 6)?,
-            self.program(rt, alloc, 7)?,
-        ];
-        match Origin::new(programs, Environment::One) {
-            Ok(origin) => Ok(origin),
-            Err(_) => Err(BenchFault::TooManyPages),
-        }
-    }
-
-    /// The program of a context: files are taken in turn.
-    fn program<R: Files + AllocGlobal>(
-        &self,
-        rt: &R,
-        alloc: Global,
-        context: usize,
-    ) -> Result<Option<Program>, BenchFault> {
-        if self.files.is_empty() {
-            return Ok(None);
-        }
-        let file = &self.files[context % self.files.len()];
-        let Ok(text) = fs::read_to_string(rt, file.as_str()) else {
-            return Err(BenchFault::Unread);
-        };
-        match assemble(alloc, text.as_str()) {
-            Ok(assembly) => Ok(Some(assembly.program)),
-            Err(fault) => Err(BenchFault::Assembly(fault)),
-        }
-    }
 }
 
-/// Eight marks at the starts of an origin.
-fn starts(alloc: Global, origin: &Arc<Origin>) -> Result<Eight<Mark>, BenchFault> {
-    let [c0, c1, c2, c3, c4, c5, c6, c7] = Ctx::all();
-    Ok(Eight {
-        c0: start(alloc, origin, c0)?,
-        c1: start(alloc, origin, c1)?,
-        c2: start(alloc, origin, c2)?,
-        c3: start(alloc, origin, c3)?,
-        c4: start(alloc, origin, c4)?,
-        c5: start(alloc, origin, c5)?,
-        c6: start(alloc, origin, c6)?,
-        c7: start(alloc, origin, c7)?,
-    })
+/// The starts of an origin.
+fn starts_of(alloc: Global, origin: Origin) -> Result<Eight<Mark>, BenchFault>
+    ensures { IfOk result (λ marks. IsAligned marks) }
+{
+    let origin = Arc::new(alloc, origin)?;
+    starts(alloc, &origin).map_err(BenchFault::Mark)
 }
 
-/// The mark at the start of a context.
-fn start(alloc: Global, origin: &Arc<Origin>, context: Ctx) -> Result<Mark, BenchFault> {
-    match Mark::start(alloc, origin, context) {
-        Ok(mark) => Ok(mark),
-        Err(_) => Err(BenchFault::OutOfMemory),
+/// The predictor and the data tags of a profile.
+fn tables_of(alloc: Global, profile: &Profile) -> Result<(Tables, Tags), BenchFault> {
+    let tables = Tables::new(alloc)?;
+    let tags = Tags::new(alloc, Latencies::from(profile))?;
+    Ok((tables, tags))
+}
+
+/// A core by the default profile whose contexts start at marks.
+fn core_at(alloc: Global, marks: Eight<Mark>) -> Result<Measured, BenchFault>
+    requires { IsAligned marks }
+{
+    let profile = Profile::default();
+    let (guess, delay) = tables_of(alloc, &profile)?;
+    let pick = NamedPick::from(profile.fetch);
+    let order = NamedOrder::from(profile.issue);
+    match Core::new(
+        alloc,
+        &profile,
+        marks,
+        [TARGET; 8],
+        guess,
+        pick,
+        order,
+        delay,
+    ) {
+        Ok(core) => Ok(core),
+        Err(refused) => {
+            let (_marks, fault) = refused;
+            Err(BenchFault::Core(fault))
+        }
     }
 }

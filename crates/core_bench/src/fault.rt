@@ -1,5 +1,9 @@
 //! Why nothing is measured.
+ghost use Rattle.std.specs.Prelude.{◌≡◌, ◌≢◌};
 
+use checkpoint::MarkFault;
+use core_cycle::CoreFault;
+use origin_set::OriginFault;
 use rv64_asm::AsmFault;
 use std::alloc::{AllocError, AllocFailed};
 use std::error::Error;
@@ -14,8 +18,12 @@ pub enum BenchFault {
     Unread,
     /// A program isn't assembled.
     Assembly(AsmFault),
-    /// A program has too many pages.
-    TooManyPages,
+    /// An origin isn't made.
+    Origin(OriginFault),
+    /// A mark isn't made.
+    Mark(MarkFault),
+    /// A core isn't made.
+    Core(CoreFault),
     /// Memory was asked for and refused.
     OutOfMemory,
     /// Standard output can't be written.
@@ -23,8 +31,11 @@ pub enum BenchFault {
 }
 
 impl BenchFault {
-    /// What the program ends with.
-    pub fn status(&self) -> u8 {
+    /// What the program ends with: 2 for wrong words, else 1.
+    pub fn status(&self) -> u8
+        ensures words { self.now ≡ BenchFault.Words → result ≡ 2 }
+        ensures refused { self.now ≢ BenchFault.Words → result ≡ 1 }
+    {
         match self {
             BenchFault::Words => 2,
             _ => 1,
@@ -38,7 +49,9 @@ impl fmt::Display for BenchFault {
             BenchFault::Words => write!(f, "usage: core_bench CYCLES FILE.. (one to eight)"),
             BenchFault::Unread => write!(f, "refused: a file can't be read"),
             BenchFault::Assembly(fault) => write!(f, "refused {fault}"),
-            BenchFault::TooManyPages => write!(f, "refused O1"),
+            BenchFault::Origin(fault) => write!(f, "refused {fault}"),
+            BenchFault::Mark(fault) => write!(f, "refused {fault}"),
+            BenchFault::Core(fault) => write!(f, "refused {fault}"),
             BenchFault::OutOfMemory => write!(f, "refused E1"),
             BenchFault::Output => write!(f, "refused S2 -"),
         }

@@ -5,6 +5,7 @@
 
 mod bench;
 mod fault;
+mod programs;
 
 use bench::Bench;
 use fault::BenchFault;

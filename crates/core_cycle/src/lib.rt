@@ -3,13 +3,9 @@
 
 mod contexts;
 mod cycle;
-#[cfg(test)]
-mod eight_tests;
 mod fault;
 mod fetching;
 mod renaming;
-#[cfg(test)]
-mod tests;
 
 pub use cycle::Core;
 pub use fault::CoreFault;

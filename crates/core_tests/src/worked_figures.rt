@@ -1,78 +1,41 @@
 //! Programs whose figures are known, cycle by cycle.
-ghost use Rattle.std.specs.Prelude.{◌≡◌, ◌≤◌};
+ghost use Rattle.std.specs.Prelude.{◌≡◌, ◌≤◌, IfOk};
+ghost use Rattle.checkpoint.specs.Aligned.{IsAligned};
 
-use crate::Core;
+use crate::cores::{core_of, origin_of, program_of};
 use branch_predict::{Always, Guess, Sequential, Tables};
-use checkpoint::{Mark, aligned};
+use checkpoint::{Mark, starts};
+use core_cycle::Core;
 use core_profile::{Profile, ProfileFields};
 use core_view::Status;
 use data_tags::{Delay, Flat, Latencies, Tags};
 use fetch_policy::RoundRobin;
-use hart_step::{Environment, Stop};
+use hart_step::Stop;
 use issue_queue::OldestFirst;
 use join_law::{Ctx, Eight};
-use origin_set::Origin;
 use paged_memory::Width;
-use rv64_asm::Program;
 use std::alloc::Global;
-use std::sync::Arc;
 use std::test::Fail;
 
 /// Counts x5 from 10 down to 0: 21 instructions and an ECALL.
 const COUNTDOWN: [u32; 4] = [0x00A0_0293, 0xFFF2_8293, 0xFE02_9EE3, 0x0000_0073];
 
-/// The origin with a program at context 0.
-fn origin_of(alloc: Global, words: &[u32], bytes: &[u8]) -> Result<Arc<Origin>, Fail> {
-    let program = Program::new(
-        Vec::from_slice(alloc, words)?,
-        Vec::from_slice(alloc, bytes)?,
-    );
-    let programs = [Some(program), None, None, None, None, None, None, None];
-    let origin = Origin::new(programs, Environment::One)?;
-    Ok(Arc::new(alloc, origin)?)
-}
+/// The doubleword 1.
+const ONE: [u8; 8] = [1, 0, 0, 0, 0, 0, 0, 0];
 
-/// Eight marks at the starts of an origin.
-fn starts(alloc: Global, origin: &Arc<Origin>) -> Result<Eight<Mark>, Fail> {
-    let [c0, c1, c2, c3, c4, c5, c6, c7] = Ctx::all();
-    Ok(Eight {
-        c0: Mark::start(alloc, origin, c0)?,
-        c1: Mark::start(alloc, origin, c1)?,
-        c2: Mark::start(alloc, origin, c2)?,
-        c3: Mark::start(alloc, origin, c3)?,
-        c4: Mark::start(alloc, origin, c4)?,
-        c5: Mark::start(alloc, origin, c5)?,
-        c6: Mark::start(alloc, origin, c6)?,
-        c7: Mark::start(alloc, origin, c7)?,
-    })
-}
+/// Context 0 is to retire 100 instructions.
+const TARGETS: [u64; 8] = [100, 0, 0, 0, 0, 0, 0, 0];
 
-/// A core whose context 0 is to retire 100 instructions.
-fn core_of<G: Guess + Drop, D: Delay + Drop>(
-    alloc: Global,
-    profile: &Profile,
-    origin: &Arc<Origin>,
-    guess: G,
-    delay: D,
-) -> Result<Core<G, RoundRobin, OldestFirst, D>, Fail> {
-    let marks = starts(alloc, origin)?;
-    if !aligned(&marks) {
-        return Err("aligned".into());
-    }
-    let targets = [100, 0, 0, 0, 0, 0, 0, 0];
-    match Core::new(
+/// The starts of an origin with a program at context 0.
+fn starts_with(alloc: Global, words: &[u32], bytes: &[u8]) -> Result<Eight<Mark>, Fail>
+    ensures { IfOk result (λ marks. IsAligned marks) }
+{
+    let program = program_of(alloc, words, bytes)?;
+    let origin = origin_of(
         alloc,
-        profile,
-        marks,
-        targets,
-        guess,
-        RoundRobin,
-        OldestFirst,
-        delay,
-    ) {
-        Ok(core) => Ok(core),
-        Err(_) => Err("a core".into()),
-    }
+        [Some(program), None, None, None, None, None, None, None],
+    )?;
+    Ok(starts(alloc, &origin)?)
 }
 
 /// Cycles, and entries that were fetched, renamed, issued, retired and cut.
@@ -120,22 +83,31 @@ fn front_delay(cycles: u64) -> Result<Profile, Fail> {
     Profile::checked(fields).map_err(|_| "a profile".into())
 }
 
-/// What a core by a profile, a guess and a delay shows at the end of a program with some data.
+/// What a core shows at the end, from marks, by a profile, a guess and a delay.
 fn end_by<G: Guess + Drop, D: Delay + Drop>(
     alloc: Global,
     profile: &Profile,
-    words: &[u32],
-    bytes: &[u8],
+    marks: Eight<Mark>,
     guess: G,
     delay: D,
-) -> Result<Ending, Fail> {
-    let origin = origin_of(alloc, words, bytes)?;
-    let mut core = core_of(alloc, profile, &origin, guess, delay)?;
+) -> Result<Ending, Fail>
+    requires { IsAligned marks }
+{
+    let mut core = core_of(
+        alloc,
+        profile,
+        marks,
+        TARGETS,
+        guess,
+        RoundRobin,
+        OldestFirst,
+        delay,
+    )?;
     let figures = run(&mut core);
     Ok(ending_of(&core, figures))
 }
 
-/// The same with flat delays, and the doubleword 1 as data.
+/// The same of a program, with flat delays, and the doubleword 1 as data.
 fn end_of<G: Guess + Drop>(
     alloc: Global,
     profile: &Profile,
@@ -143,24 +115,26 @@ fn end_of<G: Guess + Drop>(
     guess: G,
 ) -> Result<Ending, Fail> {
     let delay = Flat::new(Latencies::from(profile));
-    end_by(
-        alloc,
-        profile,
-        words,
-        &[1, 0, 0, 0, 0, 0, 0, 0],
-        guess,
-        delay,
-    )
+    let marks = starts_with(alloc, words, &ONE)?;
+    end_by(alloc, profile, marks, guess, delay)
+}
+
+/// The predictor and the data tags of a profile.
+fn tables_of(alloc: Global, profile: &Profile) -> Result<(Tables, Tags), Fail> {
+    let tables = Tables::new(alloc)?;
+    let tags = Tags::new(alloc, Latencies::from(profile))?;
+    Ok((tables, tags))
 }
 
 /// The same by the default profile, with its predictor and data tags.
 fn end_by_tables(alloc: Global, words: &[u32], bytes: &[u8]) -> Result<Ending, Fail> {
     let profile = Profile::default();
-    let guess = Tables::new(alloc)?;
-    let delay = Tags::new(alloc, Latencies::from(&profile))?;
-    end_by(alloc, &profile, words, bytes, guess, delay)
+    let (guess, delay) = tables_of(alloc, &profile)?;
+    let marks = starts_with(alloc, words, bytes)?;
+    end_by(alloc, &profile, marks, guess, delay)
 }
 
+/// What a core shows of context 0.
 fn ending_of<G: Guess + Drop, D: Delay + Drop>(
     core: &Core<G, RoundRobin, OldestFirst, D>,
     figures: Figures,
@@ -240,7 +214,7 @@ const WRONG_PATH: [u32; 6] = [
 
 #[test]
 fn wrong_path_store(rt: HostRuntime) -> Result<(), Fail> {
-    let end = end_by_tables(rt.alloc(), &WRONG_PATH, &[1, 0, 0, 0, 0, 0, 0, 0])?;
+    let end = end_by_tables(rt.alloc(), &WRONG_PATH, &ONE)?;
     let registers = [0, 0, 0, 0, 0, 0x10_0000, 7, 0, 0];
     assert_eq!(rt; end, ends([8, 7, 7, 3, 3, 4], 3, registers, 1));
     Ok(())
