@@ -192,6 +192,3 @@ impl<A: Allocator> Join for Mark<A> {
         }
     }
 }
-
-#[cfg(test)]
-mod tests;
