@@ -194,6 +194,3 @@ impl<A: Allocator> Join for Mark<A> {
         }
     }
 }
-
-#[cfg(test)]
-mod tests;

@@ -12,6 +12,3 @@ pub use environment::Environment;
 pub use hart::{Hart, load_width, stop_of_fault, store_width};
 pub use stop::Stop;
 pub use values::loaded;
-
-#[cfg(test)]
-mod tests;

@@ -13,8 +13,6 @@ mod eights;
 mod instances;
 mod merges;
 mod places;
-#[cfg(test)]
-mod tests;
 
 pub use context::Ctx;
 pub use eights::{fold_eights, join_eights};

@@ -185,6 +185,3 @@ fn are_same<A: Allocator>(
         && is_same(&left.c6, &right.c6)
         && is_same(&left.c7, &right.c7)
 }
-
-#[cfg(test)]
-mod tests;

@@ -158,6 +158,3 @@ impl<A: Allocator> Memory<A> {
         writing::store(&mut self.pages, self.text, address, width, value)
     }
 }
-
-#[cfg(test)]
-mod tests;

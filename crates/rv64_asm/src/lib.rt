@@ -28,6 +28,3 @@ pub use label_iter::LabelIter;
 pub use labels::Labels;
 pub use printing::show;
 pub use program::Program;
-
-#[cfg(test)]
-mod tests;

@@ -17,6 +17,3 @@ pub use fields::{
     WordShiftAmount,
 };
 pub use insn::{AluOp, BranchCondition, ImmOp, Insn, LoadKind, ShiftOp, StoreWidth, WordOp};
-
-#[cfg(test)]
-mod tests;

@@ -1,7 +1,7 @@
 //! A program of words and data, read and written at the edges of its pages. The values follow from
 //! the bytes, least first; the four words are those of a countdown.
 
-use super::*;
+use paged_memory::{Fault, Memory, Width};
 use std::process::Abort;
 use std::test::Fail;
 

@@ -3,7 +3,7 @@ use Rattle.std.proofs.lemmas.List.Elements.{All-cons, All-nil}
 use Rattle.std.specs.Arc.{arc_value}
 use Rattle.checkpoint.proofs.AlignedLemmas.{AreMarksOf-kin}
 use Rattle.checkpoint.specs.Aligned.{AreMarksOf}
-use Rattle.checkpoint.proofs.tests.furthest_of_two.Goals as goal
+use Rattle.mark_tests.proofs.marks.furthest_of_two.Goals as goal
 
 pub furthest_each-requires : goal.furthest_each-requires
 furthest_each-requires c =

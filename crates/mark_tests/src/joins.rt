@@ -1,6 +1,6 @@
 //! Worked joins at concrete types, through the bound.
 
-use crate::{Ctx, Eight, Join, Tree, fold_eights, fold_tree, join_all, join_eights};
+use join_law::{Ctx, Eight, Join, Tree, fold_eights, fold_tree, join_all, join_eights};
 use std::alloc::{AllocError, Global};
 use std::test::Fail;
 

@@ -1,6 +1,6 @@
 //! Whole texts: what they assemble to, and how they are refused.
 
-use crate::{AsmFault, LineFault, Program, assemble, show};
+use rv64_asm::{AsmFault, LineFault, Program, assemble, show};
 use rv64_decode::decode;
 use std::process::Abort;
 use std::test::Fail;
@@ -419,5 +419,3 @@ fn shown_lines(rt: HostRuntime) -> Result<(), Fail> {
     }
     Ok(())
 }
-
-mod malformed;

@@ -3,7 +3,9 @@ ghost use Rattle.std.specs.Arc.{arc_value};
 ghost use Rattle.checkpoint.specs.Aligned.{AreMarksOf};
 ghost use Rattle.join_law.specs.Tree.{leaves};
 
-use crate::{Mark, MarkFault, aligned, furthest, furthest_each, furthest_leaf, furthest_leaf_each};
+use checkpoint::{
+    Mark, MarkFault, aligned, furthest, furthest_each, furthest_leaf, furthest_leaf_each,
+};
 use hart_step::{Environment, Stop};
 use join_law::{Ctx, Eight, Join, Tree};
 use origin_set::Origin;

@@ -3,7 +3,11 @@
 
 ghost use Rattle.std.specs.Prelude.{◌≡◌, pos, negsuc, ◌<◌, ◌≤ℤ◌, ◌%◌, unsigned_abs};
 
-use super::*;
+use rv64_decode::{
+    AluOp, BranchCondition, BranchOffset, FenceBits, ImmOp, Immediate, Insn, JumpOffset, LoadKind,
+    Register, ShiftAmount, ShiftOp, StoreWidth, UpperImmediate, WordOp, WordShiftAmount, decode,
+    encode,
+};
 use std::process::Abort;
 
 /// Each word is its instruction's, and gives it back.
@@ -443,14 +447,26 @@ fn fields(rt: HostRuntime) {
     assert_eq!(rt; ShiftAmount::new(63).value(), 63);
     assert_eq!(rt; WordShiftAmount::new(31).value(), 31);
     assert_eq!(rt; FenceBits::new(0xFFF).value(), 0xFFF);
+}
+
+#[test]
+fn immediates(rt: HostRuntime) {
     for (value, bits) in [(0, 0), (2047, 0x7FF), (-2048, 0x800), (-1, 0xFFF)] {
         assert_eq!(rt; Immediate::new(value).bits(), bits);
         assert_eq!(rt; Immediate::from_bits(bits).value(), value);
     }
+}
+
+#[test]
+fn branch_offsets(rt: HostRuntime) {
     for (value, bits) in [(0, 0), (4094, 0x0FFE), (-4096, 0x1000), (-2, 0x1FFE)] {
         assert_eq!(rt; BranchOffset::new(value).bits(), bits);
         assert_eq!(rt; BranchOffset::from_bits(bits).value(), value);
     }
+}
+
+#[test]
+fn jump_offsets(rt: HostRuntime) {
     for (value, bits) in [
         (0, 0),
         (1_048_574, 0x0F_FFFE),

@@ -3,7 +3,7 @@
 
 ghost use Rattle.std.specs.Prelude.{◌<◌};
 
-use crate::{AsmFault, Assembly, assemble};
+use rv64_asm::{AsmFault, Assembly, assemble};
 use std::alloc::Global;
 use std::str;
 use std::test::Fail;

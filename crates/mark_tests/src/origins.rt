@@ -1,6 +1,11 @@
-use crate::{Origin, OriginFault};
+//! Digests, comparisons and starts of small origins.
+//!
+//! What a function holds is dropped on each of its ways out, and each drop of an origin has a cost in proof: so a helper
+//! holds one origin and answers plain data.
+
 use hart_step::{Environment, Hart, Stop};
 use join_law::Ctx;
+use origin_set::{Origin, OriginFault};
 use paged_memory::{Fault, Width};
 use rv64_asm::Program;
 use std::alloc::Global;
@@ -73,11 +78,15 @@ fn last(alloc: Global, words: &[u32], bytes: &[u8]) -> Result<Origin, Fail> {
     Ok(outer(None, Some(program))?)
 }
 
+/// Whether an origin is the one whose only program, of these words and bytes, is that of context 7.
+fn is_last(alloc: Global, origin: &Origin, words: &[u32], bytes: &[u8]) -> Result<bool, Fail> {
+    Ok(last(alloc, words, bytes)?.same(origin))
+}
+
 /// Whether this program and the countdown with the data 1, 2 make the same origin at context 7.
 fn is_countdown(alloc: Global, words: &[u32], bytes: &[u8]) -> Result<bool, Fail> {
     let countdown = last(alloc, &COUNTDOWN, &[1, 2])?;
-    let origin = last(alloc, words, bytes)?;
-    Ok(origin.same(&countdown))
+    is_last(alloc, &countdown, words, bytes)
 }
 
 #[test]
@@ -89,15 +98,38 @@ fn compares_programs(rt: HostRuntime) -> Result<(), Fail> {
     Ok(())
 }
 
+/// Whether an origin is the one whose only program, an empty one, is that of context 0.
+fn is_first(alloc: Global, origin: &Origin) -> Result<bool, Fail> {
+    let program = program(alloc, &[], &[])?;
+    let first = outer(Some(program), None)?;
+    Ok(origin.same(&first))
+}
+
+/// Whether an origin has no programs, and the environment of one that has none.
+fn is_empty(origin: &Origin) -> Result<(bool, Environment), Fail> {
+    let empty = outer(None, None)?;
+    Ok((origin.same(&empty), empty.environment()))
+}
+
+/// Whether the origin of an empty program at context 7 is that of one at context 0.
+fn last_is_first(alloc: Global) -> Result<bool, Fail> {
+    let origin = last(alloc, &[], &[])?;
+    is_first(alloc, &origin)
+}
+
+/// Whether the origin of an empty program at context 7 has no programs, and the environment of one that has none.
+fn last_is_empty(alloc: Global) -> Result<(bool, Environment), Fail> {
+    let origin = last(alloc, &[], &[])?;
+    is_empty(&origin)
+}
+
 #[test]
 fn compares_contexts(rt: HostRuntime) -> Result<(), Fail> {
-    let at_last = last(rt.alloc(), &[], &[])?;
-    let program = program(rt.alloc(), &[], &[])?;
-    let at_first = outer(Some(program), None)?;
-    assert!(rt; !at_last.same(&at_first));
-    let empty = outer(None, None)?;
-    assert!(rt; !at_last.same(&empty));
-    assert_eq!(rt; empty.environment(), Environment::One);
+    let alloc = rt.alloc();
+    assert!(rt; !last_is_first(alloc)?);
+    let (same, environment) = last_is_empty(alloc)?;
+    assert!(rt; !same);
+    assert_eq!(rt; environment, Environment::One);
     Ok(())
 }
 
@@ -152,23 +184,29 @@ fn one_page_too_many(rt: HostRuntime) -> Result<(), Fail> {
     Ok(())
 }
 
+/// What a context starts from where the countdown with the data byte 7 is the program of context 0.
+fn start_of(alloc: Global, context: Ctx) -> Result<Hart, Fail> {
+    let program = program(alloc, &COUNTDOWN, &[7])?;
+    let origin = outer(Some(program), None)?;
+    Ok(origin.hart(alloc, context)?)
+}
+
 #[test]
 fn starts(rt: HostRuntime) -> Result<(), Fail> {
-    let alloc = rt.alloc();
-    let origin = outer(Some(program(alloc, &COUNTDOWN, &[7])?), None)?;
-    let Some(first) = Ctx::new(0) else {
-        unreachable!();
-    };
-    let Some(empty) = Ctx::new(1) else {
-        unreachable!();
-    };
-    let mut hart = origin.hart(alloc, first)?;
+    let [first, ..] = Ctx::all();
+    let mut hart = start_of(rt.alloc(), first)?;
     assert_eq!(rt; *hart.regs(), [0; 32]);
     assert_eq!(rt; hart.pc(), 0x10000);
     assert_eq!(rt; hart.memory().load(0x10_0000, Width::Word), Ok(7));
     assert_eq!(rt; hart.run(100), (21, Some(Stop::Ecall)));
-    let mut without = origin.hart(alloc, empty)?;
-    assert_eq!(rt; without.run(100), (0, Some(Stop::FetchAccess)));
+    Ok(())
+}
+
+#[test]
+fn starts_without_a_program(rt: HostRuntime) -> Result<(), Fail> {
+    let [_, second, ..] = Ctx::all();
+    let mut hart = start_of(rt.alloc(), second)?;
+    assert_eq!(rt; hart.run(100), (0, Some(Stop::FetchAccess)));
     Ok(())
 }
 

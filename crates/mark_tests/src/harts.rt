@@ -2,7 +2,7 @@
 
 ghost use Rattle.std.specs.Prelude.{◌≤◌, length};
 
-use crate::{
+use hart_step::{
     Effect, Environment, Hart, Stop, destination, execute, first_source, following, load_width,
     loaded, second_source, store_width,
 };
@@ -25,20 +25,46 @@ fn hart_at_start(alloc: Global, words: &[u32], bytes: &[u8]) -> Result<Hart, Fai
     Ok(Hart::new([0; 32], 0x10000, memory, Environment::One))
 }
 
+/// The pc of a hart, its x5, and why a step would stop.
+fn shown(hart: &Hart) -> (u64, u64, Option<Stop>) {
+    (hart.pc(), hart.regs()[5], hart.stop_here())
+}
+
+/// A hart that counts x5 from 10 down to 0.
+fn countdown_hart(alloc: Global) -> Result<Hart, Fail> {
+    hart_at_start(alloc, &[0x00A0_0293, 0xFFF2_8293, 0xFE02_9EE3, ECALL], &[])
+}
+
 #[test]
 fn countdown(rt: HostRuntime) -> Result<(), Fail> {
-    let words = [0x00A0_0293, 0xFFF2_8293, 0xFE02_9EE3, ECALL];
-    let mut hart = hart_at_start(rt.alloc(), &words, &[])?;
+    let mut hart = countdown_hart(rt.alloc())?;
     assert_eq!(rt; hart.run(7), (7, None));
-    assert_eq!(rt; hart.pc(), 0x10004);
-    assert_eq!(rt; hart.regs()[5], 7);
-    let copy = hart.try_clone(rt.alloc())?;
+    assert_eq!(rt; shown(&hart), (0x10004, 7, None));
     assert_eq!(rt; hart.run(100), (14, Some(Stop::Ecall)));
-    assert_eq!(rt; hart.pc(), 0x1000C);
+    assert_eq!(rt; shown(&hart), (0x1000C, 0, Some(Stop::Ecall)));
     assert_eq!(rt; hart.regs(), &[0; 32]);
-    assert_eq!(rt; hart.stop_here(), Some(Stop::Ecall));
-    assert_eq!(rt; copy.regs()[5], 7);
-    assert_eq!(rt; copy.stop_here(), None);
+    Ok(())
+}
+
+/// What a copy of a hart shows once the hart itself is at its stop.
+fn copy_shown(alloc: Global, hart: &mut Hart) -> Result<(u64, u64, Option<Stop>), Fail> {
+    let copy = hart.try_clone(alloc)?;
+    hart.run(100);
+    Ok(shown(&copy))
+}
+
+#[test]
+fn copies_apart(rt: HostRuntime) -> Result<(), Fail> {
+    let mut hart = countdown_hart(rt.alloc())?;
+    assert_eq!(rt; hart.run(7), (7, None));
+    assert_eq!(rt; copy_shown(rt.alloc(), &mut hart)?, (0x10004, 7, None));
+    assert_eq!(rt; shown(&hart), (0x1000C, 0, Some(Stop::Ecall)));
+    Ok(())
+}
+
+#[test]
+fn copies_whole(rt: HostRuntime) -> Result<(), Fail> {
+    let copy = countdown_hart(rt.alloc())?.try_clone(rt.alloc())?;
     assert_eq!(rt; copy.environment(), Environment::One);
     assert_eq!(rt; copy.environment().number(), 1);
     assert_eq!(rt; copy.memory().fetch(0x10000), Ok(0x00A0_0293));
@@ -71,28 +97,42 @@ fn addiw_wraps(rt: HostRuntime) -> Result<(), Fail> {
 
 #[test]
 fn misaligned_jalr(rt: HostRuntime) -> Result<(), Fail> {
-    // jalr x1, 2(x5); jalr x1, 1(x5)
-    let mut refused = hart_at_start(rt.alloc(), &[X5_TO_TEXT, 0x0022_80E7], &[])?;
-    assert_eq!(rt; refused.run(5), (1, Some(Stop::TargetMisaligned)));
-    assert_eq!(rt; refused.pc(), 0x10004);
-    assert_eq!(rt; refused.regs()[1], 0);
-    assert_eq!(rt; refused.stop_here(), Some(Stop::TargetMisaligned));
-    let mut linked = hart_at_start(rt.alloc(), &[X5_TO_TEXT, 0x0012_80E7], &[])?;
-    assert_eq!(rt; linked.run(2), (2, None));
-    assert_eq!(rt; linked.pc(), 0x10000);
-    assert_eq!(rt; linked.regs()[1], 0x10008);
+    // jalr x1, 2(x5)
+    let mut hart = hart_at_start(rt.alloc(), &[X5_TO_TEXT, 0x0022_80E7], &[])?;
+    assert_eq!(rt; hart.run(5), (1, Some(Stop::TargetMisaligned)));
+    assert_eq!(rt;
+        shown(&hart),
+        (0x10004, 0x10000, Some(Stop::TargetMisaligned))
+    );
+    assert_eq!(rt; hart.regs()[1], 0);
     Ok(())
 }
 
 #[test]
-fn store_faults(rt: HostRuntime) -> Result<(), Fail> {
-    // sd x0, 0(x5) to text; sd x0, 1(x5) to data
-    let mut text = hart_at_start(rt.alloc(), &[X5_TO_TEXT, 0x0002_B023], &[])?;
-    assert_eq!(rt; text.run(9), (1, Some(Stop::StoreAccess)));
-    assert_eq!(rt; text.stop_here(), Some(Stop::StoreAccess));
-    let mut odd = hart_at_start(rt.alloc(), &[X5_TO_DATA, 0x0002_B0A3], &[0; 8])?;
-    assert_eq!(rt; odd.run(9), (1, Some(Stop::StoreMisaligned)));
-    assert_eq!(rt; odd.stop_here(), Some(Stop::StoreMisaligned));
+fn jalr_drops_the_lowest_bit(rt: HostRuntime) -> Result<(), Fail> {
+    // jalr x1, 1(x5)
+    let mut hart = hart_at_start(rt.alloc(), &[X5_TO_TEXT, 0x0012_80E7], &[])?;
+    assert_eq!(rt; hart.run(2), (2, None));
+    assert_eq!(rt; hart.pc(), 0x10000);
+    assert_eq!(rt; hart.regs()[1], 0x10008);
+    Ok(())
+}
+
+#[test]
+fn store_to_text(rt: HostRuntime) -> Result<(), Fail> {
+    // sd x0, 0(x5)
+    let mut hart = hart_at_start(rt.alloc(), &[X5_TO_TEXT, 0x0002_B023], &[])?;
+    assert_eq!(rt; hart.run(9), (1, Some(Stop::StoreAccess)));
+    assert_eq!(rt; hart.stop_here(), Some(Stop::StoreAccess));
+    Ok(())
+}
+
+#[test]
+fn misaligned_store(rt: HostRuntime) -> Result<(), Fail> {
+    // sd x0, 1(x5)
+    let mut hart = hart_at_start(rt.alloc(), &[X5_TO_DATA, 0x0002_B0A3], &[0; 8])?;
+    assert_eq!(rt; hart.run(9), (1, Some(Stop::StoreMisaligned)));
+    assert_eq!(rt; hart.stop_here(), Some(Stop::StoreMisaligned));
     Ok(())
 }
 
@@ -120,7 +160,7 @@ fn no_program(rt: HostRuntime) -> Result<(), Fail> {
 }
 
 #[test]
-fn effects(rt: HostRuntime) -> Result<(), Fail> {
+fn effect_of_add(rt: HostRuntime) -> Result<(), Fail> {
     // add x3, x1, x2
     let add = decode(0x0020_81B3).ok_or("add")?;
     assert_eq!(rt; first_source(&add).index(), 1);
@@ -133,6 +173,11 @@ fn effects(rt: HostRuntime) -> Result<(), Fail> {
             target: 0x10004
         }
     );
+    Ok(())
+}
+
+#[test]
+fn effect_of_a_store(rt: HostRuntime) -> Result<(), Fail> {
     // sw x2, 8(x1)
     let store = decode(0x0020_A423).ok_or("sw")?;
     assert_eq!(rt; destination(&store).index(), 0);
@@ -144,12 +189,16 @@ fn effects(rt: HostRuntime) -> Result<(), Fail> {
             value: 7
         }
     );
+    Ok(())
+}
+
+#[test]
+fn values(rt: HostRuntime) {
     assert_eq!(rt; following(u64::MAX - 3), 0);
     assert_eq!(rt; load_width(LoadKind::WordUnsigned), Width::Word);
     assert_eq!(rt; store_width(StoreWidth::Half), Width::Half);
     assert_eq!(rt; loaded(LoadKind::Byte, 0x80), 0xFFFF_FFFF_FFFF_FF80);
     assert_eq!(rt; loaded(LoadKind::ByteUnsigned, 0x180), 0x80);
-    Ok(())
 }
 
 #[test]

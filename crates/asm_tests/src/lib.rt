@@ -1,0 +1,7 @@
+//! Tests of the assembler, through its public calls.
+#![tactic(auto)]
+
+#[cfg(test)]
+mod malformed;
+#[cfg(test)]
+mod texts;
