@@ -32,6 +32,14 @@ abbrev pub target_address : List Label → Target (List ℕ) → Result ℕ Line
 target_address labels (targets.Label name) = ok_or (address_of labels name) UnknownLabel
 target_address labels (targets.Address address) = Ok address
 
+-- how far a branch at pc goes (section 2.5)
+abbrev pub branch_offset : List Label → ℕ → Target (List ℕ) → Result ℤ LineFault
+branch_offset labels pc target = target_address labels target >>= λ address. offset_in (negsuc 4095) (pos 4094) (distance pc address)
+
+-- how far a jump at pc goes (section 2.5)
+abbrev pub jump_offset : List Label → ℕ → Target (List ℕ) → Result ℤ LineFault
+jump_offset labels pc target = target_address labels target >>= λ address. offset_in (negsuc 1048575) (pos 1048574) (distance pc address)
+
 -- what a statement gives at pc, labels replaced by their addresses (section 2.5 for the offsets)
 unfoldable pub resolve : List Label → ℕ → Statement (List ℕ) → Result Item LineFault
 resolve labels pc (Enter part) = Ok Nothing
