@@ -4,6 +4,7 @@ pub mod Turns
 pub mod Emitting
 pub mod Refusals
 pub mod Writes
+pub mod Appended
 pub mod Fences
 pub mod Plain
 pub mod Reread
@@ -11,3 +12,4 @@ pub mod Numerals
 pub mod Forms
 pub mod HexWords
 pub mod NameKinds
+pub mod Tables

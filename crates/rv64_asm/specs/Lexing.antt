@@ -1,7 +1,6 @@
 -- A line of text in its parts.
 use Rattle.std.specs.Prelude.{ℕ, ◌+◌, ◌==◌, ◌||◌, Bool, List, [], ◌∷◌, take, drop, reverse, map, length, if◌then◌else◌, Option, option_map}
 use Rattle.std.specs.List.{before_first, slice_split, position, position_or_len}
-use denote.Ref.{Bor}
 use Rattle.rv64_asm.specs.declared.lexing.Operands.{Operands}
 use Rattle.rv64_asm.specs.declared.lexing.Operands.TheVariants.{Zero, One, Two, Three, More}
 

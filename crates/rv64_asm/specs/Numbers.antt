@@ -1,5 +1,5 @@
 -- Numbers of an operand.
-use Rattle.std.specs.Prelude.{◌≡◌, ℕ, ℤ, pos, negsuc, neg_ℤ, ◌-◌, ◌^◌, ◌+◌, ◌*◌, ◌==◌, ◌&&◌, Bool, List, length, min, nat_lt, if◌then◌else◌, Option, Some, None, option_map, Result, Ok, Err, nat_eq, codes, drop, int_le, unsigned_abs}
+use Rattle.std.specs.Prelude.{ℕ, ℤ, pos, negsuc, neg_ℤ, ◌-◌, ◌+◌, ◌*◌, ◌==◌, ◌&&◌, Bool, List, length, nat_lt, if◌then◌else◌, Option, Some, None, option_map, Result, Ok, Err, nat_eq, codes, drop, int_le, unsigned_abs}
 use Rattle.std.specs.List.{list_all, fold, starts_with}
 use Rattle.std.specs.Option.{ok_or}
 use Rattle.std.specs.Char.{digit_value}

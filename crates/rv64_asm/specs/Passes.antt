@@ -1,5 +1,5 @@
 -- What the two passes over a text do with a line, and what each refuses.
-use Rattle.std.specs.Prelude.{◌≡◌, ℕ, ◌+◌, List, ◌++◌, Result, Ok, Err}
+use Rattle.std.specs.Prelude.{◌≡◌, ℕ, ◌+◌, List, ◌++◌, Result, Ok}
 use Rattle.std.specs.Option.{ok_or}
 use Rattle.rv64_asm.specs.declared.fault.LineFault.{LineFault}
 use Rattle.rv64_asm.specs.declared.fault.LineFault.TheVariants.{TooManyPages}

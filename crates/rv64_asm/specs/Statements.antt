@@ -1,8 +1,7 @@
 -- What a line says.
-use Rattle.std.specs.Prelude.{◌≡◌, ℕ, ℤ, pos, negsuc, ◌+◌, ◌*◌, ◌-◌, ◌^◌, ◌==◌, ◌||◌, ◌&&◌, Bool, false, List, [], ◌∷◌, length, nat_le, if◌then◌else◌, Option, Some, None, Result, Ok, Err}
+use Rattle.std.specs.Prelude.{ℕ, ℤ, pos, negsuc, ◌+◌, ◌*◌, ◌-◌, ◌^◌, ◌==◌, ◌||◌, ◌&&◌, Bool, false, List, [], ◌∷◌, length, nat_le, if◌then◌else◌, Option, Some, None, Result, Ok, Err}
 use Rattle.std.specs.List.{list_all}
 use Rattle.std.specs.Option.{ok_or}
-use denote.Ref.{Bor}
 use Rattle.rv64_decode.specs.declared.insn.Insn.{Insn}
 use Rattle.rv64_decode.specs.declared.insn.Insn.TheVariants as insns
 use Rattle.rv64_decode.specs.declared.insn.BranchCondition.{BranchCondition}

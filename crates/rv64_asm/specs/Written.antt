@@ -1,12 +1,12 @@
 -- What the lines of a text give once the labels are known.
-use Rattle.std.specs.Prelude.{◌≡◌, ℕ, ℤ, pos, negsuc, ◌+◌, ◌-◌, ◌%◌, ◌^◌, ◌<◌, ◌==◌, ◌&&◌, List, [], ◌∷◌, ◌++◌, length, take, drop, replicate, int_le, unsigned_abs, if◌then◌else◌, Option, Some, Result, Ok, Err, slice_get}
+use Rattle.std.specs.Prelude.{◌≡◌, ℕ, ℤ, pos, negsuc, ◌+◌, ◌-◌, ◌%◌, ◌^◌, ◌<◌, ◌==◌, ◌&&◌, List, [], ◌∷◌, length, take, drop, replicate, int_le, unsigned_abs, if◌then◌else◌, Option, Some, Result, Ok, Err, slice_get}
 use Rattle.std.specs.Int.{cast_signed, to_le_bytes, w64}
 use Rattle.std.specs.Option.{ok_or}
 use Rattle.std.specs.Result.{result_err}
 use Rattle.rv64_decode.specs.declared.insn.Insn.TheVariants as insns
 use Rattle.rv64_decode.specs.Spelling.{Spells}
 use Rattle.rv64_asm.specs.declared.fault.LineFault.{LineFault}
-use Rattle.rv64_asm.specs.declared.fault.LineFault.TheVariants.{UnknownLabel, OffsetOutOfRange, TooManyPages}
+use Rattle.rv64_asm.specs.declared.fault.LineFault.TheVariants.{UnknownLabel, OffsetOutOfRange}
 use Rattle.rv64_asm.specs.declared.place.Place.{Place}
 use Rattle.rv64_asm.specs.declared.statement.Target.{Target}
 use Rattle.rv64_asm.specs.declared.statement.Target.TheVariants as targets
@@ -17,7 +17,7 @@ use Rattle.rv64_asm.specs.declared.statement.Statement.TheVariants.{Enter, Give,
 use Rattle.rv64_asm.specs.Label.{Label, address_of}
 use Rattle.rv64_asm.specs.Numbers.{◌>>=◌}
 use Rattle.rv64_asm.specs.Statements.{line_of}
-use Rattle.rv64_asm.specs.Places.{address, after, bytes_in, behind}
+use Rattle.rv64_asm.specs.Places.{address, bytes_in, behind}
 
 -- how far a target lies from pc, as 64 bits with a sign
 abbrev pub distance : ℕ → ℕ → ℤ
@@ -31,6 +31,14 @@ offset_in low high offset = if int_le low offset && int_le offset high && unsign
 abbrev pub target_address : List Label → Target (List ℕ) → Result ℕ LineFault
 target_address labels (targets.Label name) = ok_or (address_of labels name) UnknownLabel
 target_address labels (targets.Address address) = Ok address
+
+-- how far a branch at pc goes (section 2.5)
+abbrev pub branch_offset : List Label → ℕ → Target (List ℕ) → Result ℤ LineFault
+branch_offset labels pc target = target_address labels target >>= λ address. offset_in (negsuc 4095) (pos 4094) (distance pc address)
+
+-- how far a jump at pc goes (section 2.5)
+abbrev pub jump_offset : List Label → ℕ → Target (List ℕ) → Result ℤ LineFault
+jump_offset labels pc target = target_address labels target >>= λ address. offset_in (negsuc 1048575) (pos 1048574) (distance pc address)
 
 -- what a statement gives at pc, labels replaced by their addresses (section 2.5 for the offsets)
 unfoldable pub resolve : List Label → ℕ → Statement (List ℕ) → Result Item LineFault

@@ -6,6 +6,8 @@ ghost use Rattle.rv64_asm.specs.Lexing as spec;
 ghost use Rattle.rv64_asm.specs.Lexing.{skip_blanks};
 ghost use Rattle.rv64_asm.specs.Returned.{seen};
 
+use std::alloc::AllocError;
+
 pub fn is_blank(b: u8) -> bool
     ensures { result ≡ spec.is_blank b }
 {
@@ -81,7 +83,6 @@ pub fn word_of(s: &[u8]) -> (&[u8], &[u8])
 }
 
 /// What stands between the commas.
-#[derive(Drop)]
 pub enum Operands<T> {
     Zero,
     One(T),
@@ -89,6 +90,18 @@ pub enum Operands<T> {
     Three(T, T, T),
     More,
 }
+
+impl<T: Copy> Clone for Operands<T> {
+    ghost is_clone = { λ x y. y ≡ x };
+
+    ghost is_infallible = { λ _. Unit {0} };
+
+    fn clone(&self) -> Result<Operands<T>, AllocError> {
+        Ok(*self)
+    }
+}
+
+impl<T: Copy> Copy for Operands<T> {}
 
 #[tactic(auto, using(crate::proofs::Splits::one_part, crate::proofs::Splits::first_part))]
 pub fn operands_of(s: &[u8]) -> Operands<&[u8]>

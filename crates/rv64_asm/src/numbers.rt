@@ -2,7 +2,7 @@
 
 ghost use Rattle.std.specs.Prelude.{◌≡◌, ℤ, pos, negsuc, ◌^◌, ◌≤◌, ◌≤ℤ◌, IfOk, unsigned_abs, Some, None, if◌then◌else◌};
 ghost use Rattle.std.specs.Char.{digit_value};
-ghost use Rattle.rv64_asm.specs.Numbers.{all_digits, value_of, numeral, magnitude, number_in, natural, number_between};
+ghost use Rattle.rv64_asm.specs.Numbers.{all_digits, value_of, numeral, magnitude, number_in, natural, number_between, wrapped, in_range};
 ghost use Rattle.rv64_asm.specs.Returned.{IsClipped};
 
 use crate::fault::LineFault;
@@ -60,6 +60,16 @@ fn magnitude(text: &[u8]) -> Option<u128>
     }
 }
 
+fn in_range(number: i128, low: i128, high: i128) -> Result<i128, LineFault>
+    ensures { result ≡ in_range low high number }
+{
+    if low <= number && number <= high {
+        Ok(number)
+    } else {
+        Err(LineFault::OutOfRange)
+    }
+}
+
 /// The number of a text, within a range.
 #[tactic(auto, unfolding(crate::specs::Numbers::number_of))]
 pub fn number_in(text: &[u8], low: i128, high: i128) -> Result<i128, LineFault>
@@ -67,21 +77,16 @@ pub fn number_in(text: &[u8], low: i128, high: i128) -> Result<i128, LineFault>
     requires high { high ≤ℤ pos (2 ^ 64) }
     ensures { result ≡ number_in low high text.now }
 {
-    let number = if text.starts_with(b"-") {
+    if text.starts_with(b"-") {
         match magnitude(&text[1..]) {
-            Some(size) => -(size as i128),
-            None => return Err(LineFault::OperandForm),
+            Some(size) => in_range(-(size as i128), low, high),
+            None => Err(LineFault::OperandForm),
         }
     } else {
         match magnitude(text) {
-            Some(size) => size as i128,
-            None => return Err(LineFault::OperandForm),
+            Some(size) => in_range(size as i128, low, high),
+            None => Err(LineFault::OperandForm),
         }
-    };
-    if low <= number && number <= high {
-        Ok(number)
-    } else {
-        Err(LineFault::OutOfRange)
     }
 }
 
@@ -94,6 +99,20 @@ pub fn natural(text: &[u8], high: u64) -> Result<u64, LineFault>
     Ok(number as u64)
 }
 
+/// The bits of a number of at most this magnitude, in two's complement below zero.
+fn wrapped(number: i128, high: u64) -> u64
+    requires { unsigned_abs number ≤ high }
+    ensures bits { result ≡ wrapped high number }
+    ensures within { result ≤ high }
+{
+    let bits = if number < 0 {
+        number + i128::from(high) + 1
+    } else {
+        number
+    };
+    bits as u64
+}
+
 /// The bits of a number of the range, in two's complement below zero.
 pub fn number_between(text: &[u8], low: i64, high: u64) -> Result<u64, LineFault>
     requires { unsigned_abs low ≤ high }
@@ -101,10 +120,5 @@ pub fn number_between(text: &[u8], low: i64, high: u64) -> Result<u64, LineFault
     ensures within { IfOk result (λ n. n ≤ high) }
 {
     let number = number_in(text, i128::from(low), i128::from(high))?;
-    let bits = if number < 0 {
-        number + i128::from(high) + 1
-    } else {
-        number
-    };
-    Ok(bits as u64)
+    Ok(wrapped(number, high))
 }

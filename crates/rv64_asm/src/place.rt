@@ -19,7 +19,7 @@ const MOST_WORDS: usize = 65536;
 const MOST_BYTES: usize = 1_048_576;
 
 /// The part that the next line goes to, and how much each part has so far.
-#[derive(Clone, Copy, Debug)]
+#[derive(Clone, Copy)]
 pub struct Place {
     pub part: Part,
     pub words: usize,

@@ -43,6 +43,32 @@ fn offset_in(low: i64, high: i64, offset: i64) -> Result<i64, LineFault>
     }
 }
 
+/// How far a branch at pc goes.
+fn branch_offset<A: Allocator>(
+    labels: &Labels<A>,
+    pc: u64,
+    target: &Target<&[u8]>,
+) -> Result<BranchOffset, LineFault>
+    ensures { result ≡ spec.branch_offset labels.now pc (target_named target.now) }
+{
+    let address = target_address(labels, target)?;
+    let offset = offset_in(-4096, 4094, distance(pc, address))?;
+    Ok(BranchOffset::new(offset as i16))
+}
+
+/// How far a jump at pc goes.
+fn jump_offset<A: Allocator>(
+    labels: &Labels<A>,
+    pc: u64,
+    target: &Target<&[u8]>,
+) -> Result<JumpOffset, LineFault>
+    ensures { result ≡ spec.jump_offset labels.now pc (target_named target.now) }
+{
+    let address = target_address(labels, target)?;
+    let offset = offset_in(-1_048_576, 1_048_574, distance(pc, address))?;
+    Ok(JumpOffset::new(offset as i32))
+}
+
 /// What a statement gives at pc, labels replaced by their addresses.
 #[tactic(auto, unfolding(crate::specs::Written::resolve))]
 pub fn resolve<A: Allocator>(
@@ -61,22 +87,17 @@ pub fn resolve<A: Allocator>(
             rs2,
             target,
         } => {
-            let address = target_address(labels, target)?;
-            let offset = offset_in(-4096, 4094, distance(pc, address))?;
+            let offset = branch_offset(labels, pc, target)?;
             Ok(Item::Instruction(Insn::Branch {
                 condition: *condition,
                 rs1: *rs1,
                 rs2: *rs2,
-                offset: BranchOffset::new(offset as i16),
+                offset,
             }))
         }
         Statement::Jump { rd, target } => {
-            let address = target_address(labels, target)?;
-            let offset = offset_in(-1_048_576, 1_048_574, distance(pc, address))?;
-            Ok(Item::Instruction(Insn::Jal {
-                rd: *rd,
-                offset: JumpOffset::new(offset as i32),
-            }))
+            let offset = jump_offset(labels, pc, target)?;
+            Ok(Item::Instruction(Insn::Jal { rd: *rd, offset }))
         }
     }
 }

@@ -14,13 +14,25 @@ use crate::operands::alone;
 use crate::targets::{branch, branch_zero, jal, jump};
 use crate::words::{Kind, Part, kind_of};
 use rv64_decode::{BranchCondition, Insn, Register, StoreWidth};
+use std::alloc::AllocError;
 
 /// Where a branch goes: to a label of this name, or to an address.
-#[derive(Clone, Copy)]
 pub enum Target<N> {
     Label(N),
     Address(u64),
 }
+
+impl<N: Copy> Clone for Target<N> {
+    ghost is_clone = { λ x y. y ≡ x };
+
+    ghost is_infallible = { λ _. Unit {0} };
+
+    fn clone(&self) -> Result<Target<N>, AllocError> {
+        Ok(*self)
+    }
+}
+
+impl<N: Copy> Copy for Target<N> {}
 
 /// What a line gives once its target is known.
 #[derive(Clone, Copy)]
@@ -36,7 +48,6 @@ pub enum Item {
 }
 
 /// What a line says. A label is named by `N`.
-#[derive(Clone, Copy)]
 pub enum Statement<N> {
     Enter(Part),
     Give(Item),
@@ -51,6 +62,18 @@ pub enum Statement<N> {
         target: Target<N>,
     },
 }
+
+impl<N: Copy> Clone for Statement<N> {
+    ghost is_clone = { λ x y. y ≡ x };
+
+    ghost is_infallible = { λ _. Unit {0} };
+
+    fn clone(&self) -> Result<Statement<N>, AllocError> {
+        Ok(*self)
+    }
+}
+
+impl<N: Copy> Copy for Statement<N> {}
 
 /// One number that the width holds, with or without a sign, as its bits.
 #[tactic(auto, unfolding(crate::specs::Statements::number_of_width))]

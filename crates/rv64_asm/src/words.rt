@@ -7,14 +7,14 @@ ghost use Rattle.rv64_asm.specs.Words.{lookup};
 use rv64_decode::{AluOp, BranchCondition, ImmOp, LoadKind, Register, ShiftOp, StoreWidth, WordOp};
 
 /// A part of a program.
-#[derive(Clone, Copy, Debug, PartialEq, Eq)]
+#[derive(Clone, Copy)]
 pub enum Part {
     Text,
     Data,
 }
 
 /// An instruction without a target, or a pseudo-instruction for one.
-#[derive(Clone, Copy, Debug, PartialEq, Eq)]
+#[derive(Clone, Copy)]
 pub enum Shape {
     Lui,
     Auipc,
@@ -41,7 +41,7 @@ pub enum Shape {
 }
 
 /// What the word at the front of a line asks for.
-#[derive(Clone, Copy, Debug, PartialEq, Eq)]
+#[derive(Clone, Copy)]
 pub enum Kind {
     /// The next lines go into this part.
     Enter(Part),
