@@ -128,13 +128,13 @@ class SourceTest(unittest.TestCase):
         self.assertTrue(RING[:found[1].end].endswith("count\n    }\n"))
 
     def test_a_head_of_several_lines(self) -> None:
-        text = "impl<G: Guess, A: Allocator> Core<\n    G,\n    A,\n> {\n    fn cycles(&self) -> u64 {\n        1\n    }\n}\n"
+        text = "impl<G: Guess, A: Allocator> Core<\n    G,\n    A,\n> {\n    fn cycles(&self) -> u64 {\n        1\n    }\n}"
         found = source.functions(text)
         self.assertEqual([source.printed_name("core_cycle", "src/cycle.rt", it) for it in found],
                          ["core_cycle::cycle::Core::cycles"])
 
     def test_no_body(self) -> None:
-        text = "trait Order {\n    fn key(&self) -> u64\n        ensures { result ≡ key_of self.now };\n}\n\nfn f() {}\n"
+        text = "trait Order {\n    fn key(&self) -> u64\n        ensures { result ≡ key_of self.now };\n}\n\nfn f() {}"
         self.assertEqual(source.functions(text), [])
 
     def test_owners(self) -> None:

@@ -4,19 +4,20 @@ import os
 import resource
 import threading
 import time
-from typing import Dict, List, Optional, Tuple
+from typing import Dict, List, Optional, Set, Tuple
 
 COLUMNS = ("proof", "tests", "edits")
 TICK = os.sysconf("SC_CLK_TCK")
 
 
 class Clock:
-    """Minutes of processors by crate and column, from `/proc`; what a process does after its last look isn't counted."""
+    """Minutes of processors by crate and column, from `/proc`; what a prover does after the last look isn't counted."""
 
     def __init__(self) -> None:
         self.is_in_edits = False
         self.spent: Dict[Tuple[int, str], float] = {}
         self.owner: Dict[Tuple[int, str], Tuple[str, str]] = {}
+        self.copies: Set[Tuple[int, str]] = set()
         self.begun = time.time()
         self.is_over = threading.Event()
         self.thread = threading.Thread(target=self.look_on, daemon=True)
@@ -36,24 +37,30 @@ class Clock:
             self.look()
 
     def look(self) -> None:
-        """Adds what each prover that runs has used so far."""
+        """Takes what each prover that runs has used so far, with the copies of itself that it has waited for."""
+        seen: Dict[Tuple[int, str], int] = {}
         for pid in filter(str.isdigit, os.listdir("/proc")):
             try:
                 with open(f"/proc/{pid}/stat", encoding="utf-8", errors="replace") as it:
                     name, _, rest = it.read().partition(" (")[2].rpartition(") ")
-                if name != "rattle":
-                    continue
                 words = rest.split()
-                key = (int(pid), words[19])
-                if key not in self.owner:
+                key = (int(pid), words[19]) if name == "rattle" else None
+                if key and key not in self.owner:
                     with open(f"/proc/{pid}/cmdline", "rb") as file:
                         of = self.column_of(file.read().decode(errors="replace").split("\0"))
-                    if of is None:
-                        continue
-                    self.owner[key] = of
-                self.spent[key] = (int(words[11]) + int(words[12])) / TICK / 60
+                    if of:
+                        self.owner[key] = of
+                if key in self.owner:
+                    seen[key] = int(words[1])
+                    self.spent[key] = sum(map(int, words[11:15])) / TICK / 60
             except (OSError, ValueError, IndexError):
                 continue
+        # A copy that has ended is in what its maker waited for.
+        provers = {pid for pid, _ in self.owner}
+        self.copies |= {it for it, maker in seen.items() if maker in provers}
+        for ended in [it for it in self.copies if it not in seen]:
+            self.copies.remove(ended)
+            del self.spent[ended]
 
     def column_of(self, words: List[str]) -> Optional[Tuple[str, str]]:
         """The crate and the column that a prover's command line belongs to."""
@@ -67,9 +74,8 @@ class Clock:
     def minutes(self) -> Dict[Tuple[str, str], float]:
         """Minutes by crate and column."""
         found: Dict[Tuple[str, str], float] = {}
-        for key, spent in list(self.spent.items()):
-            of = self.owner[key]
-            found[of] = found.get(of, 0.0) + spent
+        for key, spent in self.spent.items():
+            found[self.owner[key]] = found.get(self.owner[key], 0.0) + spent
         return found
 
     def wall(self) -> float:
