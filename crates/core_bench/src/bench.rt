@@ -54,24 +54,41 @@ impl<'a> Bench<'a> {
         rt: &R,
         alloc: Global,
     ) -> Result<Measured, BenchFault> {
-        let origin = programs::origin(rt, alloc, self.files)?;
-        let marks = starts_of(alloc, origin)?;
-        core_at(alloc, marks)
+        let profile = Profile::default();
+        let marks = self.marks(rt, alloc)?;
+        let (guess, delay) = tables_of(alloc, &profile)?;
+        core_at(alloc, &profile, marks, guess, delay)
     }
 
-    /// Runs a core for the cycles. Answers how many instructions its contexts retired.
-    pub fn run(&self, core: &mut Measured) -> u64 {
+    /// The starts of the programs.
+    fn marks<R: Files + AllocGlobal>(
+        &self,
+        rt: &R,
+        alloc: Global,
+    ) -> Result<Eight<Mark>, BenchFault>
+        ensures { IfOk result (λ marks. IsAligned marks) }
+    {
+        let origin = programs::origin(rt, alloc, self.files)?;
+        starts_of(alloc, origin)
+    }
+
+    /// Runs a core for the cycles.
+    pub fn run(&self, core: &mut Measured) {
         for _cycle in 0..self.cycles {
             if core.cycles() < MOST_CYCLES {
                 let _note = core.cycle();
             }
         }
-        let mut retired = 0u64;
-        for context in Ctx::all() {
-            retired = retired.saturating_add(core.retired(context));
-        }
-        retired
     }
+}
+
+/// How many instructions the contexts of a core retired.
+pub fn retired(core: &Measured) -> u64 {
+    let mut retired = 0u64;
+    for context in Ctx::all() {
+        retired = retired.saturating_add(core.retired(context));
+    }
+    retired
 }
 
 /// The starts of an origin.
@@ -89,17 +106,21 @@ fn tables_of(alloc: Global, profile: &Profile) -> Result<(Tables, Tags), BenchFa
     Ok((tables, tags))
 }
 
-/// A core by the default profile whose contexts start at marks.
-fn core_at(alloc: Global, marks: Eight<Mark>) -> Result<Measured, BenchFault>
+/// A core by a profile whose contexts start at marks.
+fn core_at(
+    alloc: Global,
+    profile: &Profile,
+    marks: Eight<Mark>,
+    guess: Tables,
+    delay: Tags,
+) -> Result<Measured, BenchFault>
     requires { IsAligned marks }
 {
-    let profile = Profile::default();
-    let (guess, delay) = tables_of(alloc, &profile)?;
     let pick = NamedPick::from(profile.fetch);
     let order = NamedOrder::from(profile.issue);
     match Core::new(
         alloc,
-        &profile,
+        profile,
         marks,
         [TARGET; 8],
         guess,

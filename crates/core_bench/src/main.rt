@@ -7,8 +7,9 @@ mod bench;
 mod fault;
 mod programs;
 
-use bench::Bench;
+use bench::{Bench, retired};
 use fault::BenchFault;
+use std::alloc::Global;
 use std::env;
 use std::process::ExitCode;
 use std::rt::{Env, Files};
@@ -29,8 +30,18 @@ fn answer<R: Env + Files + Print + AllocGlobal>(rt: &R) -> Result<(), BenchFault
     let words = env::args(rt).map_err(|_| BenchFault::Words)?;
     let words: Vec<String> = words.skip(1).collect(alloc)?;
     let bench = Bench::from_words(words.as_slice())?;
-    let mut core = bench.core(rt, alloc)?;
-    let retired = bench.run(&mut core);
-    println!(rt; "cycles {}", core.cycles()).map_err(|_| BenchFault::Output)?;
+    let (cycles, retired) = measure(rt, alloc, &bench)?;
+    println!(rt; "cycles {cycles}").map_err(|_| BenchFault::Output)?;
     println!(rt; "retired {retired}").map_err(|_| BenchFault::Output)
+}
+
+/// How many cycles a core ran, and how many instructions it retired.
+fn measure<R: Files + AllocGlobal>(
+    rt: &R,
+    alloc: Global,
+    bench: &Bench,
+) -> Result<(u64, u64), BenchFault> {
+    let mut core = bench.core(rt, alloc)?;
+    bench.run(&mut core);
+    Ok((core.cycles(), retired(&core)))
 }
