@@ -4,7 +4,7 @@ ghost use Rattle.checkpoint.specs.Aligned.{AreMarksOf};
 ghost use Rattle.join_law.specs.Tree.{leaves};
 
 use checkpoint::{
-    Mark, MarkFault, aligned, furthest, furthest_each, furthest_leaf, furthest_leaf_each,
+    Mark, MarkFault, aligned, furthest, furthest_each, furthest_leaf, furthest_leaf_each, starts,
 };
 use hart_step::{Environment, Stop};
 use join_law::{Ctx, Eight, Join, Tree};
@@ -218,35 +218,39 @@ fn grid(
     requires second { second ≤ 1000 }
     ensures { IfOk result (AreMarksOf (arc_value origin.now)) }
 {
-    let [c0, c1, c2, c3, c4, c5, c6, c7] = Ctx::all();
-    Ok(Eight {
-        c0: mark_at(alloc, origin, c0, first)?,
-        c1: mark_at(alloc, origin, c1, second)?,
-        c2: mark_at(alloc, origin, c2, 0)?,
-        c3: mark_at(alloc, origin, c3, 0)?,
-        c4: mark_at(alloc, origin, c4, 0)?,
-        c5: mark_at(alloc, origin, c5, 0)?,
-        c6: mark_at(alloc, origin, c6, 0)?,
-        c7: mark_at(alloc, origin, c7, 0)?,
-    })
+    let mut marks = starts(alloc, origin)?;
+    let _ = marks.c0.advance(first)?;
+    let _ = marks.c1.advance(second)?;
+    Ok(marks)
 }
 
-/// Whether eight marks are aligned, of which that at place 1 is replaced.
-fn aligned_with(alloc: Global, origin: &Arc<Origin>, at_1: Mark) -> Result<bool, MarkFault> {
-    let mut marks = grid(alloc, origin, 5, 3)?;
+/// Whether eight marks at the starts of an origin are aligned once that at place 1 is replaced by the start of a context
+/// of another.
+fn aligned_with(
+    alloc: Global,
+    origin: &Arc<Origin>,
+    other: &Arc<Origin>,
+    context: Ctx,
+) -> Result<bool, MarkFault> {
+    let at_1 = Mark::start(alloc, other, context)?;
+    let mut marks = starts(alloc, origin)?;
     marks.c1 = at_1;
     Ok(aligned(&marks))
 }
 
+/// The same for origins that differ in a data byte.
+fn aligned_at(alloc: Global, bytes: (u8, u8), context: Ctx) -> Result<bool, Fail> {
+    let origin = origin_of(alloc, bytes.0)?;
+    let other = origin_of(alloc, bytes.1)?;
+    Ok(aligned_with(alloc, &origin, &other, context)?)
+}
+
 #[test]
 fn aligns(rt: HostRuntime) -> Result<(), Fail> {
-    let alloc = rt.alloc();
-    let origin = &origin_of(alloc, 1)?;
-    let foreign = &origin_of(alloc, 2)?;
     let [first, second, ..] = Ctx::all();
-    assert!(rt; aligned_with(alloc, origin, Mark::start(alloc, origin, second)?)?);
-    assert!(rt; !aligned_with(alloc, origin, Mark::start(alloc, origin, first)?)?);
-    assert!(rt; !aligned_with(alloc, origin, Mark::start(alloc, foreign, second)?)?);
+    assert!(rt; aligned_at(rt.alloc(), (1, 1), second)?);
+    assert!(rt; !aligned_at(rt.alloc(), (1, 1), first)?);
+    assert!(rt; !aligned_at(rt.alloc(), (1, 2), second)?);
     Ok(())
 }
 
@@ -343,15 +347,21 @@ fn paired(alloc: Global, origin: &Arc<Origin>) -> Result<Tree<Eight<Mark>>, Mark
     merge(alloc, origin, right, one_way(alloc, origin)?)
 }
 
+/// The counts at contexts 0 and 1 of each tree, folded.
+fn folded_counts(alloc: Global, origin: &Arc<Origin>) -> Result<[(u64, u64); 5], MarkFault> {
+    let one = folded(origin, one_way(alloc, origin)?);
+    let other = folded(origin, other_way(alloc, origin)?);
+    let twice = folded(origin, doubled(alloc, origin)?);
+    let right = folded(origin, rightward(alloc, origin)?);
+    let both = folded(origin, paired(alloc, origin)?);
+    Ok([one, other, twice, right, both])
+}
+
 #[test]
 fn grid_of_merges(rt: HostRuntime) -> Result<(), Fail> {
-    let alloc = rt.alloc();
-    let origin = &origin_of(alloc, 1)?;
-    assert_eq!(rt; folded(origin, one_way(alloc, origin)?), (5, 9));
-    assert_eq!(rt; folded(origin, other_way(alloc, origin)?), (5, 9));
-    assert_eq!(rt; folded(origin, doubled(alloc, origin)?), (5, 9));
-    assert_eq!(rt; folded(origin, rightward(alloc, origin)?), (5, 9));
-    assert_eq!(rt; folded(origin, paired(alloc, origin)?), (5, 9));
+    let origin = origin_of(rt.alloc(), 1)?;
+    let counts = folded_counts(rt.alloc(), &origin)?;
+    assert_eq!(rt; counts, [(5, 9); 5]);
     Ok(())
 }
 
@@ -391,12 +401,18 @@ fn furthest_of_two(
     Ok(furthest_each(first, others))
 }
 
+/// The counts at contexts 0 and 1 of the furthest of two grids.
+fn furthest_counts(alloc: Global, origin: &Arc<Origin>) -> Result<(u64, u64), MarkFault> {
+    let first = grid(alloc, origin, 5, 3)?;
+    let second = grid(alloc, origin, 2, 9)?;
+    let best = furthest_of_two(alloc, origin, first, second)?;
+    Ok((best.c0.count(), best.c1.count()))
+}
+
 #[test]
 fn furthest_of_eights(rt: HostRuntime) -> Result<(), Fail> {
-    let alloc = rt.alloc();
-    let origin = &origin_of(alloc, 1)?;
-    let first = grid(alloc, origin, 5, 3)?;
-    let best = furthest_of_two(alloc, origin, first, grid(alloc, origin, 2, 9)?)?;
-    assert_eq!(rt; (best.c0.count(), best.c1.count()), (5, 9));
+    let origin = origin_of(rt.alloc(), 1)?;
+    let counts = furthest_counts(rt.alloc(), &origin)?;
+    assert_eq!(rt; counts, (5, 9));
     Ok(())
 }
