@@ -6,6 +6,7 @@ import shutil
 import subprocess
 import sys
 import tempfile
+import time
 import unittest
 from typing import Dict, List, Optional, Sequence, Tuple
 
@@ -374,6 +375,21 @@ class ClockTest(unittest.TestCase):
             ["join_law", "1.2", "0.0", "3.0"],
             ["sum", "1.2", "2.0", "3.0"],
         ])
+
+    def test_look(self) -> None:
+        made = clock.Clock()
+        with tempfile.TemporaryDirectory() as room:
+            shutil.copy(os.path.realpath("/bin/sh"), f"{room}/rattle")
+            busy = "while :; do :; done"
+            with subprocess.Popen([f"{room}/rattle", "-c", busy, "--crate-name", "low", "--test"]) as started:
+                for _turn in range(100):
+                    made.look()
+                    if made.minutes().get(("low", "tests"), 0.0) > 0:
+                        break
+                    time.sleep(0.05)
+                started.kill()
+        self.assertEqual(list(made.minutes()), [("low", "tests")])
+        self.assertTrue(0 < made.minutes()["low", "tests"] < 1)
 
     def test_columns(self) -> None:
         made = clock.Clock()

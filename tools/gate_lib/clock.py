@@ -7,6 +7,8 @@ import time
 from typing import Dict, List, Optional, Set, Tuple
 
 COLUMNS = ("proof", "tests", "edits")
+# A process's name, and the words behind it in its file `stat`.
+Stat = Tuple[str, List[str]]
 TICK = os.sysconf("SC_CLK_TCK")
 
 
@@ -37,30 +39,30 @@ class Clock:
             self.look()
 
     def look(self) -> None:
-        """Takes what each prover that runs has used so far, with the copies of itself that it has waited for."""
-        seen: Dict[Tuple[int, str], int] = {}
-        for pid in filter(str.isdigit, os.listdir("/proc")):
-            try:
-                with open(f"/proc/{pid}/stat", encoding="utf-8", errors="replace") as it:
-                    name, _, rest = it.read().partition(" (")[2].rpartition(") ")
-                words = rest.split()
-                key = (int(pid), words[19]) if name == "rattle" else None
-                if key and key not in self.owner:
-                    with open(f"/proc/{pid}/cmdline", "rb") as file:
-                        of = self.column_of(file.read().decode(errors="replace").split("\0"))
-                    if of:
-                        self.owner[key] = of
-                if key in self.owner:
-                    seen[key] = int(words[1])
-                    self.spent[key] = sum(map(int, words[11:15])) / TICK / 60
-            except (OSError, ValueError, IndexError):
-                continue
+        """Takes what each prover below this process has used so far, with the copies of itself that it waited for."""
+        stats = dict(filter(None, map(stat_of, filter(str.isdigit, os.listdir("/proc")))))
+        seen = set()
+        for pid, (name, words) in stats.items():
+            key = (pid, words[19])
+            if name == "rattle" and key not in self.owner and self.is_below(pid, stats):
+                of = self.column_of(command_of(pid))
+                if of:
+                    self.owner[key] = of
+            if key in self.owner:
+                seen.add(key)
+                self.spent[key] = sum(map(int, words[11:15])) / TICK / 60
         # A copy that has ended is in what its maker waited for.
         provers = {pid for pid, _ in self.owner}
-        self.copies |= {it for it, maker in seen.items() if maker in provers}
+        self.copies |= {it for it in seen if int(stats[it[0]][1][1]) in provers}
         for ended in [it for it in self.copies if it not in seen]:
             self.copies.remove(ended)
             del self.spent[ended]
+
+    def is_below(self, pid: int, stats: Dict[int, Stat]) -> bool:
+        """Whether a process was started by this one, or by one that it started."""
+        while pid in stats and pid != os.getpid():
+            pid = int(stats[pid][1][1])
+        return pid == os.getpid()
 
     def column_of(self, words: List[str]) -> Optional[Tuple[str, str]]:
         """The crate and the column that a prover's command line belongs to."""
@@ -81,6 +83,26 @@ class Clock:
     def wall(self) -> float:
         """Minutes since it was made."""
         return (time.time() - self.begun) / 60
+
+
+def stat_of(pid: str) -> Optional[Tuple[int, Stat]]:
+    """A process's number and its file `stat`; None where it has ended."""
+    try:
+        with open(f"/proc/{pid}/stat", encoding="utf-8", errors="replace") as it:
+            name, _, rest = it.read().partition(" (")[2].rpartition(") ")
+    except OSError:
+        return None
+    words = rest.split()
+    return (int(pid), (name, words)) if len(words) > 19 else None
+
+
+def command_of(pid: int) -> List[str]:
+    """The words of a process's command line, none where it has ended."""
+    try:
+        with open(f"/proc/{pid}/cmdline", "rb") as file:
+            return file.read().decode(errors="replace").split("\0")
+    except OSError:
+        return []
 
 
 def whole() -> float:
