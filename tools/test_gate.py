@@ -155,6 +155,11 @@ class SourceTest(unittest.TestCase):
         text = "#[cycle(parity)]\n/// Whether a number is even.\nfn even(n: u64) -> bool {\n    odd(n - 1)\n}\n"
         self.assertEqual([it.cycle for it in source.functions(text)], ["parity"])
 
+    def test_attributes_belong_to_a_function(self) -> None:
+        text = "/// Twice a number.\n#[inline(always)]\n#[tactic(auto)]\nfn twice(n: u64) -> u64 {\n    n * 2\n}\n"
+        found = source.functions(text)
+        self.assertTrue(text[found[0].start:].startswith("#[inline(always)]"))
+
     def test_calls(self) -> None:
         self.assertTrue(source.calls("self.count_below(stamp)", "count_below"))
         self.assertTrue(source.calls("(count_below(stamp))", "count_below"))

@@ -19,7 +19,7 @@ class Function(NamedTuple):
     owner: str
     # The name that an attribute gives to the cycle of calls that it is in, "" for none.
     cycle: str
-    # Where its head begins, where its body begins (behind the brace), and where it ends.
+    # Where its attributes and its head begin, where its body begins (behind the brace), and where it ends.
     start: int
     body: int
     end: int
@@ -42,7 +42,8 @@ def functions(text: str) -> List[Function]:
             first, last = body
             owner = head_of(lines, item, at) if head[1] else ""
             inside = starts[first] + len(lines[first])
-            found.append(Function(head[2], owner, cycle_of(lines, at), starts[at], inside, starts[last + 1]))
+            above = attributes_of(lines, at)
+            found.append(Function(head[2], owner, cycle_of(lines, at), starts[above], inside, starts[last + 1]))
             at = last
         at += 1
     return found
@@ -74,6 +75,13 @@ def head_of(lines: List[str], item: int, at: int) -> str:
         if line.endswith("{"):
             break
     return " ".join(words).rpartition("{")[0].strip()
+
+
+def attributes_of(lines: List[str], head: int) -> int:
+    """The first line of the attributes that stand right above a function's head."""
+    while head and lines[head - 1].lstrip().startswith("#["):
+        head -= 1
+    return head
 
 
 def cycle_of(lines: List[str], head: int) -> str:
