@@ -3,5 +3,8 @@
 
 #[cfg(test)]
 mod malformed;
+mod rereading;
 #[cfg(test)]
 mod texts;
+
+pub use rereading::shown_words;

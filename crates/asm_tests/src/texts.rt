@@ -1,7 +1,8 @@
 //! Whole texts: what they assemble to, and how they are refused.
 
+use crate::shown_words;
 use rv64_asm::{AsmFault, LineFault, Program, assemble, show};
-use rv64_decode::decode;
+use rv64_decode::{Insn, decode};
 use std::process::Abort;
 use std::test::Fail;
 
@@ -33,6 +34,13 @@ fn gives(rt: &(impl Abort + AllocGlobal), text: &str, words: &[u32], bytes: &[u8
             assert_eq!(rt; assembly.program.bytes(), bytes, "{text:?}");
         }
         Err(refusal) => panic!(rt; "refused: {text:?} {refusal}"),
+    }
+}
+
+fn shows_again(rt: &(impl Abort + AllocGlobal), insn: &Insn, words: &[u32]) {
+    match shown_words(rt.alloc(), insn) {
+        Ok(again) => assert_eq!(rt; again.as_slice(), words),
+        Err(refusal) => panic!(rt; "refused: {refusal}"),
     }
 }
 
@@ -415,6 +423,7 @@ fn shown_lines(rt: HostRuntime) -> Result<(), Fail> {
         assert_eq!(rt; shown.as_str(), line);
         if pc == 0x10000 {
             gives(&rt, line, &[word], &[]);
+            shows_again(&rt, &insn, &[word]);
         }
     }
     Ok(())

@@ -67,6 +67,25 @@ fn loads_least_byte_first(rt: HostRuntime) -> Result<(), Fail> {
 }
 
 #[test]
+fn bytes_one_by_one(rt: HostRuntime) -> Result<(), Fail> {
+    let memory = Memory::new(rt.alloc(), &COUNTDOWN, &DATA)?;
+    for (address, want) in [
+        (0x10_0000, 0x88),
+        (0x10_0007, 0x11),
+        (0x10_0008, 0),
+        (0x1_0004, 0x93),
+        (0x1_0005, 0x82),
+        (0x1_1000, 0),
+        (0xFFFF_FFFF_FFFF_FFFF, 0),
+    ] {
+        assert_eq!(rt; memory.byte(address), want, "at {address:#x}");
+    }
+    assert_eq!(rt; (Width::Byte.bytes(), Width::Half.bytes()), (1, 2));
+    assert_eq!(rt; (Width::Word.bytes(), Width::Double.bytes()), (4, 8));
+    Ok(())
+}
+
+#[test]
 fn refuses_misalignment_before_access(rt: HostRuntime) -> Result<(), Fail> {
     let mut memory = Memory::new(rt.alloc(), &COUNTDOWN, &DATA)?;
     let table = [

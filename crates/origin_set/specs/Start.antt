@@ -5,6 +5,7 @@ use Rattle.hart_step.specs.State.{State}
 use Rattle.join_law.specs.Eight.{place_of}
 use Rattle.origin_set.specs.OriginValue.{OriginValue}
 use Rattle.paged_memory.specs.Cells.{Cells}
+use Rattle.paged_memory.specs.Regions.{text_start}
 use Rattle.paged_memory.specs.Start.{start_cells}
 use Rattle.rv64_asm.specs.ProgramValue.{ProgramValue}
 
@@ -17,7 +18,7 @@ start_memory (Some program) = start_cells program.words program.bytes
 abbrev pub start : OriginValue → ℕ → State
 start origin context = record {
   registers = replicate 32 0;
-  pc = 0x10000;
+  pc = text_start;
   memory = start_memory (place_of origin.programs context);
   environment = origin.environment;
 }

@@ -15,20 +15,11 @@ pub use fault::OriginFault;
 use hart_step::{Environment, Hart};
 use hashing::hash_program;
 use join_law::{Ctx, Eight};
-use paged_memory::Memory;
+use paged_memory::{Memory, TEXT_START, has_room};
 use rv64_asm::Program;
 use sha2::{Digest, Sha256};
 use std::alloc::{AllocError, Allocator, Global};
 use std::marker::Model;
-
-/// The address of the first instruction of a context.
-const START_PC: u64 = 0x10000;
-
-/// The words of 64 pages of text.
-const MOST_WORDS: usize = 64 * 1024;
-
-/// The bytes of 256 pages of data.
-const MOST_BYTES: usize = 256 * 4096;
 
 /// A program or none for each of eight contexts, and their environment. It never changes.
 #[derive(Drop)]
@@ -86,7 +77,7 @@ impl<A: Allocator> Origin<A> {
         ensures err { OnErr result (result ≡ Err OriginFault.OutOfMemory) }
     {
         match start_memory(alloc, self.programs.place(context)) {
-            Ok(memory) => Ok(Hart::new([0; 32], START_PC, memory, self.environment)),
+            Ok(memory) => Ok(Hart::new([0; 32], TEXT_START, memory, self.environment)),
             Err(_) => Err(OriginFault::OutOfMemory),
         }
     }
@@ -122,9 +113,7 @@ fn is_within_limits<A: Allocator>(program: &Option<Program<A>>) -> bool
 {
     match program {
         None => true,
-        Some(program) => {
-            program.words().len() <= MOST_WORDS && program.bytes().len() <= MOST_BYTES
-        }
+        Some(program) => has_room(program.words(), program.bytes()),
     }
 }
 

@@ -1,4 +1,5 @@
 pub mod Accesses
+pub mod Bytes
 pub mod Filled
 pub mod Listed
 pub mod Numbers

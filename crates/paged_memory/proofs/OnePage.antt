@@ -12,7 +12,7 @@ use Rattle.paged_memory.proofs.Numbers.{number_at-same}
 far : (t n q : ℕ) → IsSized t n → 0x200000 ≤ q → place_of t n (q / 4096) ≡ None
 far t n q s h = grind (arith, nat_tests)
 
-beyond : (t : ℕ) (ps : List PageValue) (q : ℕ) → IsSized t (length ps) → 0x200000 ≤ q → None ≡ cell_at t ps q
+pub beyond : (t : ℕ) (ps : List PageValue) (q : ℕ) → IsSized t (length ps) → 0x200000 ≤ q → None ≡ cell_at t ps q
 unfolding cell_at
 beyond t ps q s h = ap (cell_in t ps (q % 4096)) (sym (far t (length ps) q s h))
 
@@ -22,6 +22,11 @@ below o q n h = grind (arith, nat_tests)
 pub get-cells_of : (t : ℕ) (ps : List PageValue) (q : ℕ) → IsSized t (length ps) → get (cells_of t ps) q ≡ cell_at t ps q
 unfolding cells_of
 get-cells_of t ps q s = get-tabulated (cell_at t ps) 0x200000 q ∙ below _ q 0x200000 (beyond t ps q s)
+
+-- the cell at an address, by the place of its page
+pub get_placed : (t : ℕ) (ps : List PageValue) (a : ℕ) (o : Option ℕ) → IsSized t (length ps) → place_of t (length ps) (a / 4096) ≡ o → get (cells_of t ps) a ≡ cell_in t ps (a % 4096) o
+unfolding cell_at
+get_placed t ps a o s e = get-cells_of t ps a s ∙ ap (cell_in t ps (a % 4096)) e
 
 cell_in_page : (t : ℕ) (ps : List PageValue) (a i : ℕ) (o : Option ℕ) → place_of t (length ps) (a / 4096) ≡ o → a % 4096 + i < 4096 → cell_at t ps (a + i) ≡ cell_in t ps (a % 4096 + i) o
 unfolding cell_at

@@ -1,5 +1,7 @@
 -- The pages of a program show its start.
-use Rattle.std.proofs.Common.{◌≡◌, ℕ, ◌+◌, ◌-◌, ◌*◌, ◌/◌, ◌%◌, ◌<◌, ◌≤◌, Bool, true, false, nat_lt, nat_le, Option, Some, None, List, length, cond, ltb, arith, ap, sym, ◌∙◌, refl, inl, inr}
+use Rattle.std.proofs.Common.{◌≡◌, ℕ, ◌+◌, ◌-◌, ◌*◌, ◌/◌, ◌%◌, ◌<◌, ◌≤◌, Bool, true, false, nat_lt, nat_le, Option, Some, None, List, length, cond, ltb, arith, ap, sym, ◌∙◌, refl, subst, inl, inr}
+use Rattle.std.specs.Prelude.{slice_index}
+use Rattle.std.proofs.Math.ListN.{get_or-eq_default}
 use Rattle.std.proofs.lemmas.Bool.{cases_lt}
 use Rattle.std.proofs.lemmas.Bool.Decides.{nat_tests}
 use Rattle.std.specs.Cmp.{nat_cmp_total}
@@ -8,6 +10,7 @@ use Rattle.paged_memory.specs.Cells.{Cell}
 use Rattle.paged_memory.specs.Pages.{PageValue}
 use Rattle.paged_memory.specs.Layout.{place_of, page_in, page_bytes, address_of, cell_in, cell_at, cells_of, IsPageOf, IsSized, IsSound}
 use Rattle.paged_memory.specs.Start.{pages_for, text_byte, data_byte, start_cell, start_cells}
+use Rattle.paged_memory.proofs.Stored.{small_byte}
 use Rattle.paged_memory.proofs.Tabulated.{get-tabulated}
 use Rattle.paged_memory.proofs.OnePage.{get-cells_of}
 
@@ -16,6 +19,7 @@ pub record Starts (words content : List ℕ) (t : ℕ) (ps : List PageValue) : T
   pub few_words : length words ≤ 65536
   pub few_bytes : length content ≤ 1048576
   pub text : t ≡ pages_for (4 * length words)
+  pub content_bytes : (j : ℕ) → slice_index content j < 256
   pub total : length ps ≡ t + pages_for (length content)
   pub text_pages : (p : ℕ) → p < t → IsPageOf 0x10000 (text_byte words) p (page_in ps p)
   pub data_pages : (p : ℕ) → t ≤ p → p < length ps → IsPageOf 0x100000 (data_byte content) (p - t) (page_in ps p)
@@ -29,10 +33,17 @@ text_address t p h = grind (arith, nat_tests)
 data_address : (t p : ℕ) → t ≤ p → 0x100000 + 4096 * (p - t) ≡ address_of t p
 data_address t p h = grind (arith, nat_tests)
 
+small_page : (start p : ℕ) (content : ℕ → ℕ) (page : PageValue) → IsPageOf start content p page → ((j : ℕ) → content j < 256) → (j : ℕ) → slice_index page.bytes j < 256
+small_page start p content page is small j =
+    elim (cases_lt j 4096) [
+      | inl within ↦ subst (λ (n : ℕ). n < 256) (sym (is.bytes j within)) (small (4096 * p + j))
+      | inr beyond ↦ let none : slice_index page.bytes j ≡ 0 = get_or-eq_default page.bytes 0 (omega (arith, is.full, beyond)) in omega (arith, none)
+    ]
+
 pub started_sound : (words content : List ℕ) (t : ℕ) (ps : List PageValue) → Starts words content t ps → IsSound t ps
 started_sound words content t ps s = record {
   sized = sized words content t ps s;
-  laid_out = record { addresses = address; full = full };
+  laid_out = record { addresses = address; full = full; bytes = bytes };
 }
   where
     address : (p : ℕ) → p < length ps → (page_in ps p).address ≡ address_of t p
@@ -47,6 +58,13 @@ started_sound words content t ps s = record {
         elim (cases_lt p t) [
           | inl text ↦ (s.text_pages p text).full
           | inr beyond ↦ (s.data_pages p beyond h).full
+        ]
+
+    bytes : (p : ℕ) → p < length ps → (j : ℕ) → slice_index (page_bytes ps p) j < 256
+    bytes p h j =
+        elim (cases_lt p t) [
+          | inl text ↦ small_page 0x10000 p (text_byte words) (page_in ps p) (s.text_pages p text) (λ i. small_byte (i % 4) (slice_index words (i / 4))) j
+          | inr beyond ↦ small_page 0x100000 (p - t) (data_byte content) (page_in ps p) (s.data_pages p beyond h) s.content_bytes j
         ]
 
 -- ---- the cell at an address, by its region

@@ -1,5 +1,5 @@
 -- What a store leaves.
-use Rattle.std.proofs.Common.{◌≡◌, ◌≢◌, ℕ, zero, suc, ◌+◌, ◌-◌, ◌/◌, ◌%◌, ◌<◌, ◌≤◌, Bool, true, false, nat_le, Option, Some, None, Ok, Err, List, [], length, cond, eqb, get_or, set, arith, ap, sym, ◌∙◌, refl, inl, inr, IfSome}
+use Rattle.std.proofs.Common.{◌≡◌, ◌≢◌, ℕ, zero, suc, ◌+◌, ◌-◌, ◌/◌, ◌%◌, ◌^◌, ◌<◌, ◌≤◌, Bool, true, false, nat_le, Option, Some, None, Ok, Err, List, [], ◌∷◌, length, cond, eqb, get_or, set, arith, ap, sym, ◌∙◌, refl, subst, inl, inr, IfSome}
 use Rattle.std.proofs.lemmas.Bool.Decides.{nat_tests}
 use Rattle.std.proofs.lemmas.Grind.{common_steps}
 use Rattle.std.proofs.lemmas.Bool.{cases_eq}
@@ -24,6 +24,25 @@ use Rattle.paged_memory.specs.declared.Fault.TheVariants.{StoreAccess}
 pub length-put_number : (bytes : List ℕ) (at k v : ℕ) → length (put_number bytes at k v) ≡ length bytes
 length-put_number bytes at zero v = refl
 length-put_number bytes at (suc k) v = length-set _ _ _ ∙ length-put_number bytes at k v
+
+pub small_byte : (k v : ℕ) → byte_of_number k v < 256
+small_byte zero v = omega arith
+small_byte (suc k) v = remainder (v / 256 ^ suc k)
+  where
+    remainder : (n : ℕ) → n % 256 < 256
+    remainder n = omega arith
+
+small_set : (xs : List ℕ) (i b : ℕ) → b < 256 → ((j : ℕ) → get_or xs j 0 < 256) → (j : ℕ) → get_or (set xs i b) j 0 < 256
+small_set [] i b h small j = small j
+small_set (x ∷ xs) zero b h small zero = h
+small_set (x ∷ xs) zero b h small (suc j) = small (suc j)
+small_set (x ∷ xs) (suc i) b h small zero = small 0
+small_set (x ∷ xs) (suc i) b h small (suc j) = small_set xs i b h (λ k. small (suc k)) j
+
+-- bytes stay bytes
+small-put_number : (bytes : List ℕ) (at k v : ℕ) → ((j : ℕ) → get_or bytes j 0 < 256) → (j : ℕ) → get_or (put_number bytes at k v) j 0 < 256
+small-put_number bytes at zero v small j = small j
+small-put_number bytes at (suc k) v small j = small_set (put_number bytes at k v) (at + k) (byte_of_number k v) (small_byte k v) (small-put_number bytes at k v small) j
 
 get_or-set : (xs : List ℕ) (i j b : ℕ) → i < length xs → get_or (set xs i b) j 0 ≡ cond (eqb j i) b (get_or xs j 0)
 get_or-set xs i j b h = grind (arith, common_steps, nat_tests)
@@ -53,12 +72,13 @@ page_in-other : (ps : List PageValue) (p r : ℕ) (q : PageValue) → r ≢ p �
 page_in-other ps p r q h = grind (arith, common_steps)
 
 -- a page with other bytes, as many, leaves the list sound
-pub sound_set : (t : ℕ) (ps : List PageValue) (p : ℕ) (q : PageValue) → IsSound t ps → p < length ps → q.address ≡ (page_in ps p).address → length q.bytes ≡ length (page_bytes ps p) → IsSound t (set ps p q)
-sound_set t ps p q s l a b = record {
+pub sound_set : (t : ℕ) (ps : List PageValue) (p : ℕ) (q : PageValue) → IsSound t ps → p < length ps → q.address ≡ (page_in ps p).address → length q.bytes ≡ length (page_bytes ps p) → ((j : ℕ) → get_or q.bytes j 0 < 256) → IsSound t (set ps p q)
+sound_set t ps p q s l a b small = record {
   sized = rw length-set s.sized;
   laid_out = record {
     addresses = λ r h. address r (omega (arith, h, length-set ps p q));
     full = λ r h. full r (omega (arith, h, length-set ps p q));
+    bytes = λ r h j. bytes r (omega (arith, h, length-set ps p q)) j;
   };
 }
   where
@@ -74,6 +94,13 @@ sound_set t ps p q s l a b = record {
         elim (cases_eq r p) [
           | inl same ↦ rw same (ap (λ x. length x.bytes) (page_in-same ps p q l) ∙ b ∙ s.laid_out.full p l)
           | inr other ↦ ap (λ x. length x.bytes) (page_in-other ps p r q other) ∙ s.laid_out.full r h
+        ]
+
+    bytes : (r : ℕ) → r < length ps → (j : ℕ) → get_or (page_bytes (set ps p q) r) j 0 < 256
+    bytes r h j =
+        elim (cases_eq r p) [
+          | inl same ↦ rw same (subst (λ (x : PageValue). get_or x.bytes j 0 < 256) (sym (page_in-same ps p q l)) (small j))
+          | inr other ↦ subst (λ (x : PageValue). get_or x.bytes j 0 < 256) (sym (page_in-other ps p r q other)) (s.laid_out.bytes r h j)
         ]
 
 -- ---- cell by cell
@@ -163,7 +190,7 @@ store_ok t ps qs a v p w s e d l m is =
 
 pub store_sound : (t : ℕ) (ps qs : List PageValue) (at k v p : ℕ) → IsSound t ps → p < length ps → qs ≡ set ps p (put_in ps p at k v) → IsSound t qs
 store_sound t ps qs at k v p s l is =
-    rw is (sound_set t ps p (put_in ps p at k v) s l refl (length-put_number (page_bytes ps p) at k v))
+    rw is (sound_set t ps p (put_in ps p at k v) s l refl (length-put_number (page_bytes ps p) at k v) (small-put_number (page_bytes ps p) at k v (s.laid_out.bytes p l)))
 
 not_writable : (t : ℕ) (ps : List PageValue) (at : ℕ) (o : Option ℕ) → IfSome o (λ p. p < t) → is_writable (rights_of (cell_in t ps at o)) ≡ false
 not_writable t ps at None h = refl

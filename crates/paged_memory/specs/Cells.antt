@@ -1,7 +1,7 @@
 -- The memory map: a finite map from addresses to a byte and its rights, and what a fetch, a load
 -- and a store do with it. The source is the RISC-V Unprivileged ISA 20191213: 1.4 (memory is one
 -- space of bytes), 1.5 (instructions stand least byte first), 2.6 and 5.3 (load and store).
-use Rattle.std.specs.Prelude.{ℕ, zero, suc, ◌+◌, ◌*◌, ◌%◌, Bool, true, false, ◌&&◌, ◌==◌, nat_lt, nat_le, if◌then◌else◌, Option, Some, None, Result, Ok, Err, refl}
+use Rattle.std.specs.Prelude.{◌≡◌, ℕ, zero, suc, ◌+◌, ◌*◌, ◌%◌, ◌^◌, ◌<◌, ◌≤◌, Bool, true, false, ◌&&◌, ◌==◌, nat_lt, nat_le, if◌then◌else◌, Option, Some, None, Result, Ok, Err, refl}
 use Rattle.std.specs.Ordering.{nat_cmp}
 use Rattle.std.specs.FinMap.{FinMap, get, insert}
 use Rattle.std.specs.Int.{byte_at as byte_of_number}
@@ -38,6 +38,11 @@ byte_of (Some c) = c.byte
 -- the byte at an address, 0 where none is mapped
 abbrev pub byte_at : Cells → ℕ → ℕ
 byte_at m x = byte_of (get m x)
+
+-- a byte has 8 bits, and an address 64: 1.4 and 5.1
+pub record IsByteMap (m : Cells) : Type 0 where
+  pub below : (x : ℕ) → byte_at m x < 256
+  pub addressed : (x : ℕ) → 2 ^ 64 ≤ x → byte_at m x ≡ 0
 
 -- the number that so many bytes from an address upward spell, least first
 unfoldable pub number_at : (ℕ → ℕ) → ℕ → ℕ → ℕ

@@ -4,6 +4,7 @@ use Rattle.std.specs.Int.{byte_at as byte_of_number}
 use Rattle.paged_memory.specs.Cells.{Cell, Cells}
 use Rattle.paged_memory.specs.Table.{tabulated}
 use Rattle.paged_memory.specs.Pages.{PageValue}
+use Rattle.paged_memory.specs.Regions.{text_start, data_start}
 
 -- ---- where each page is
 
@@ -15,15 +16,22 @@ page_in pages p = slice_index_or pages p (record { address = 0; bytes = [] })
 abbrev pub page_bytes : List PageValue → ℕ → List ℕ
 page_bytes pages p = (page_in pages p).bytes
 
--- the address of the page at a place, where so many are text: text from 0x10000, data from 0x100000
+-- the numbers of the first text page and of the first data page: their addresses divided by 4096
+abbrev pub first_text : ℕ
+first_text = text_start / 4096
+
+abbrev pub first_data : ℕ
+first_data = data_start / 4096
+
+-- the address of the page at a place, where so many are text
 abbrev pub address_of : ℕ → ℕ → ℕ
-address_of text p = if nat_lt p text then 4096 * (16 + p) else 4096 * (256 + (p - text))
+address_of text p = if nat_lt p text then 4096 * (first_text + p) else 4096 * (first_data + (p - text))
 
 -- the place of the page with a number, which is its address divided by 4096
 abbrev pub place_of : ℕ → ℕ → ℕ → Option ℕ
 place_of text total number =
-    if nat_le 16 number && nat_lt number (16 + text) then Some (number - 16)
-    else (if nat_le 256 number && nat_lt number (256 + (total - text)) then Some (text + (number - 256))
+    if nat_le first_text number && nat_lt number (first_text + text) then Some (number - first_text)
+    else (if nat_le first_data number && nat_lt number (first_data + (total - text)) then Some (text + (number - first_data))
     else None)
 
 -- ---- what every memory keeps
@@ -34,10 +42,11 @@ pub record IsSized (text total : ℕ) : Type 0 where
   pub text_first : text ≤ total
   pub few_data : total ≤ text + 256
 
--- every page has its address, and 4096 bytes
+-- every page has its address, and 4096 bytes of 8 bits
 pub record IsLaidOut (text : ℕ) (pages : List PageValue) : Type 0 where
   pub addresses : (p : ℕ) → p < length pages → (page_in pages p).address ≡ address_of text p
   pub full : (p : ℕ) → p < length pages → length (page_bytes pages p) ≡ 4096
+  pub bytes : (p : ℕ) → p < length pages → (j : ℕ) → slice_index (page_bytes pages p) j < 256
 
 -- and both together
 pub record IsSound (text : ℕ) (pages : List PageValue) : Type 0 where

@@ -1,4 +1,5 @@
 pub mod Cells
+pub mod Regions
 pub mod Stored
 pub mod Layout
 pub mod Pages

@@ -1,24 +1,27 @@
 //! The memory of one context: pages of 4096 bytes, each with its rights.
 //!
-//! Text pages begin at 0x10000 and may be read and executed. Data pages begin at 0x100000 and may
-//! be read and written. The set of pages is fixed when the memory is made. A contract sees a memory
-//! as a finite map from addresses to a byte and its rights.
+//! Text pages begin at `TEXT_START` and may be read and executed. Data pages begin at `DATA_START`
+//! and may be read and written. The set of pages is fixed when the memory is made. A contract sees a
+//! memory as a finite map from addresses to a byte and its rights.
 #![tactic(auto)]
 
 mod page;
 mod place;
 mod reading;
+mod regions;
 mod starting;
 mod writing;
 
 ghost use Rattle.std.specs.Prelude.{◌≡◌, ℕ, ◌≤◌, ◌%◌, length, IfOk, IfErr, OnOk, Ok, Err};
-ghost use Rattle.paged_memory.specs.Cells.{bytes_of, fetch_of, load_of, store_of};
+ghost use Rattle.paged_memory.specs.Cells.{byte_at, bytes_of, fetch_of, load_of, store_of, IsByteMap};
 ghost use Rattle.paged_memory.specs.Pages.{pages_of};
+ghost use Rattle.paged_memory.specs.Regions.{most_bytes, most_words};
 ghost use Rattle.paged_memory.specs.Start.{start_cells};
 ghost use Rattle.paged_memory.specs.Stored.{IsStored};
 ghost use Rattle.std.specs.Result.{result_err};
 
 pub use page::Page;
+pub use regions::{DATA_START, MOST_BYTES, MOST_WORDS, TEXT_START, has_room};
 use std::alloc::{AllocError, Allocator, Global};
 use std::marker::Model;
 
@@ -29,6 +32,21 @@ pub enum Width {
     Half,
     Word,
     Double,
+}
+
+impl Width {
+    /// How many bytes it is.
+    #[inline]
+    pub fn bytes(self) -> u8
+        ensures { result ≡ bytes_of self }
+    {
+        match self {
+            Width::Byte => 1,
+            Width::Half => 2,
+            Width::Word => 4,
+            Width::Double => 8,
+        }
+    }
 }
 
 /// Why an access is refused.
@@ -71,15 +89,16 @@ impl<A: Allocator> Model for Memory<A> {
 }
 
 impl<A: Allocator> Memory<A> {
-    /// The memory of a program before its first step: its text words from 0x10000 on, least byte
-    /// first, and its data bytes from 0x100000 on. The rest of a last page is 0.
+    /// The memory of a program before its first step: its text words from `TEXT_START` on, least
+    /// byte first, and its data bytes from `DATA_START` on. The rest of a last page is 0. `has_room`
+    /// tells whether a program is small enough.
     ///
     /// # Errors
     ///
     /// Want of memory (M6), where a growth was refused.
     pub fn new(alloc: A, words: &[u32], bytes: &[u8]) -> Result<Self, AllocError>
-        requires words { length words.now ≤ 65536 }
-        requires bytes { length bytes.now ≤ 1048576 }
+        requires words { length words.now ≤ most_words }
+        requires bytes { length bytes.now ≤ most_bytes }
         ensures { IfOk result (λ m. m ≡ start_cells words.now bytes.now) }
     {
         let (text, pages) = starting::start_pages(alloc, words, bytes)?;
@@ -120,6 +139,16 @@ impl<A: Allocator> Memory<A> {
         ensures { result ≡ fetch_of self.now address }
     {
         reading::fetch(&self.pages, self.text, address)
+    }
+
+    /// The byte at an address, 0 where none is mapped. Each byte of a memory is below 256, and none
+    /// is mapped past the last address of 64 bits.
+    #[inline]
+    pub fn byte(&self, address: u64) -> u8
+        ensures value { result ≡ byte_at self.now address }
+        ensures bytes { IsByteMap self.now }
+    {
+        reading::byte(&self.pages, self.text, address)
     }
 
     /// The number of so many bytes at an address, least first, extended by zeros.

@@ -1,6 +1,6 @@
 //! A page: its address and its 4096 bytes.
 
-ghost use Rattle.std.specs.Prelude.{◌≡◌, ◌+◌, ◌≤◌, replicate, slice_index};
+ghost use Rattle.std.specs.Prelude.{◌≡◌, ◌+◌, ◌<◌, ◌≤◌, replicate, slice_index};
 ghost use Rattle.paged_memory.specs.Cells.{bytes_of, number_at};
 ghost use Rattle.paged_memory.specs.Layout.{put_number};
 
@@ -50,6 +50,15 @@ impl Page {
         ensures { result.now ≡ self.now.bytes }
     {
         &self.bytes
+    }
+
+    /// The byte at an offset.
+    #[inline]
+    pub(crate) fn byte(&self, offset: usize) -> u8
+        requires { offset < 4096 }
+        ensures { result ≡ slice_index self.now.bytes offset }
+    {
+        self.bytes[offset]
     }
 
     /// The word at an offset.

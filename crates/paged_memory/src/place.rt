@@ -4,7 +4,7 @@ ghost use Rattle.std.specs.Prelude.{◌≡◌, ◌-◌, ◌<◌, ◌≤◌, ◌/
 ghost use Rattle.paged_memory.specs.Cells.{bytes_of};
 ghost use Rattle.paged_memory.specs.Layout.{place_of, IsSized};
 
-use crate::Width;
+use crate::{DATA_START, TEXT_START, Width};
 
 /// The bits that are 0 in each multiple of a width. A table and not a choice of paths, so that a
 /// width that is known only when it runs costs no branch.
@@ -48,7 +48,7 @@ pub fn find_text(text: usize, total: usize, address: u64) -> Option<usize>
     ensures found { IfSome result (λ p. (place_of text total (address / 4096) ≡ Some p) × (p < text)) }
     ensures missing { IfNone result (IfSome (place_of text total (address / 4096)) (λ p. text ≤ p)) }
 {
-    let from_text = (address / 4096).wrapping_sub(0x10);
+    let from_text = (address / 4096).wrapping_sub(TEXT_START / 4096);
     if from_text < text as u64 {
         Some(from_text as usize)
     } else {
@@ -64,7 +64,7 @@ pub fn find_data(text: usize, total: usize, address: u64) -> Option<usize>
         (place_of text total (address / 4096) ≡ Some p) × (text ≤ p) × (p < total)) }
     ensures missing { IfNone result (IfSome (place_of text total (address / 4096)) (λ p. p < text)) }
 {
-    let from_data = (address / 4096).wrapping_sub(0x100);
+    let from_data = (address / 4096).wrapping_sub(DATA_START / 4096);
     if from_data < (total - text) as u64 {
         Some(text + from_data as usize)
     } else {

@@ -1,7 +1,7 @@
-//! Fetches and loads over the list of pages. An aligned access lies within one page.
+//! Fetches, bytes and loads over the list of pages. An aligned access lies within one page.
 
 ghost use Rattle.std.specs.Prelude.{◌≡◌, ◌%◌, length};
-ghost use Rattle.paged_memory.specs.Cells.{bytes_of, fetch_of, load_of};
+ghost use Rattle.paged_memory.specs.Cells.{byte_at, bytes_of, fetch_of, load_of};
 ghost use Rattle.paged_memory.specs.Layout.{cells_of, IsSized};
 
 use crate::place::{find, find_text, is_aligned};
@@ -18,6 +18,18 @@ pub fn fetch(pages: &[Page], text: usize, address: u64) -> Result<u32, Fault>
         return Err(Fault::FetchAccess);
     };
     Ok(pages[place].word((address % 4096) as usize))
+}
+
+/// The byte at an address, 0 where none is mapped.
+#[inline]
+pub fn byte(pages: &[Page], text: usize, address: u64) -> u8
+    requires { IsSized text (length pages.now) }
+    ensures { result ≡ byte_at (cells_of text pages.now) address }
+{
+    match find(text, pages.len(), address) {
+        Some(place) => pages[place].byte((address % 4096) as usize),
+        None => 0,
+    }
 }
 
 /// The number of a width at an address.

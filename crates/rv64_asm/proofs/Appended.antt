@@ -1,5 +1,5 @@
 -- What each kind of item puts behind the words and bytes that are there.
-use Rattle.std.proofs.Common.{◌≡◌, ℕ, ◌+◌, ◌-◌, List, [], ◌∷◌, ◌++◌, take, replicate, refl, sym, ◌∙◌, append-nil, arith}
+use Rattle.std.proofs.Common.{◌≡◌, ℕ, ◌+◌, ◌-◌, ◌<◌, ◌^◌, List, [], ◌∷◌, ◌++◌, take, replicate, refl, sym, ◌∙◌, append-nil, arith}
 use Rattle.std.specs.Int.{to_le_bytes, w64}
 use Rattle.rv64_decode.specs.declared.insn.Insn.{Insn}
 use Rattle.rv64_decode.specs.declared.insn.StoreWidth.{StoreWidth}
@@ -19,11 +19,11 @@ module _ (item : Item) (words new_words bytes new_bytes : List ℕ) where
     bytes_grow = sym (append-nil bytes);
   })
 
-  pub an_instruction : (insn : Insn) (word : ℕ) → item ≡ Instruction insn → Spells word insn → new_words ≡ words ++ word ∷ [] → Appends item words new_words bytes bytes
-  an_instruction insn word e spells grow = rw e (record {
+  pub an_instruction : (insn : Insn) (word : ℕ) → item ≡ Instruction insn → word < 2 ^ 32 → Spells word insn → new_words ≡ words ++ word ∷ [] → Appends item words new_words bytes bytes
+  an_instruction insn word e fits spells grow = rw e (record {
     piece_words = word ∷ [];
     piece_bytes = [];
-    is_piece = (word, refl, spells, refl);
+    is_piece = (word, refl, fits, spells, refl);
     words_grow = grow;
     bytes_grow = sym (append-nil bytes);
   })

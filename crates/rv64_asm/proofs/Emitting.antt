@@ -20,7 +20,7 @@ use Rattle.rv64_asm.specs.Label.{Label}
 use Rattle.rv64_asm.specs.Numbers.{◌>>=◌}
 use Rattle.rv64_asm.specs.Statements.{line_of, label_of}
 use Rattle.rv64_asm.specs.Places.{Layout, next_place, address, after, after_item, further, bytes_in, is_twice}
-use Rattle.rv64_asm.specs.Written.{resolve, target_address, offset_in, distance, item_of, IsPiece, StandsAt, IsWritten, place_of_line}
+use Rattle.rv64_asm.specs.Written.{resolve, offset_to, item_of, IsPiece, StandsAt, IsWritten, place_of_line}
 use Rattle.rv64_asm.specs.Passes.{emit}
 
 -- what stands keeps standing where more is put behind
@@ -61,7 +61,7 @@ stayed : (p q : Place) → Some p ≡ Some q → (q.words ≡ p.words + 0) × (q
 stayed p q e = let f : q ≡ p = cc in (omega (arith, ap (λ (r : Place). r.words) f), omega (arith, ap (λ (r : Place). r.bytes) f))
 
 -- a place moves on by what an item has
-abbrev Grows : Place → Place → List ℕ → List ℕ → Type 0
+abbrev pub Grows : Place → Place → List ℕ → List ℕ → Type 0
 Grows p q words bytes = (q.words ≡ p.words + length words) × (q.bytes ≡ p.bytes + length bytes)
 
 grown : (p q : Place) (m n : ℕ) (words bytes : List ℕ) → (q.words ≡ p.words + m) × (q.bytes ≡ p.bytes + n) → length words ≡ m → length bytes ≡ n → Grows p q words bytes
@@ -75,19 +75,15 @@ number_length widths.Double n = refl
 
 item_grows : (p q : Place) (item : Item) (words bytes : List ℕ) → after_item p item ≡ Some q → IsPiece item words bytes → Grows p q words bytes
 item_grows p q Nothing words bytes e h = grown p q 0 0 words bytes (stayed p q e) (ap length h.0) (ap length h.1)
-item_grows p q (Instruction insn) words bytes e h = grown p q 1 0 words bytes (moved p q 1 0 e) (ap length h.1) (ap length h.3)
+item_grows p q (Instruction insn) words bytes e h = grown p q 1 0 words bytes (moved p q 1 0 e) (ap length h.1) (ap length h.4)
 item_grows p q (Word bits) words bytes e h = grown p q 1 0 words bytes (moved p q 1 0 e) (ap length h.0) (ap length h.1)
 item_grows p q (Number width bits) words bytes e h = grown p q 0 (bytes_in width) words bytes (moved p q 0 (bytes_in width) e) (ap length h.0) (ap length h.1 ∙ number_length width bits)
 item_grows p q (Zeros count) words bytes e h = grown p q 0 count words bytes (moved p q 0 count e) (ap length h.0) (ap length h.1 ∙ length-replicate count 0)
 
 -- a target that is found gives an instruction
-an_insn : (a : Result ℕ LineFault) (f : ℕ → Result ℤ LineFault) (insn : ℤ → Insn) (item : Item) → (a >>= λ x. (f x >>= λ o. Ok (Instruction (insn o)))) ≡ Ok item → (i : Insn) × (item ≡ Instruction i)
-an_insn (Err e) f insn item h = absurd cc
-an_insn (Ok x) f insn item h = by (f x) h
-  where
-    by : (o : Result ℤ LineFault) → (o >>= λ z. Ok (Instruction (insn z))) ≡ Ok item → (i : Insn) × (item ≡ Instruction i)
-    by (Err e) g = absurd cc
-    by (Ok z) g = (insn z, cc)
+an_insn : (offset : Result ℤ LineFault) (insn : ℤ → Insn) (item : Item) → (offset >>= λ z. Ok (Instruction (insn z))) ≡ Ok item → (i : Insn) × (item ≡ Instruction i)
+an_insn (Err e) insn item h = absurd cc
+an_insn (Ok z) insn item h = (insn z, cc)
 
 insn_grows : (p q : Place) (item : Item) (insn : Insn) (words bytes : List ℕ) → item ≡ Instruction insn → further p 1 0 ≡ Some q → IsPiece item words bytes → Grows p q words bytes
 insn_grows p q item insn words bytes i e h = item_grows p q (Instruction insn) words bytes e (rw i at h)
@@ -98,10 +94,10 @@ unfolding resolve
 statement_grows labels pc (Enter part) item p q words bytes r e h = let f : item ≡ Nothing = cc in item_grows (record p { part = part }) q Nothing words bytes e (rw f at h)
 statement_grows labels pc (Give given) item p q words bytes r e h = let f : given ≡ item = cc in item_grows p q item words bytes (rw f at e) h
 statement_grows labels pc (Branch condition rs1 rs2 target) item p q words bytes r e h =
-    let i = an_insn (target_address labels target) (λ a. offset_in (negsuc 4095) (pos 4094) (distance pc a)) (λ o. insns.Branch condition rs1 rs2 o) item r in
+    let i = an_insn (offset_to labels pc (negsuc 4095) (pos 4094) target) (λ o. insns.Branch condition rs1 rs2 o) item r in
     insn_grows p q item i.0 words bytes i.1 e h
 statement_grows labels pc (Jump rd target) item p q words bytes r e h =
-    let i = an_insn (target_address labels target) (λ a. offset_in (negsuc 1048575) (pos 1048574) (distance pc a)) (λ o. insns.Jal rd o) item r in
+    let i = an_insn (offset_to labels pc (negsuc 1048575) (pos 1048574) target) (λ o. insns.Jal rd o) item r in
     insn_grows p q item i.0 words bytes i.1 e h
 
 -- what a line gave, in its parts

@@ -1,5 +1,5 @@
 -- Forms of operands that are written are read again.
-use Rattle.std.proofs.Common.{◌≡◌, ℕ, ◌<◌, ◌≤◌, ◌^◌, ◌-◌, ◌==◌, true, false, List, [], ◌∷◌, ◌++◌, length, Some, Ok, codes, ℤ, refl, arith, ltb}
+use Rattle.std.proofs.Common.{◌≡◌, ℕ, ◌<◌, ◌≤◌, ◌^◌, ◌-◌, ◌==◌, Bool, true, false, List, [], ◌∷◌, ◌++◌, length, Some, Ok, codes, ℤ, refl, arith, ltb}
 use Rattle.std.specs.List.{list_all, position_or_len}
 use Rattle.std.specs.Fmt.{decimal, signed_decimal}
 use Rattle.std.proofs.Math.Seq.{take-append_seam, drop-append-add}
@@ -33,14 +33,14 @@ pub upper_form : (d n : ℕ) → d < 32 → n < 1048576 → with_upper (Two (reg
 unfolding with_upper
 upper_form d n h i = rw (register_read d h, natural_read 1048575 n (hex n) (hex_read n (omega arith)) (omega arith)) refl
 
--- cut at the mark that a bare text ends with
-cut_at : (mark : ℕ) (w more : List ℕ) → list_all bare w ≡ true → ((b : ℕ) → bare b ≡ true → (b == mark) ≡ false) → (mark == mark) ≡ true → cut mark (w ++ mark ∷ more) ≡ Some (w, more)
-cut_at mark w more h f same =
-    let at : position_or_len (λ b. b == mark) (w ++ mark ∷ more) ≡ length w = first_at bare (λ b. b == mark) f w mark more h same in
+-- cut at a mark that does not stand before
+pub cut_at : (p : ℕ → Bool) (mark : ℕ) (w more : List ℕ) → list_all p w ≡ true → ((b : ℕ) → p b ≡ true → (b == mark) ≡ false) → (mark == mark) ≡ true → cut mark (w ++ mark ∷ more) ≡ Some (w, more)
+cut_at p mark w more h f same =
+    let at : position_or_len (λ b. b == mark) (w ++ mark ∷ more) ≡ length w = first_at p (λ b. b == mark) f w mark more h same in
     let within : ltb (length w) (length (w ++ mark ∷ more)) ≡ true = lt-ltb (length w) (length (w ++ mark ∷ more)) (omega (arith, length-append w (mark ∷ more))) in
     rw (at, within, take-append_seam w (mark ∷ more), drop-append-add w (mark ∷ more) 1) refl
 
-no_open : (b : ℕ) → bare b ≡ true → (b == 40) ≡ false
+pub no_open : (b : ℕ) → bare b ≡ true → (b == 40) ≡ false
 no_open b h = grind (arith, common_steps)
 
 no_shut : (b : ℕ) → bare b ≡ true → (b == 41) ≡ false
@@ -49,8 +49,8 @@ no_shut b h = grind (arith, common_steps)
 place_read : (z : ℤ) (r : ℕ) → IsImmediate z → r < 32 → place_of (place z r) ≡ Ok (r, z)
 unfolding place_of
 place_read z r h i =
-    let outer : cut 40 (place z r) ≡ Some (signed_decimal z, register_text r ++ codes ")") = cut_at 40 (signed_decimal z) (register_text r ++ codes ")") (bare_signed z (immediate_small z h)) no_open refl in
-    let within : cut 41 (register_text r ++ codes ")") ≡ Some (register_text r, []) = cut_at 41 (register_text r) [] (bare_reg r i) no_shut refl in
+    let outer : cut 40 (place z r) ≡ Some (signed_decimal z, register_text r ++ codes ")") = cut_at bare 40 (signed_decimal z) (register_text r ++ codes ")") (bare_signed z (immediate_small z h)) no_open refl in
+    let within : cut 41 (register_text r ++ codes ")") ≡ Some (register_text r, []) = cut_at bare 41 (register_text r) [] (bare_reg r i) no_shut refl in
     rw (outer, within, register_read r i, immediate_read z h) refl
 
 pub place_form : (d r : ℕ) (z : ℤ) → d < 32 → r < 32 → IsImmediate z → with_place (Two (register_text d) (place z r)) ≡ Ok (d, r, z)

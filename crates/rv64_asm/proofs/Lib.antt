@@ -4,6 +4,8 @@ pub mod Turns
 pub mod Emitting
 pub mod Refusals
 pub mod Writes
+pub mod Determined
+pub mod Outcomes
 pub mod Appended
 pub mod Fences
 pub mod Plain
@@ -13,3 +15,6 @@ pub mod Forms
 pub mod HexWords
 pub mod NameKinds
 pub mod Tables
+pub mod PseudoInstructions
+pub mod OneLine
+pub mod Laws

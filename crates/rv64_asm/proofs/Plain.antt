@@ -2,6 +2,7 @@
 use Rattle.std.proofs.Common.{◌≡◌, ℕ, suc, ◌<◌, ◌==◌, ◌||◌, ◌&&◌, not, Bool, true, false, List, [], ◌∷◌, ◌++◌, reverse, length, Option, None, Result, refl, sym, ap, ◌∙◌, arith, ltb, nat_le, append_assoc, append-nil}
 use Rattle.std.specs.List.{list_all, slice_split, position_or_len}
 use Rattle.std.specs.Option.{ok_or}
+use Rattle.std.specs.Str.Lines.{lines}
 use Rattle.std.proofs.lemmas.Bool.{and_parts}
 use Rattle.std.proofs.lemmas.List.{reverse-reverse, reverse-append, length-reverse}
 use Rattle.std.proofs.lemmas.List.Folds.{list_all-append}
@@ -123,6 +124,17 @@ unsplit : (text : List ℕ) → list_all inner text ≡ true → trim text ≡ t
 unfolding split_line
 unsplit text h e = rw (unmarked text h, e, no_cut text h) refl
 
+-- a text without a line feed is one line
+no_feed : (b : ℕ) → inner b ≡ true → (b == 10) ≡ false
+no_feed b h = grind (arith, common_steps)
+
+unfed : (text : List ℕ) → list_all inner text ≡ true → slice_split (λ b. b == 10) text ≡ text ∷ []
+unfed [] h = refl
+unfed (b ∷ bs) h = let g = and_parts (inner b) (list_all inner bs) h in rw (no_feed b g.0, unfed bs g.1) refl
+
+single_line : (text : List ℕ) → list_all inner text ≡ true → (length text == 0) ≡ false → lines text ≡ text ∷ []
+single_line text marks some = rw (unfed text marks, some) refl
+
 -- the word ends at the first blank, and the operands begin behind it
 word_is : (name a more : List ℕ) → IsPlain name → IsPlain a → word_of (name ++ 32 ∷ (a ++ more)) ≡ (name, a ++ more)
 word_is name a more h k =
@@ -173,8 +185,9 @@ inner_plain w h = each plain inner is_inner w h.bytes
 abbrev pub statement_by : Part → List ℕ → List (List ℕ) → Result (Statement (List ℕ)) LineFault
 statement_by part name os = ok_or (kind_of name) UnknownWord >>= λ kind. statement_of part kind (shape_of os)
 
--- a line read back: without a label, and with this statement
+-- a text read back: one line without a label, and with this statement
 pub record Reads (text : List ℕ) (part : Part) (name : List ℕ) (os : List (List ℕ)) : Type 0 where
+  pub one_line : lines text ≡ text ∷ []
   pub unlabelled : label_of text ≡ None
   pub said : line_of part text ≡ statement_by part name os
 
@@ -186,6 +199,7 @@ reads text part name args os marks trimmed some word ops =
     let rest : (word_of text).1 ≡ args = ap (λ (x : List ℕ × List ℕ). x.1) word in
     let body : body_of part text ≡ statement_by part name os = rw (some, first, rest, ops) refl in
     record {
+      one_line = single_line text marks some;
       unlabelled = ap (λ (x : Option (List ℕ) × List ℕ). x.0) split;
       said = ap (λ (x : Option (List ℕ) × List ℕ). body_of part x.1) split ∙ body;
     }

@@ -31,8 +31,10 @@ use Rattle.rv64_asm.proofs.NameKinds.{IsNamed, named, condition_named, load_name
 gives_it : (text name : List ℕ) (os : List (List ℕ)) (insn : Insn) (pc : ℕ) → Reads text Text name os → statement_by Text name os ≡ Ok (Give (Instruction insn)) → Rereads text insn pc
 unfolding resolve
 gives_it text name os insn pc r e = record {
+  one_line = r.one_line;
   unlabelled = r.unlabelled;
   item = Instruction insn;
+  takes_word = λ p. refl;
   is_item = λ labels. rw (r.said ∙ e) refl;
   same_word = λ ws bs h. h;
 }
@@ -40,8 +42,10 @@ gives_it text name os insn pc r e = record {
 -- a line whose target is the address at an offset gives the instruction with that offset
 goes_to : (text name : List ℕ) (os : List (List ℕ)) (statement : Statement (List ℕ)) (insn : Insn) (pc : ℕ) → Reads text Text name os → statement_by Text name os ≡ Ok statement → ((labels : List Label) → resolve labels pc statement ≡ Ok (Instruction insn)) → Rereads text insn pc
 goes_to text name os statement insn pc r e f = record {
+  one_line = r.one_line;
   unlabelled = r.unlabelled;
   item = Instruction insn;
+  takes_word = λ p. refl;
   is_item = λ labels. rw (r.said ∙ e) (f labels);
   same_word = λ ws bs h. h;
 }
@@ -115,10 +119,12 @@ any_fence rd rs1 bits pc h i j =
     let r = one_reads Text (codes ".word") (codes "0x" ++ hex_word w) name.word (plain_hex_word w) in
     let e : statement_by Text (codes ".word") ((codes "0x" ++ hex_word w) ∷ []) ≡ Ok (Give (Word w)) = rw (word_read w fits) refl in
     record {
+      one_line = r.one_line;
       unlabelled = r.unlabelled;
       item = Word w;
+      takes_word = λ p. refl;
       is_item = λ labels. rw (r.said ∙ e) refl;
-      same_word = λ ws bs p. (w, p.0, fence_spelled rd rs1 bits h i j, p.1);
+      same_word = λ ws bs p. (w, p.0, fits, fence_spelled rd rs1 bits h i j, p.1);
     }
 
 fence_line : (rd rs1 bits pc : ℕ) → rd < 32 → rs1 < 32 → bits < 4096 → (full : Bool) → is_full_fence rd rs1 bits ≡ full → Rereads (cond full (codes "fence") (codes ".word 0x" ++ hex_word (fence_word rd rs1 bits))) (insns.Fence rd rs1 bits) pc

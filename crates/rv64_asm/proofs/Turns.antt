@@ -1,5 +1,5 @@
 -- One line more.
-use Rattle.std.proofs.Common.{◌≡◌, ℕ, ◌<◌, ◌+◌, List, [], ◌∷◌, ◌++◌, length, get_or, take, Option, Some, None, Ok, Err, refl, sym, ap, ◌∙◌, below_more}
+use Rattle.std.proofs.Common.{◌≡◌, ℕ, ◌<◌, ◌+◌, List, [], ◌∷◌, ◌++◌, length, get_or, take, Option, Some, None, Result, Ok, Err, refl, sym, ap, ◌∙◌, below_more}
 use Rattle.std.specs.List.{slice_get}
 use Rattle.std.specs.Result.{result_unwrap_or, result_err}
 use Rattle.std.proofs.lemmas.List.{take_more}
@@ -8,8 +8,8 @@ use Rattle.std.proofs.lemmas.Option.{slice_get_read}
 use Rattle.rv64_asm.specs.declared.fault.LineFault.{LineFault}
 use Rattle.rv64_asm.specs.declared.place.Place.{Place}
 use Rattle.rv64_asm.specs.Label.{Label}
-use Rattle.rv64_asm.specs.Statements.{label_of}
-use Rattle.rv64_asm.specs.Places.{Layout, behind, start, step, next_place, with_label, address, HasFault, StandBelow, IsLowestFault}
+use Rattle.rv64_asm.specs.Statements.{split_line, label_of}
+use Rattle.rv64_asm.specs.Places.{Layout, behind, start, step, place_after, next_place, with_label, address, HasFault, StandBelow, IsLowestFault}
 
 module _ (all : List (List ℕ)) (n : ℕ) (x : List ℕ) (within : n < length all) (is : x ≡ get_or all n x) where
   taken : take (n + 1) all ≡ take n all ++ x ∷ []
@@ -32,6 +32,14 @@ module _ (all : List (List ℕ)) (n : ℕ) (x : List ℕ) (within : n < length a
 
   pub lowest : (s : Layout) → behind (take n all) ≡ s → StandBelow all n → (fault : LineFault) → result_err (next_place s x) ≡ Some fault → IsLowestFault all fault n
   lowest s so_far below fault e = record { stand = below; has_fault = here s (Some fault) so_far e }
+
+-- the place behind a line, from its label and what stands behind that
+pub next_is : (s : Layout) (line : List ℕ) (label : Option (List ℕ)) (body : List ℕ) (r : Result Place LineFault) → (label, body) ≡ split_line line → r ≡ place_after s label body → next_place s line ≡ r
+unfolding next_place
+next_is s line label body r split e =
+    let l : label ≡ (split_line line).0 = ap (λ (x : Option (List ℕ) × List ℕ). x.0) split in
+    let b : body ≡ (split_line line).1 = ap (λ (x : Option (List ℕ) × List ℕ). x.1) split in
+    rw (← l, ← b) (sym e)
 
 pub stepped : (s : Layout) (x : List ℕ) (next : Place) (labels : List Label) → next_place s x ≡ Ok next → labels ≡ with_label s.labels (address s.place) (label_of x) → step s x ≡ Ok (record { place = next; labels = labels })
 stepped s x next labels e f = rw (e, f) refl

@@ -14,7 +14,8 @@ use Rattle.rv64_asm.specs.Assembled.{IsTargetFault}
 use Rattle.rv64_asm.proofs.Turns.{behind_more, line_here, stepped}
 use Rattle.rv64_asm.proofs.Emitting.{stands_new, written_on, statement_grows, emitted, goes, target_fault, item_is}
 
-ok_of : (r : Result Place LineFault) → result_err r ≡ None → (next : Place) × (r ≡ Ok next)
+-- a result without a fault has a value
+pub ok_of : (r : Result Place LineFault) → result_err r ≡ None → (next : Place) × (r ≡ Ok next)
 ok_of (Ok next) e = (next, refl)
 ok_of (Err fault) e = absurd cc
 

@@ -3,12 +3,14 @@ pub mod Label
 pub mod Lexing
 pub mod Numbers
 pub mod ProgramValue
+pub mod Limits
 pub mod Words
 pub mod Statements
 pub mod Places
 pub mod Assembled
 pub mod Written
 pub mod Shown
+pub mod SameLines
 pub mod LabelIter
 pub mod Returned
 pub mod Passes

@@ -2,6 +2,7 @@
 use Rattle.std.specs.Prelude.{◌≡◌, ℕ, ◌+◌, ◌*◌, ◌<◌, ◌≤◌, ◌||◌, Bool, false, List, [], ◌∷◌, ◌++◌, take, fold, nat_lt, if◌then◌else◌, Option, Some, None, is_some, Result, Ok, Err, slice_get}
 use Rattle.std.specs.Option.{ok_or}
 use Rattle.std.specs.Result.{result_unwrap_or, result_err}
+use Rattle.paged_memory.specs.Regions.{text_start, data_start, most_words, most_bytes}
 use Rattle.rv64_decode.specs.declared.insn.StoreWidth.{StoreWidth}
 use Rattle.rv64_decode.specs.declared.insn.StoreWidth.TheVariants as widths
 use Rattle.rv64_asm.specs.declared.fault.LineFault.{LineFault}
@@ -15,24 +16,24 @@ use Rattle.rv64_asm.specs.declared.words.Part.{Part}
 use Rattle.rv64_asm.specs.declared.words.Part.TheVariants.{Text, Data}
 use Rattle.rv64_asm.specs.Label.{Label, address_of}
 use Rattle.rv64_asm.specs.Numbers.{◌>>=◌}
-use Rattle.rv64_asm.specs.Statements.{line_of, label_of}
+use Rattle.rv64_asm.specs.Statements.{body_of, split_line, label_of}
 
 -- the address behind so many words of text, or behind so many bytes of data
 abbrev pub address_in : Part → ℕ → ℕ → ℕ
-address_in Text words bytes = 0x10000 + 4 * words
-address_in Data words bytes = 0x100000 + bytes
+address_in Text words bytes = text_start + 4 * words
+address_in Data words bytes = data_start + bytes
 
--- the address of what follows: words from 0x10000 on, data from 0x100000 on
+-- the address of what follows
 abbrev pub address : Place → ℕ
 address p = address_in p.part p.words p.bytes
 
 -- within 64 pages of text and 256 of data
 abbrev pub IsWithinPages : Place → Type 0
-IsWithinPages p = (p.words ≤ 65536) × (p.bytes ≤ 1048576)
+IsWithinPages p = (p.words ≤ most_words) × (p.bytes ≤ most_bytes)
 
 -- so many words and bytes more, unless they go over
 abbrev pub further : Place → ℕ → ℕ → Option Place
-further p words bytes = if nat_lt 65536 (p.words + words) || nat_lt 1048576 (p.bytes + bytes) then None else Some (record { part = p.part; words = p.words + words; bytes = p.bytes + bytes })
+further p words bytes = if nat_lt most_words (p.words + words) || nat_lt most_bytes (p.bytes + bytes) then None else Some (record { part = p.part; words = p.words + words; bytes = p.bytes + bytes })
 
 -- how many bytes a number of this width takes
 abbrev pub bytes_in : StoreWidth → ℕ
@@ -66,11 +67,16 @@ abbrev pub is_twice : List Label → Option (List ℕ) → Bool
 is_twice labels None = false
 is_twice labels (Some name) = is_some (address_of labels name)
 
--- the place behind a line, or the first fault that the line has by itself and by those before it
+-- the place behind a line of this label and this behind the label, or the first fault that the line has by itself and by
+-- those before it
+abbrev pub place_after : Layout → Option (List ℕ) → List ℕ → Result Place LineFault
+place_after s label body = do
+  statement ← body_of s.place.part body
+  if is_twice s.labels label then Err LabelTwice else ok_or (after s.place statement) TooManyPages
+
+-- the same of a whole line
 unfoldable pub next_place : Layout → List ℕ → Result Place LineFault
-next_place s line = do
-  statement ← line_of s.place.part line
-  if is_twice s.labels (label_of line) then Err LabelTwice else ok_or (after s.place statement) TooManyPages
+next_place s line = place_after s (label_of line) (split_line line).1
 
 -- the labels, and behind them the line's own, where it has one
 abbrev pub with_label : List Label → ℕ → Option (List ℕ) → List Label

@@ -1,7 +1,8 @@
 -- The line that shows an instruction.
-use Rattle.std.specs.Prelude.{◌≡◌, Bool, ℕ, ℤ, pos, negsuc, unsigned_abs, ◌<◌, ◌≤ℤ◌, ◌+◌, ◌*◌, ◌/◌, ◌%◌, ◌^◌, ◌==◌, ◌&&◌, List, ◌++◌, false, if◌then◌else◌, codes, None, Ok}
+use Rattle.std.specs.Prelude.{◌≡◌, Bool, ℕ, ℤ, pos, negsuc, unsigned_abs, ◌<◌, ◌≤ℤ◌, ◌+◌, ◌*◌, ◌/◌, ◌%◌, ◌^◌, ◌==◌, ◌&&◌, List, [], ◌∷◌, ◌++◌, false, if◌then◌else◌, codes, None, Ok}
 use Rattle.std.specs.Fmt.{decimal, signed_decimal, digits}
 use Rattle.std.specs.Int.{cast_unsigned, w64}
+use Rattle.std.specs.Str.Lines.{lines}
 use Rattle.rv64_decode.specs.declared.insn.Insn.{Insn}
 use Rattle.rv64_decode.specs.declared.insn.Insn.TheVariants as insns
 use Rattle.rv64_decode.specs.declared.insn.BranchCondition.{BranchCondition}
@@ -18,12 +19,14 @@ use Rattle.rv64_decode.specs.declared.insn.AluOp.{AluOp}
 use Rattle.rv64_decode.specs.declared.insn.AluOp.TheVariants as alus
 use Rattle.rv64_decode.specs.declared.insn.WordOp.{WordOp}
 use Rattle.rv64_decode.specs.declared.insn.WordOp.TheVariants as words
+use Rattle.rv64_asm.specs.declared.place.Place.{Place}
 use Rattle.rv64_asm.specs.declared.statement.Item.{Item}
 use Rattle.rv64_asm.specs.declared.statement.Item.TheVariants.{Instruction}
 use Rattle.rv64_asm.specs.declared.words.Part.TheVariants.{Text}
 use Rattle.rv64_asm.specs.Label.{Label}
 use Rattle.rv64_asm.specs.Numbers.{◌>>=◌}
 use Rattle.rv64_asm.specs.Statements.{line_of, label_of}
+use Rattle.rv64_asm.specs.Places.{after_item, further}
 use Rattle.rv64_asm.specs.Written.{resolve, IsPiece}
 
 -- the mnemonic of a branch
@@ -184,9 +187,12 @@ IsRanged (insns.Fence rd rs1 bits) = IsRegister rd × IsRegister rs1 × (bits < 
 IsRanged insns.Ecall = Unit {0}
 IsRanged insns.Ebreak = Unit {0}
 
--- the line has no label, and at pc, whatever the labels, it gives what the instruction gives: its word
+-- the text is one line without a label, and at pc, whatever the labels, it gives what the instruction gives: its word,
+-- which takes one word of the text
 pub record Rereads (text : List ℕ) (insn : Insn) (pc : ℕ) : Type 0 where
+  pub one_line : lines text ≡ text ∷ []
   pub unlabelled : label_of text ≡ None
   pub item : Item
+  pub takes_word : (p : Place) → after_item p item ≡ further p 1 0
   pub is_item : (labels : List Label) → (line_of Text text >>= resolve labels pc) ≡ Ok item
   pub same_word : (piece_words piece_bytes : List ℕ) → IsPiece item piece_words piece_bytes → IsPiece (Instruction insn) piece_words piece_bytes

@@ -2,6 +2,7 @@
 use Rattle.std.specs.Prelude.{ℕ, ℤ, pos, negsuc, ◌+◌, ◌*◌, ◌-◌, ◌^◌, ◌==◌, ◌||◌, ◌&&◌, Bool, false, List, [], ◌∷◌, length, nat_le, if◌then◌else◌, Option, Some, None, Result, Ok, Err}
 use Rattle.std.specs.List.{list_all}
 use Rattle.std.specs.Option.{ok_or}
+use Rattle.paged_memory.specs.Regions.{most_bytes}
 use Rattle.rv64_decode.specs.declared.insn.Insn.{Insn}
 use Rattle.rv64_decode.specs.declared.insn.Insn.TheVariants as insns
 use Rattle.rv64_decode.specs.declared.insn.BranchCondition.{BranchCondition}
@@ -273,9 +274,9 @@ number_of_width widths.Word (One n) = number_between (negsuc 2147483647) 4294967
 number_of_width widths.Double (One n) = number_between (negsuc 9223372036854775807) 18446744073709551615 n
 number_of_width width _ = Err OperandForm
 
--- `.zero n`: at most 1048576 bytes
+-- `.zero n`: at most 256 pages of bytes
 unfoldable pub zeros : Operands (List ℕ) → Result (Statement (List ℕ)) LineFault
-zeros (One n) = natural 1048576 n >>= λ count. Ok (Give (Zeros count))
+zeros (One n) = natural most_bytes n >>= λ count. Ok (Give (Zeros count))
 zeros _ = Err OperandForm
 
 -- a number directive: `.word` alone stands in the text

@@ -32,35 +32,30 @@ abbrev pub target_address : List Label → Target (List ℕ) → Result ℕ Line
 target_address labels (targets.Label name) = ok_or (address_of labels name) UnknownLabel
 target_address labels (targets.Address address) = Ok address
 
--- how far a branch at pc goes (section 2.5)
-abbrev pub branch_offset : List Label → ℕ → Target (List ℕ) → Result ℤ LineFault
-branch_offset labels pc target = target_address labels target >>= λ address. offset_in (negsuc 4095) (pos 4094) (distance pc address)
+-- the offset of a target from pc, even and in range
+abbrev pub offset_to : List Label → ℕ → ℤ → ℤ → Target (List ℕ) → Result ℤ LineFault
+offset_to labels pc low high target = target_address labels target >>= λ address. offset_in low high (distance pc address)
 
--- how far a jump at pc goes (section 2.5)
-abbrev pub jump_offset : List Label → ℕ → Target (List ℕ) → Result ℤ LineFault
-jump_offset labels pc target = target_address labels target >>= λ address. offset_in (negsuc 1048575) (pos 1048574) (distance pc address)
-
--- what a statement gives at pc, labels replaced by their addresses (section 2.5 for the offsets)
+-- what a statement gives at pc, labels replaced by their addresses: a branch reaches 4 KiB and a jump 1 MiB either way
+-- (section 2.5)
 unfoldable pub resolve : List Label → ℕ → Statement (List ℕ) → Result Item LineFault
 resolve labels pc (Enter part) = Ok Nothing
 resolve labels pc (Give item) = Ok item
 resolve labels pc (Branch condition rs1 rs2 target) = do
-  address ← target_address labels target
-  offset ← offset_in (negsuc 4095) (pos 4094) (distance pc address)
+  offset ← offset_to labels pc (negsuc 4095) (pos 4094) target
   Ok (Instruction (insns.Branch condition rs1 rs2 offset))
 resolve labels pc (Jump rd target) = do
-  address ← target_address labels target
-  offset ← offset_in (negsuc 1048575) (pos 1048574) (distance pc address)
+  offset ← offset_to labels pc (negsuc 1048575) (pos 1048574) target
   Ok (Instruction (insns.Jal rd offset))
 
 -- what a line gives at its place
 abbrev pub item_of : Place → List Label → List ℕ → Result Item LineFault
 item_of place labels line = line_of place.part line >>= resolve labels (address place)
 
--- the words and the bytes of an item
+-- the words and the bytes of an item: of an instruction its one word of 32 bits
 abbrev pub IsPiece : Item → List ℕ → List ℕ → Type 0
 IsPiece Nothing words bytes = (words ≡ []) × (bytes ≡ [])
-IsPiece (Instruction insn) words bytes = (word : ℕ) × (words ≡ word ∷ []) × Spells word insn × (bytes ≡ [])
+IsPiece (Instruction insn) words bytes = (word : ℕ) × (words ≡ word ∷ []) × (word < 2 ^ 32) × Spells word insn × (bytes ≡ [])
 IsPiece (Word bits) words bytes = (words ≡ bits ∷ []) × (bytes ≡ [])
 IsPiece (Number width bits) words bytes = (words ≡ []) × (bytes ≡ take (bytes_in width) (to_le_bytes w64 bits))
 IsPiece (Zeros count) words bytes = (words ≡ []) × (bytes ≡ replicate count 0)

@@ -3,6 +3,7 @@
 ghost use Rattle.std.specs.Prelude.{IfOk, IfErr};
 ghost use Rattle.std.specs.Str.Lines.{lines};
 ghost use Rattle.rv64_asm.specs.Assembled.{IsAssembly, IsRefusal};
+ghost use Rattle.rv64_asm.specs.Limits.{IsWithinLimits};
 
 use crate::fault::AsmFault;
 use crate::labels::Labels;
@@ -25,6 +26,7 @@ pub struct Assembly<A: Allocator = Global> {
 #[tactic(auto, using(crate::proofs::Refusals::own, crate::proofs::Refusals::target))]
 pub fn assemble<A: Allocator + Copy>(alloc: A, text: &str) -> Result<Assembly<A>, AsmFault>
     ensures assembled { IfOk result (λ a. IsAssembly (lines text.now) a.program a.labels) }
+    ensures limits { IfOk result (λ a. IsWithinLimits a.program) }
     ensures refused { IfErr result (IsRefusal (lines text.now)) }
 {
     let labels = lay_out(alloc, text)?;

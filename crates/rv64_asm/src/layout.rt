@@ -1,16 +1,15 @@
 //! The first pass: where each line goes, and the labels.
 
-ghost use Rattle.std.specs.Prelude.{◌≡◌, Ok, Err, false, length, IfOk, IfErr, OnOk};
+ghost use Rattle.std.specs.Prelude.{◌≡◌, Ok, Err, false, length, IfOk, IfErr, OnOk, option_map};
 ghost use Rattle.std.specs.Str.Lines.{lines};
 ghost use Rattle.rv64_asm.specs.Places as spec;
-ghost use Rattle.rv64_asm.specs.Statements.{label_of};
 ghost use Rattle.rv64_asm.specs.Places.{IsWithinPages, StandBelow};
 ghost use Rattle.rv64_asm.specs.Passes.{IsOwnRefusal};
 
 use crate::fault::AsmFault;
 use crate::labels::Labels;
 use crate::place::{Place, next_place};
-use crate::statement::label_of;
+use crate::statement::split_line;
 use crate::words::Part;
 use std::alloc::{AllocError, Allocator};
 
@@ -31,13 +30,13 @@ fn add_label<A: Allocator + Copy>(
     labels: &mut Labels<A>,
     alloc: A,
     place: Place,
-    line: &[u8],
+    label: Option<&[u8]>,
 ) -> Result<(), AllocError>
     requires within { IsWithinPages place }
-    requires new { spec.is_twice labels.old (label_of line.now) ≡ false }
-    ensures { OnOk result (labels.new ≡ spec.with_label labels.old (spec.address place) (label_of line.now)) }
+    requires new { spec.is_twice labels.old (option_map (λ n. n.now) label) ≡ false }
+    ensures { OnOk result (labels.new ≡ spec.with_label labels.old (spec.address place) (option_map (λ n. n.now) label.entry)) }
 {
-    if let Some(name) = label_of(line) {
+    if let Some(name) = label {
         labels.insert(alloc, name, place.address())?;
     }
     Ok(())
@@ -54,10 +53,10 @@ pub fn lay_out<A: Allocator + Copy>(alloc: A, text: &str) -> Result<Labels<A>, A
     let mut number = 0;
     for line in text.lines() {
         number += 1;
-        let line = line.as_bytes();
-        match next_place(place, &labels, line) {
+        let (label, body) = split_line(line.as_bytes());
+        match next_place(place, &labels, label, body) {
             Ok(next) => {
-                add_label(&mut labels, alloc, place, line)?;
+                add_label(&mut labels, alloc, place, label)?;
                 place = next;
             }
             Err(fault) => {

@@ -2,21 +2,15 @@
 
 ghost use Rattle.std.specs.Prelude.{◌≡◌, ◌≤◌, IfSome, IfOk, OnOk, Ok, false, option_map};
 ghost use Rattle.rv64_asm.specs.Places as spec;
-ghost use Rattle.rv64_asm.specs.Statements.{label_of};
 ghost use Rattle.rv64_asm.specs.Places.{IsWithinPages};
 
 use crate::fault::LineFault;
 use crate::labels::Labels;
-use crate::statement::{Item, Statement, label_of, statement_at};
+use crate::statement::{Item, Statement, body_of};
 use crate::words::Part;
+use paged_memory::{DATA_START, MOST_BYTES, MOST_WORDS, TEXT_START};
 use rv64_decode::StoreWidth;
 use std::alloc::Allocator;
-
-/// The words of 64 pages.
-const MOST_WORDS: usize = 65536;
-
-/// The bytes of 256 pages.
-const MOST_BYTES: usize = 1_048_576;
 
 /// The part that the next line goes to, and how much each part has so far.
 #[derive(Clone, Copy)]
@@ -45,8 +39,8 @@ impl Place {
         ensures { result ≡ spec.address self }
     {
         match self.part {
-            Part::Text => 0x10000 + 4 * self.words as u64,
-            Part::Data => 0x10_0000 + self.bytes as u64,
+            Part::Text => TEXT_START + 4 * self.words as u64,
+            Part::Data => DATA_START + self.bytes as u64,
         }
     }
 
@@ -108,22 +102,23 @@ fn is_twice<A: Allocator>(labels: &Labels<A>, name: Option<&[u8]>) -> bool
     }
 }
 
-/// The place behind a line, or the first fault that it has by itself and by those before it.
-#[tactic(auto, unfolding(crate::specs::Places::next_place))]
+/// The place behind a line of this label and this behind the label, or the first fault that the
+/// line has by itself and by those before it.
 pub fn next_place<A: Allocator>(
     place: Place,
     labels: &Labels<A>,
-    line: &[u8],
+    label: Option<&[u8]>,
+    body: &[u8],
 ) -> Result<Place, LineFault>
     requires { IsWithinPages place }
-    ensures next { result ≡ spec.next_place (record { place = place; labels = labels.now }) line.now }
+    ensures next { result ≡ spec.place_after (record { place = place; labels = labels.now }) (option_map (λ n. n.now) label.entry) body.now }
     ensures within { IfOk result IsWithinPages }
-    ensures new { OnOk result (spec.is_twice labels.now (label_of line.now) ≡ false) }
+    ensures new { OnOk result (spec.is_twice labels.now (option_map (λ n. n.now) label.entry) ≡ false) }
 {
-    match statement_at(place.part, line) {
+    match body_of(place.part, body) {
         Err(fault) => Err(fault),
         Ok(statement) => {
-            if is_twice(labels, label_of(line)) {
+            if is_twice(labels, label) {
                 return Err(LineFault::LabelTwice);
             }
             place.after(&statement).ok_or(LineFault::TooManyPages)

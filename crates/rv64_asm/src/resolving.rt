@@ -43,30 +43,21 @@ fn offset_in(low: i64, high: i64, offset: i64) -> Result<i64, LineFault>
     }
 }
 
-/// How far a branch at pc goes.
-fn branch_offset<A: Allocator>(
+/// The offset of a target from pc, even and in range.
+fn offset_to<A: Allocator>(
     labels: &Labels<A>,
     pc: u64,
+    low: i64,
+    high: i64,
     target: &Target<&[u8]>,
-) -> Result<BranchOffset, LineFault>
-    ensures { result ≡ spec.branch_offset labels.now pc (target_named target.now) }
+) -> Result<i64, LineFault>
+    ensures given { result ≡ spec.offset_to labels.now pc low high (target_named target.now) }
+    ensures low { IfOk result (λ x. low ≤ℤ x) }
+    ensures high { IfOk result (λ x. x ≤ℤ high) }
+    ensures even { IfOk result (λ x. unsigned_abs x % 2 ≡ 0) }
 {
     let address = target_address(labels, target)?;
-    let offset = offset_in(-4096, 4094, distance(pc, address))?;
-    Ok(BranchOffset::new(offset as i16))
-}
-
-/// How far a jump at pc goes.
-fn jump_offset<A: Allocator>(
-    labels: &Labels<A>,
-    pc: u64,
-    target: &Target<&[u8]>,
-) -> Result<JumpOffset, LineFault>
-    ensures { result ≡ spec.jump_offset labels.now pc (target_named target.now) }
-{
-    let address = target_address(labels, target)?;
-    let offset = offset_in(-1_048_576, 1_048_574, distance(pc, address))?;
-    Ok(JumpOffset::new(offset as i32))
+    offset_in(low, high, distance(pc, address))
 }
 
 /// What a statement gives at pc, labels replaced by their addresses.
@@ -87,17 +78,20 @@ pub fn resolve<A: Allocator>(
             rs2,
             target,
         } => {
-            let offset = branch_offset(labels, pc, target)?;
+            let offset = offset_to(labels, pc, -4096, 4094, target)?;
             Ok(Item::Instruction(Insn::Branch {
                 condition: *condition,
                 rs1: *rs1,
                 rs2: *rs2,
-                offset,
+                offset: BranchOffset::new(offset as i16),
             }))
         }
         Statement::Jump { rd, target } => {
-            let offset = jump_offset(labels, pc, target)?;
-            Ok(Item::Instruction(Insn::Jal { rd: *rd, offset }))
+            let offset = offset_to(labels, pc, -1_048_576, 1_048_574, target)?;
+            Ok(Item::Instruction(Insn::Jal {
+                rd: *rd,
+                offset: JumpOffset::new(offset as i32),
+            }))
         }
     }
 }

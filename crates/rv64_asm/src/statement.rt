@@ -13,6 +13,7 @@ use crate::numbers::{natural, number_between};
 use crate::operands::alone;
 use crate::targets::{branch, branch_zero, jal, jump};
 use crate::words::{Kind, Part, kind_of};
+use paged_memory::MOST_BYTES;
 use rv64_decode::{BranchCondition, Insn, Register, StoreWidth};
 use std::alloc::AllocError;
 
@@ -92,7 +93,7 @@ fn number_of_width(width: StoreWidth, operands: Operands<&[u8]>) -> Result<u64, 
     }
 }
 
-/// `.zero n`: at most 1048576 bytes.
+/// `.zero n`: at most 256 pages of bytes.
 #[tactic(auto, unfolding(crate::specs::Statements::zeros))]
 fn zeros(operands: Operands<&[u8]>) -> Result<Statement<&[u8]>, LineFault>
     ensures { Gives named result (spec.zeros (seen operands.entry)) }
@@ -100,7 +101,7 @@ fn zeros(operands: Operands<&[u8]>) -> Result<Statement<&[u8]>, LineFault>
     let Operands::One(count) = operands else {
         return Err(LineFault::OperandForm);
     };
-    let count = natural(count, 1_048_576)?;
+    let count = natural(count, MOST_BYTES as u64)?;
     Ok(Statement::Give(Item::Zeros(count as u32)))
 }
 
@@ -164,8 +165,9 @@ fn statement_of(
     }
 }
 
+/// What stands behind the label of a line says this in a part.
 #[tactic(auto, unfolding(crate::specs::Statements::body_of))]
-fn body_of(part: Part, body: &[u8]) -> Result<Statement<&[u8]>, LineFault>
+pub fn body_of(part: Part, body: &[u8]) -> Result<Statement<&[u8]>, LineFault>
     ensures { Gives named result (spec.body_of part body.now) }
 {
     if body.is_empty() {
@@ -178,7 +180,7 @@ fn body_of(part: Part, body: &[u8]) -> Result<Statement<&[u8]>, LineFault>
 
 /// The label of a line, if it has one, and what stands behind it. `name:` ends at the first colon.
 #[tactic(auto, unfolding(crate::specs::Statements::split_line))]
-fn split_line(line: &[u8]) -> (Option<&[u8]>, &[u8])
+pub fn split_line(line: &[u8]) -> (Option<&[u8]>, &[u8])
     ensures { (option_map (λ n. n.now) result.0, result.1.now) ≡ spec.split_line line.now }
 {
     let body = trim(code_of(line));
@@ -186,13 +188,6 @@ fn split_line(line: &[u8]) -> (Option<&[u8]>, &[u8])
         Some((name, rest)) if is_name(name) => (Some(name), trim(rest)),
         _ => (None, body),
     }
-}
-
-/// The label of a line, if it has one.
-pub fn label_of(line: &[u8]) -> Option<&[u8]>
-    ensures { option_map (λ n. n.now) result ≡ spec.label_of line.now }
-{
-    split_line(line).0
 }
 
 /// What a line says in a part, behind its label.

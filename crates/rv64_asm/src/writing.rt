@@ -2,10 +2,12 @@
 
 ghost use Rattle.std.specs.Prelude.{◌≡◌, ◌≤◌, Ok, Err, length, vec_len, IfOk, IfErr, OnOk};
 ghost use Rattle.std.specs.Str.Lines.{lines};
+ghost use Rattle.paged_memory.specs.Regions.{most_bytes};
 ghost use Rattle.rv64_asm.specs.Places.{IsWithinPages, StandBelow, behind};
 ghost use Rattle.rv64_asm.specs.Passes as spec;
 ghost use Rattle.rv64_asm.specs.Passes.{Appends};
 ghost use Rattle.rv64_asm.specs.Assembled.{IsProgram};
+ghost use Rattle.rv64_asm.specs.Limits.{IsWithinLimits};
 ghost use Rattle.rv64_asm.specs.Passes.{IsTargetRefusal};
 
 use crate::fault::{AsmFault, LineFault};
@@ -45,7 +47,7 @@ fn write<A: Allocator>(
     bytes: &mut Vec<u8, A>,
     item: Item,
 ) -> Result<(), AllocError>
-    requires { vec_len bytes.old ≤ 1048576 }
+    requires { vec_len bytes.old ≤ most_bytes }
     ensures { OnOk result (Appends item words.old.items words.new.items bytes.old.items bytes.new.items) }
 {
     match item {
@@ -72,6 +74,7 @@ pub fn write_lines<A: Allocator + Copy>(
     requires stand { StandBelow (lines text.now) (length (lines text.now)) }
     requires labels { labels.now ≡ (behind (lines text.now)).labels }
     ensures program { IfOk result (IsProgram (lines text.now) labels.now) }
+    ensures limits { IfOk result IsWithinLimits }
     ensures refused { IfErr result (IsTargetRefusal (lines text.now)) }
 {
     let mut place = start();

@@ -1,4 +1,4 @@
-use Rattle.std.proofs.Common.{[], ◌∷◌, ap, ◌∙◌}
+use Rattle.std.proofs.Common.{[], ap, ◌∙◌}
 use Rattle.sha2.specs.Sha256.{sha256}
 use Rattle.origin_set.specs.OriginBytes.{program_bytes}
 use Rattle.origin_set.proofs.Joined.{nine_pieces}

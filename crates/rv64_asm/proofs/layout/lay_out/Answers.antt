@@ -1,4 +1,4 @@
-use Rattle.std.proofs.Common.{◌≡◌, length, take, Ok, Err, refl, sym, ap, ◌∙◌, arith}
+use Rattle.std.proofs.Common.{◌≡◌, ℕ, List, Option, length, take, Ok, Err, refl, sym, ap, ◌∙◌, arith}
 use Rattle.std.specs.Str.Lines.{lines}
 use Rattle.std.proofs.lemmas.List.{length_push}
 use Rattle.std.proofs.Math.Seq.{take-length}
@@ -6,7 +6,7 @@ use Rattle.std.proofs.lemmas.Iterator.Splits.{YieldsList-from_lines}
 use Rattle.std.proofs.lemmas.Iterator.Consumers.{YieldsList-turn, YieldsList-end}
 use Rattle.rv64_asm.specs.Statements.{label_of}
 use Rattle.rv64_asm.specs.Places.{Layout, behind, next_place, with_label, address}
-use Rattle.rv64_asm.proofs.Turns.{behind_more, stand_more, lowest, stepped, no_fault, a_fault}
+use Rattle.rv64_asm.proofs.Turns.{next_is, behind_more, stand_more, lowest, stepped, no_fault, a_fault}
 use Rattle.rv64_asm.proofs.layout.lay_out.Goals as goal
 
 pub loop-line-preserved : goal.loop-line-preserved
@@ -17,8 +17,9 @@ loop-line-preserved g c =
     let all = lines c.args.text.now in
     let x = c.in-Some.line.now in
     let s : Layout = record { place = c.loop-line.place; labels = c.loop-line.labels } in
-    let e : next_place s x ≡ Ok c.in-Ok.next = sym (rw c.as_bytes-line.ensures.value at c.in-Ok.ensures.next) in
-    let f : c.add_label.new.labels ≡ with_label s.labels (address s.place) (label_of x) = rw c.as_bytes-line.ensures.value at c.in_ok-add_label-in-Ok.ensures in
+    let split = rw c.as_bytes.ensures.value at c.split_line.ensures in
+    let e : next_place s x ≡ Ok c.in-Ok.next = next_is s x _ _ (Ok c.in-Ok.next) split c.in-Ok.ensures.next in
+    let f : c.add_label.new.labels ≡ with_label s.labels (address s.place) (label_of x) = rw (ap (λ (p : Option (List ℕ) × List ℕ). p.0) split) at c.in_ok-add_label-in-Ok.ensures in
     record {
       number = omega (arith, length_push c.loop-line.yielded c.in-Some.line);
       within = c.in-Ok.ensures.within;
@@ -33,7 +34,8 @@ returns-in-Err-clause-refused g c =
     let n = c.loop-line.invariant.number in
     let x = c.in-Some.line.now in
     let s : Layout = record { place = c.loop-line.place; labels = c.loop-line.labels } in
-    let e : next_place s x ≡ Err c.in-Err.fault = sym (rw c.as_bytes-line.ensures.value at c.in-Err.ensures.next) in
+    let split = rw c.as_bytes.ensures.value at c.split_line.ensures in
+    let e : next_place s x ≡ Err c.in-Err.fault = next_is s x _ _ (Err c.in-Err.fault) split c.in-Err.ensures.next in
     (c.loop-line.number, refl, lowest (lines c.args.text.now) c.loop-line.number x (rw n t.0) (rw n t.1) s c.loop-line.invariant.laid c.loop-line.invariant.stand c.in-Err.fault (a_fault s x c.in-Err.fault e))
 
 pub returns-clause-stand : goal.returns-clause-stand

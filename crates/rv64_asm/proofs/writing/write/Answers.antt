@@ -1,4 +1,4 @@
-use Rattle.std.proofs.Common.{◌≡◌, ◌+◌, take, arith, vec_len}
+use Rattle.std.proofs.Common.{◌≡◌, ◌+◌, take, arith, rules, vec_len}
 use Rattle.std.proofs.lemmas.Grind.{common_steps}
 use Rattle.rv64_asm.proofs.Appended.{nothing, an_instruction, a_word, a_number, some_zeros}
 use Rattle.rv64_asm.proofs.writing.write.Goals as goal
@@ -9,7 +9,7 @@ returns-in-Nothing g c =
 
 pub returns-in_ok-push-in-Instruction : goal.returns-in_ok-push-in-Instruction
 returns-in_ok-push-in-Instruction g c =
-    an_instruction c.args.item c.args.words.now.items c.push.new.self.items c.args.bytes.now.items c.args.bytes.now.items c.in-Instruction.insn c.encode.result c.in-Instruction.is c.encode.ensures.spells c.in_ok-push-in-Instruction.ensures.items
+    an_instruction c.args.item c.args.words.now.items c.push.new.self.items c.args.bytes.now.items c.args.bytes.now.items c.in-Instruction.insn c.encode.result c.in-Instruction.is (search rules) c.encode.ensures.spells c.in_ok-push-in-Instruction.ensures.items
 
 pub returns-in_ok-push-in-Word : goal.returns-in_ok-push-in-Word
 returns-in_ok-push-in-Word g c =

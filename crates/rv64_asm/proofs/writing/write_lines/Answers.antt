@@ -46,3 +46,10 @@ returns-clause-program g c =
       word_count = rw (c.new.ensures.words, ← placed) c.loop-line.invariant.word_count;
       byte_count = rw (c.new.ensures.bytes, ← placed) c.loop-line.invariant.byte_count;
     }
+
+pub returns-clause-limits : goal.returns-clause-limits
+returns-clause-limits g c =
+    let within = c.loop-line.invariant.within in (
+      omega (arith, ap length c.new.ensures.words, c.loop-line.invariant.word_count, within.0),
+      omega (arith, ap length c.new.ensures.bytes, c.loop-line.invariant.byte_count, within.1),
+    )
