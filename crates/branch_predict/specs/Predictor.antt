@@ -3,7 +3,7 @@ use Rattle.std.specs.Prelude.{ℕ, ℤ, ◌+◌, ◌-◌, ◌/◌, ◌%◌, ◌=
 use Rattle.rv64_decode.specs.declared.insn.Insn.{Insn}
 use Rattle.rv64_decode.specs.declared.insn.Insn.TheVariants.{Jal, Jalr, Branch}
 use Rattle.hart_step.specs.State.{following}
-use Rattle.hart_step.specs.Values.{bits, sum}
+use Rattle.hart_step.specs.Values.{offset_from}
 
 -- 256 counters from 0 to 3; at most 8 return addresses, the newest last; and 64 last targets, each None until it is written
 pub record Predictor : Type 0 where
@@ -17,9 +17,10 @@ untrained = record { counters = replicate 256 1; returns = []; targets = replica
 
 -- where a branch goes when it is taken, and a JAL always: RISC-V Unprivileged ISA 20191213, 2.5
 abbrev pub target : ℕ → ℤ → ℕ
-target pc offset = sum pc (bits offset)
+target pc offset = offset_from pc offset
 
--- a jump that writes x1 is a call, a JALR that reads x1 and writes x0 is a return: the hints of 2.5
+-- a jump that writes x1 is a call, a JALR that reads x1 and writes x0 is a return: the hints of 2.5, but that x5, the
+-- alternate link register there, isn't a link register here
 abbrev pub is_call : ℕ → Bool
 is_call rd = rd == 1
 

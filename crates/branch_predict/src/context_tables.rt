@@ -1,20 +1,13 @@
 //! The predictor of one context.
 
 ghost use Rattle.std.specs.Prelude.{◌≡◌, ◌/◌, ◌%◌};
-ghost use Rattle.branch_predict.specs.Predictor.{untrained, target, is_return as is_return_of, guessed, guessed_jalr, after_call, after_jalr, after_fetch, after_retirement};
+ghost use Rattle.branch_predict.specs.Predictor.{untrained, is_return as is_return_of, guessed, guessed_jalr, after_call, after_jalr, after_fetch, after_retirement};
 
 use crate::counter::Counter;
 use crate::return_stack::ReturnStack;
-use hart_step::following;
+use hart_step::{following, offset_by};
 use rv64_decode::{Insn, Register};
 use std::marker::Model;
-
-/// Where a taken branch or a JAL goes, from its pc and offset.
-fn target_of(pc: u64, offset: i64) -> u64
-    ensures { result ≡ target pc offset }
-{
-    pc.wrapping_add(offset.cast_unsigned())
-}
 
 /// The place of a branch's counter.
 fn counter_place(pc: u64) -> usize
@@ -74,12 +67,12 @@ impl ContextTables {
         match *insn {
             Insn::Jal { rd, offset } => {
                 self.call(pc, rd);
-                target_of(pc, i64::from(offset.value()))
+                offset_by(pc, i64::from(offset.value()))
             }
             Insn::Jalr { rd, rs1, .. } => self.guess_jalr(pc, rd, rs1),
             Insn::Branch { offset, .. } => {
                 if self.counters[counter_place(pc)].says_taken() {
-                    target_of(pc, i64::from(offset.value()))
+                    offset_by(pc, i64::from(offset.value()))
                 } else {
                     following(pc)
                 }

@@ -1,7 +1,7 @@
 //! Marks: how far contexts have come, each always on its trajectory of plain RV64I.
 #![tactic(auto)]
 
-ghost use Rattle.std.specs.Prelude.{◌≡◌, ◌↔◌, ◌+◌, ◌^◌, ◌≤◌, ℕ, max, IsTrue, IsOk, IfOk, IfErr, OnErr, Some, Err};
+ghost use Rattle.std.specs.Prelude.{◌≡◌, ◌↔◌, ◌+◌, ◌^◌, ◌≤◌, ℕ, max, IsTrue, IfOk, IfErr, OnErr, Some, Err};
 ghost use Rattle.std.specs.Arc.{arc_value};
 ghost use Rattle.checkpoint.specs.Further.{MarkKin, IsUnjoinable, further, mark_laws};
 ghost use Rattle.checkpoint.specs.Furthest.{IsFurthest};
@@ -142,10 +142,9 @@ impl<A: Allocator> Mark<A> {
     }
 
     /// Goes on by `n` instructions, or as many as there are before a stop, and says how many and why it stopped.
-    /// C3 is the only refusal, before any step; it does not come while a mark's state stands whole in memory (`works`).
+    /// C3 is the only refusal, before any step.
     pub fn advance(&mut self, n: u64) -> Result<(u64, Option<Stop>), MarkFault>
         requires { self.old.count + n ≤ 2 ^ 60 }
-        ensures works { IsOk result }
         ensures ok { IfOk result (λ ran. Advances n self.old ran.0 ran.1 self.new) }
         ensures furthest { IfOk result (λ _. self.old.count ≡ 0 → IsFurthest self.old.origin self.old.context n self.new) }
         ensures err { IfErr result (λ fault. (fault ≡ MarkFault.OutOfMemory) × (self.new ≡ self.old)) }

@@ -197,8 +197,9 @@ fn place_after(alloc: Global, origin: &Arc<Origin>, context: Ctx, count: u64) ->
     requires { count ≤ 10000 }
 {
     let mut mark = Mark::start(alloc, origin, context)?;
-    let (done, _) = mark.advance(count).unwrap();
-    Ok(place_of_hart(mark.state(), done))
+    let (done, _) = mark.advance(count)?;
+    let hart = mark.hart(alloc)?;
+    Ok(place_of_hart(&hart, done))
 }
 
 /// Whether a context of a core is where plain steps are.

@@ -1,8 +1,7 @@
 // Entries in flight.
 ghost use Rattle.std.specs.Prelude.{◌≡◌};
 ghost use Rattle.core_view.specs.Flight.{result_of, bytes_done, span_read};
-ghost use Rattle.core_view.specs.Loads.{is_done as is_done_of, is_issued as is_issued_of};
-ghost use Rattle.core_view.specs.Queues.{is_renamed as is_renamed_of};
+ghost use Rattle.core_view.specs.Loads.{is_done as is_done_of};
 ghost use Rattle.core_view.specs.Events.{due_at, is_mispredicted as is_mispredicted_of, fetched_entry, renamed_stage, with_stage, completed_entry};
 ghost use Rattle.core_view.specs.declared.entry.Stage.TheVariants.{Issued};
 
@@ -67,22 +66,6 @@ impl Stage {
             Stage::Fetched | Stage::Queued => None,
             Stage::Issued { execution } | Stage::Done { execution } => execution.outcome.span(),
         }
-    }
-
-    /// Whether it is renamed.
-    #[inline]
-    pub fn is_renamed(&self) -> bool
-        ensures { result ≡ is_renamed_of self.now }
-    {
-        !matches!(self, Stage::Fetched)
-    }
-
-    /// Whether it has issued. One that is done has.
-    #[inline]
-    pub fn is_issued(&self) -> bool
-        ensures { result ≡ is_issued_of self.now }
-    {
-        matches!(self, Stage::Issued { .. } | Stage::Done { .. })
     }
 
     /// Whether it has completed, with a stop or without.

@@ -3,7 +3,6 @@
 
 mod access;
 mod entry;
-mod load;
 mod note;
 mod operation;
 mod outcome;
@@ -12,7 +11,6 @@ mod status;
 
 pub use access::{access_fault, write_access};
 pub use entry::{Entry, Execution, Stage};
-pub use load::{load_answer, span_asked};
 pub use note::{CycleNote, EntryId, Issue};
 pub use operation::Operation;
 pub use outcome::{Access, Outcome, Step};

@@ -1,6 +1,5 @@
 // What a cycle did.
-ghost use Rattle.std.specs.Prelude.{◌≡◌, ◌+◌, ◌^◌, ◌<◌, [], ◌∷◌, ◌++◌};
-ghost use Rattle.arrayvec.specs.ArrayVec.{array_vec_len};
+ghost use Rattle.std.specs.Prelude.{◌≡◌, []};
 
 use arrayvec::ArrayVec;
 use join_law::Ctx;
@@ -69,53 +68,5 @@ impl CycleNote {
             completed: 0,
             cut: 0,
         }
-    }
-
-    /// Adds an entry that was fetched.
-    pub fn add_fetched(&mut self, entry: EntryId)
-        requires { array_vec_len self.old.fetched < 8 }
-        ensures { self.new ≡ record self.old { fetched = record { items = self.old.fetched.items ++ entry ∷ [] } } }
-    {
-        self.fetched.push(entry);
-    }
-
-    /// Adds an entry that was renamed.
-    pub fn add_renamed(&mut self, entry: EntryId)
-        requires { array_vec_len self.old.renamed < 8 }
-        ensures { self.new ≡ record self.old { renamed = record { items = self.old.renamed.items ++ entry ∷ [] } } }
-    {
-        self.renamed.push(entry);
-    }
-
-    /// Adds an entry that issued.
-    pub fn add_issued(&mut self, issue: Issue)
-        requires { array_vec_len self.old.issued < 8 }
-        ensures { self.new ≡ record self.old { issued = record { items = self.old.issued.items ++ issue ∷ [] } } }
-    {
-        self.issued.push(issue);
-    }
-
-    /// Adds an entry that retired.
-    pub fn add_retired(&mut self, entry: EntryId)
-        requires { array_vec_len self.old.retired < 16 }
-        ensures { self.new ≡ record self.old { retired = record { items = self.old.retired.items ++ entry ∷ [] } } }
-    {
-        self.retired.push(entry);
-    }
-
-    /// Counts entries that completed.
-    pub fn add_completed(&mut self, count: u32)
-        requires { self.old.completed + count < 2 ^ 32 }
-        ensures { self.new ≡ record self.old { completed = self.old.completed + count } }
-    {
-        self.completed += count;
-    }
-
-    /// Counts entries that left a flight without retiring.
-    pub fn add_cut(&mut self, count: u32)
-        requires { self.old.cut + count < 2 ^ 32 }
-        ensures { self.new ≡ record self.old { cut = self.old.cut + count } }
-    {
-        self.cut += count;
     }
 }

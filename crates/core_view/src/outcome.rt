@@ -1,12 +1,11 @@
 // What an instruction does in flight.
 ghost use Rattle.std.specs.Prelude.{◌≡◌};
-ghost use Rattle.paged_memory.specs.Cells.{bytes_of};
 ghost use Rattle.core_view.specs.Outcomes.{goes_to as goes_to_of, loads_at as loads_at_of, stores_at as stores_at_of, outcome_with, bytes_written, span_of};
 ghost use Rattle.core_view.specs.Flight.{result_in, bytes_in, span_in};
 
 use crate::span::{Bytes, Span};
 use hart_step::{Effect, Stop, following, load_width, loaded, stop_of_fault, store_width};
-use paged_memory::{Fault, Width};
+use paged_memory::Fault;
 use rv64_decode::{LoadKind, StoreWidth};
 
 /// What an instruction reads or writes of memory.
@@ -64,19 +63,6 @@ pub enum Outcome {
     Stops { why: Stop },
 }
 
-/// How many bytes a width has.
-#[inline(always)]
-fn size_of_width(width: Width) -> u8
-    ensures { result ≡ bytes_of width }
-{
-    match width {
-        Width::Byte => 1,
-        Width::Half => 2,
-        Width::Word => 4,
-        Width::Double => 8,
-    }
-}
-
 /// Gives a value and goes on at a target.
 #[inline(always)]
 fn goes_to(value: u64, target: u64) -> Outcome
@@ -98,7 +84,7 @@ fn loads_at(pc: u64, kind: LoadKind, address: u64, number: u64) -> Outcome
 {
     let span = Span {
         address,
-        size: size_of_width(load_width(kind)),
+        size: load_width(kind).bytes(),
     };
     Outcome::Goes {
         step: Step {
@@ -116,7 +102,7 @@ fn stores_at(pc: u64, width: StoreWidth, address: u64, value: u64) -> Outcome
 {
     let span = Span {
         address,
-        size: size_of_width(store_width(width)),
+        size: store_width(width).bytes(),
     };
     Outcome::Goes {
         step: Step {

@@ -1,8 +1,8 @@
 //! The effect of an instruction on the values of its sources.
 
-ghost use Rattle.std.specs.Prelude.{◌≡◌, ◌+◌, ◌%◌, ◌^◌};
+ghost use Rattle.std.specs.Prelude.{◌≡◌, ◌%◌};
 ghost use Rattle.hart_step.specs.State.{following as following_of};
-ghost use Rattle.hart_step.specs.Values.{bits as bits_of};
+ghost use Rattle.hart_step.specs.Values.{offset_from};
 ghost use Rattle.hart_step.specs.Effects.{first_source as first_source_of, second_source as second_source_of, destination as destination_of, went_to as went_to_of, linked_to as linked_to_of, value_at as value_at_of, effect_of, LeadsToAligned};
 
 use crate::stop::Stop;
@@ -154,12 +154,12 @@ fn linked_to(pc: u64, target: u64) -> Effect
     }
 }
 
-/// A source and a signed number, which may be an immediate or an offset.
+/// The address at a signed offset from a base, a pc or the value of a register. The sum wraps.
 #[inline(always)]
-fn moved(a: u64, by: i64) -> u64
-    ensures { result ≡ (a + bits_of by) % 2 ^ 64 }
+pub fn offset_by(base: u64, offset: i64) -> u64
+    ensures { result ≡ offset_from base offset }
 {
-    a.wrapping_add(by.cast_unsigned())
+    base.wrapping_add(offset.cast_unsigned())
 }
 
 /// The effect of an instruction at a pc, where its sources have the values `a` and `b`.
@@ -174,9 +174,9 @@ pub fn execute(insn: &Insn, pc: u64, a: u64, b: u64) -> Effect
             pc,
             pc.wrapping_add(extended(immediate.value() << 12)),
         ),
-        Insn::Jal { offset, .. } => linked_to(pc, moved(pc, i64::from(offset.value()))),
+        Insn::Jal { offset, .. } => linked_to(pc, offset_by(pc, i64::from(offset.value()))),
         Insn::Jalr { immediate, .. } => {
-            linked_to(pc, moved(a, i64::from(immediate.value())) / 2 * 2)
+            linked_to(pc, offset_by(a, i64::from(immediate.value())) / 2 * 2)
         }
         Insn::Branch {
             condition,
@@ -184,7 +184,7 @@ pub fn execute(insn: &Insn, pc: u64, a: u64, b: u64) -> Effect
             ..
         } => {
             if holds(condition, a, b) {
-                went_to(moved(pc, i64::from(offset.value())))
+                went_to(offset_by(pc, i64::from(offset.value())))
             } else {
                 Effect::Goes {
                     target: following(pc),
@@ -197,7 +197,7 @@ pub fn execute(insn: &Insn, pc: u64, a: u64, b: u64) -> Effect
             ..
         } => Effect::Loads {
             kind,
-            address: moved(a, i64::from(immediate.value())),
+            address: offset_by(a, i64::from(immediate.value())),
         },
         Insn::Store {
             width,
@@ -205,7 +205,7 @@ pub fn execute(insn: &Insn, pc: u64, a: u64, b: u64) -> Effect
             ..
         } => Effect::Stores {
             width,
-            address: moved(a, i64::from(immediate.value())),
+            address: offset_by(a, i64::from(immediate.value())),
             value: b,
         },
         Insn::Imm { op, immediate, .. } => value_at(
@@ -218,7 +218,7 @@ pub fn execute(insn: &Insn, pc: u64, a: u64, b: u64) -> Effect
         Insn::Alu { op, .. } => value_at(pc, alu_value(op, a, b)),
         Insn::AddImmWord { immediate, .. } => value_at(
             pc,
-            extended(low(moved(a, i64::from(immediate.value())))),
+            extended(low(offset_by(a, i64::from(immediate.value())))),
         ),
         Insn::ShiftImmWord { op, amount, .. } => value_at(
             pc,

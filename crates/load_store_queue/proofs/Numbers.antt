@@ -1,42 +1,21 @@
--- What a load of one byte answers, and the number that bytes spell.
-use Rattle.std.proofs.Common.{◌≡◌, ℕ, zero, suc, ◌+◌, ◌-◌, ◌*◌, ◌%◌, ◌^◌, ◌<◌, ◌≤◌, Bool, true, false, ◌&&◌, Option, Some, None, Ok, Err, refl, ap, sym, ◌∙◌, arith}
-use Rattle.std.specs.Prelude.{if◌then◌else◌, nat_lt, ◌==◌}
-use Rattle.std.specs.FinMap.{get}
+-- The number that bytes spell, byte by byte.
+use Rattle.std.proofs.Common.{◌≡◌, ℕ, zero, suc, ◌+◌, ◌-◌, ◌*◌, ◌%◌, ◌^◌, ◌<◌, ◌≤◌, Bool, true, false, refl, ap, sym, ◌∙◌, arith}
+use Rattle.std.specs.Prelude.{if◌then◌else◌, nat_lt}
 use Rattle.std.proofs.Math.Nat.{pow-le-pow_right}
-use Rattle.std.proofs.lemmas.Bool.{eq-eqb}
-use Rattle.paged_memory.specs.declared.Fault.{Fault}
-use Rattle.paged_memory.specs.declared.Fault.TheVariants.{LoadAccess}
-use Rattle.paged_memory.specs.Cells.{Cell, Cells, byte_of, byte_at, rights_of, is_readable, all_have, number_at, load_of}
+use Rattle.std.proofs.lemmas.Bool.{lt-ltb}
+use Rattle.paged_memory.specs.Cells.{Cells, byte_at, number_at, IsByteMap}
 use Rattle.load_store_queue.specs.Answered.{addressed_byte}
 
--- ---- loads of one byte
+-- memory's byte at an address of 64 bits
+pub addressed : (m : Cells) (x : ℕ) → IsByteMap m → x < 2 ^ 64 → byte_at m x ≡ addressed_byte m x
+addressed m x is below =
+    let test : nat_lt x (2 ^ 64) ≡ true = lt-ltb x (2 ^ 64) below in
+    let whole : byte_at m x % 256 ≡ byte_at m x = omega (arith, is.below x) in
+    rw test (sym whole)
 
--- a load of one byte at any address: the byte, or none
-load_one : (m : Cells) (a : ℕ) (o : Option Cell) → get m a ≡ o → load_of m a 1 ≡ (if is_readable (rights_of o) then Ok (byte_of o) else Err LoadAccess)
-unfolding all_have number_at
-load_one m a o is =
-    let aligned : (a % 1 == 0) ≡ true = eq-eqb (a % 1) 0 (omega arith) in
-    rw (aligned, is) (by_cell o)
-  where
-    by_cell : (c : Option Cell) → (if is_readable (rights_of c) && true then Ok (byte_of c + 256 * 0) else Err LoadAccess) ≡ (if is_readable (rights_of c) then Ok (byte_of c) else Err LoadAccess)
-    by_cell None = refl
-    by_cell (Some c) = let same : c.byte + 256 * 0 ≡ c.byte = omega arith in ap (λ (n : ℕ). Ok n) same
-
-pub one_loaded : (m : Cells) (a v : ℕ) → load_of m a 1 ≡ Ok v → v ≡ byte_at m a
-one_loaded m a v h = go (get m a) (sym (load_one m a (get m a) refl) ∙ h)
-  where
-    go : (o : Option Cell) → (if is_readable (rights_of o) then Ok (byte_of o) else Err LoadAccess) ≡ Ok v → v ≡ byte_of o
-    go None e = absurd cc
-    go (Some c) e = cc
-
-pub one_refused : (m : Cells) (a : ℕ) (f : Fault) → load_of m a 1 ≡ Err f → byte_at m a ≡ 0
-one_refused m a f h = go (get m a) (sym (load_one m a (get m a) refl) ∙ h)
-  where
-    go : (o : Option Cell) → (if is_readable (rights_of o) then Ok (byte_of o) else Err LoadAccess) ≡ Err f → byte_of o ≡ 0
-    go None e = refl
-    go (Some c) e = absurd cc
-
--- ---- byte by byte
+-- the byte so far past an address, where there is one
+pub byte_read : (m : Cells) (a offset x byte : ℕ) → IsByteMap m → a + offset < 2 ^ 64 → x ≡ a + offset → byte ≡ byte_at m x → byte ≡ addressed_byte m (a + offset)
+byte_read m a offset x byte is below at read = read ∙ ap (byte_at m) at ∙ addressed m (a + offset) is below
 
 byte_small : (m : Cells) (x : ℕ) → addressed_byte m x < 256
 byte_small m x = go (nat_lt x (2 ^ 64))

@@ -1,5 +1,5 @@
 -- What a load is answered, and the bytes of memory that it reads.
-use Rattle.std.specs.Prelude.{◌≡◌, ℕ, ◌%◌, ◌^◌, ◌<◌, ◌≤◌, nat_lt, if◌then◌else◌, Option, Some, None, Result, Ok, Err}
+use Rattle.std.specs.Prelude.{ℕ, ◌%◌, ◌^◌, nat_lt, if◌then◌else◌, Option, Some, None, Result, Ok, Err}
 use Rattle.paged_memory.specs.Cells.{Cells, byte_at}
 use Rattle.paged_memory.specs.declared.Fault.{Fault}
 use Rattle.load_store_queue.specs.declared.answer.LoadAnswer.{LoadAnswer}
@@ -18,8 +18,3 @@ addressed_byte m x = if nat_lt x (2 ^ 64) then byte_at m x % 256 else 0
 abbrev pub bytes_read : Cells → Result ℕ Fault → ℕ → ℕ
 bytes_read m (Ok value) = byte_at m
 bytes_read m (Err fault) = addressed_byte m
-
--- each byte is below 256, and none stands past the last address: then either way of reading gives memory's bytes
-pub record IsByteMap (m : Cells) : Type 0 where
-  pub below : (x : ℕ) → byte_at m x < 256
-  pub addressed : (x : ℕ) → 2 ^ 64 ≤ x → byte_at m x ≡ 0

@@ -2,12 +2,12 @@
 
 ghost use Rattle.std.specs.Prelude.{◌≡◌, ◌↔◌, ◌<◌, ◌≤◌, [], ◌∷◌, ◌++◌, All, length, map, false, None, Some, Err, IfOk, OnOk, OnErr, IsOk, IsTrue, if◌then◌else◌};
 ghost use Rattle.reorder_buffer.specs.Growing.{IsGrowing, below};
-ghost use Rattle.paged_memory.specs.Cells.{byte_at, bytes_of, load_of};
+ghost use Rattle.paged_memory.specs.Cells.{byte_at, bytes_of, load_of, IsByteMap};
 ghost use Rattle.core_view.specs.Outcomes.{load_span};
 ghost use Rattle.core_view.specs.Queues.{answer_waiting_in, conflict_in, is_pending_in, sharing_in};
 ghost use Rattle.load_store_queue.specs.Queues.{empty_queues, load_stamp, store_stamp, with_span, completed_slot};
 ghost use Rattle.load_store_queue.specs.Replaced.{without_oldest};
-ghost use Rattle.load_store_queue.specs.Answered.{number_answered, bytes_read, IsByteMap};
+ghost use Rattle.load_store_queue.specs.Answered.{number_answered, bytes_read};
 
 use crate::answer::LoadAnswer;
 use crate::fault::QueueFault;

@@ -1,7 +1,7 @@
 //! The numbers that memory's bytes spell, also where an access would be refused.
 
-ghost use Rattle.std.specs.Prelude.{◌≡◌, ◌+◌, ◌%◌, ◌≤◌};
-ghost use Rattle.paged_memory.specs.Cells.{byte_at, bytes_of, load_of, number_at};
+ghost use Rattle.std.specs.Prelude.{◌≡◌, ◌+◌, ◌≤◌};
+ghost use Rattle.paged_memory.specs.Cells.{bytes_of, load_of, number_at};
 ghost use Rattle.load_store_queue.specs.Answered.{addressed_byte, bytes_read};
 
 use core_view::Span;
@@ -13,13 +13,10 @@ use std::alloc::Allocator;
 pub fn span_of(address: u64, width: Width) -> Span
     ensures { result ≡ record { address = address; size = bytes_of width } }
 {
-    let size = match width {
-        Width::Byte => 1,
-        Width::Half => 2,
-        Width::Word => 4,
-        Width::Double => 8,
-    };
-    Span { address, size }
+    Span {
+        address,
+        size: width.bytes(),
+    }
 }
 
 /// The number that memory's bytes spell at an address, 0 for those that are not mapped.
@@ -55,16 +52,6 @@ fn byte_past<A: Allocator>(memory: &Memory<A>, address: u64, offset: u8) -> u8
 {
     match address.checked_add(u64::from(offset)) {
         None => 0,
-        Some(address) => byte(memory, address),
-    }
-}
-
-/// The byte at an address, 0 where none is mapped.
-fn byte<A: Allocator>(memory: &Memory<A>, address: u64) -> u8
-    ensures { result ≡ byte_at memory.now address % 256 }
-{
-    match memory.load(address, Width::Byte) {
-        Ok(value) => (value % 256) as u8,
-        Err(_) => 0,
+        Some(address) => memory.byte(address),
     }
 }

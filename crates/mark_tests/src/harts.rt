@@ -1,12 +1,10 @@
 //! Programs whose end is known from the standard's text.
 
-ghost use Rattle.std.specs.Prelude.{◌≤◌, length};
-
 use hart_step::{
     Effect, Environment, Hart, Stop, destination, execute, first_source, following, load_width,
-    loaded, second_source, store_width,
+    loaded, offset_by, second_source, store_width,
 };
-use paged_memory::{Memory, Width};
+use paged_memory::{Fault, Memory, Width};
 use rv64_decode::{LoadKind, StoreWidth, decode};
 use std::alloc::Global;
 use std::test::Fail;
@@ -17,145 +15,241 @@ const X5_TO_DATA: u32 = 0x0010_02B7;
 /// `lui x5, 0x10`: the address of the first text page.
 const X5_TO_TEXT: u32 = 0x0001_02B7;
 
-fn hart_at_start(alloc: Global, words: &[u32], bytes: &[u8]) -> Result<Hart, Fail>
-    requires words { length words.now ≤ 65536 }
-    requires bytes { length bytes.now ≤ 1048576 }
-{
+/// The words of the countdown of x5 from 10: 21 instructions and an ECALL.
+const COUNTDOWN: &[u32] = &[0x00A0_0293, 0xFFF2_8293, 0xFE02_9EE3, ECALL];
+/// `lui x5, 0x80000; addiw x5, x5, -1; addiw x5, x5, 1`.
+const ADDIW: &[u32] = &[0x8000_02B7, 0xFFF2_829B, 0x0012_829B];
+/// `addi x6, x0, 255; sb x6, 0(x5); ld x7, 0(x5)`, x5 at the first data page.
+const BYTE_IN_A_DOUBLEWORD: &[u32] = &[X5_TO_DATA, 0x0FF0_0313, 0x0062_8023, 0x0002_B383, ECALL];
+
+/// A program, how many instructions it goes on, and what it shows then: the count, the stop that
+/// comes next, the pc, and a register with its value.
+struct Example {
+    words: &'static [u32],
+    bytes: &'static [u8],
+    goes_on: u64,
+    count: u64,
+    stop: Option<Stop>,
+    pc: u64,
+    register: (usize, u64),
+}
+
+const EXAMPLES: [Example; 11] = [
+    Example {
+        words: COUNTDOWN,
+        bytes: &[],
+        goes_on: 7,
+        count: 7,
+        stop: None,
+        pc: 0x10004,
+        register: (5, 7),
+    },
+    Example {
+        words: COUNTDOWN,
+        bytes: &[],
+        goes_on: 100,
+        count: 21,
+        stop: Some(Stop::Ecall),
+        pc: 0x1000C,
+        register: (5, 0),
+    },
+    // addi x0, x0, 5; lui x5, 0x80000
+    Example {
+        words: &[0x0050_0013, 0x8000_02B7, ECALL],
+        bytes: &[],
+        goes_on: 9,
+        count: 2,
+        stop: Some(Stop::Ecall),
+        pc: 0x10008,
+        register: (5, 0xFFFF_FFFF_8000_0000),
+    },
+    Example {
+        words: ADDIW,
+        bytes: &[],
+        goes_on: 2,
+        count: 2,
+        stop: None,
+        pc: 0x10008,
+        register: (5, 0x7FFF_FFFF),
+    },
+    Example {
+        words: ADDIW,
+        bytes: &[],
+        goes_on: 9,
+        count: 3,
+        stop: Some(Stop::Illegal),
+        pc: 0x1000C,
+        register: (5, 0xFFFF_FFFF_8000_0000),
+    },
+    // jalr x1, 2(x5)
+    Example {
+        words: &[X5_TO_TEXT, 0x0022_80E7],
+        bytes: &[],
+        goes_on: 5,
+        count: 1,
+        stop: Some(Stop::TargetMisaligned),
+        pc: 0x10004,
+        register: (1, 0),
+    },
+    // jalr x1, 1(x5): the target's lowest bit is dropped
+    Example {
+        words: &[X5_TO_TEXT, 0x0012_80E7],
+        bytes: &[],
+        goes_on: 2,
+        count: 2,
+        stop: None,
+        pc: 0x10000,
+        register: (1, 0x10008),
+    },
+    // sd x0, 0(x5)
+    Example {
+        words: &[X5_TO_TEXT, 0x0002_B023],
+        bytes: &[],
+        goes_on: 9,
+        count: 1,
+        stop: Some(Stop::StoreAccess),
+        pc: 0x10004,
+        register: (5, 0x10000),
+    },
+    // sd x0, 1(x5)
+    Example {
+        words: &[X5_TO_DATA, 0x0002_B0A3],
+        bytes: &[0; 8],
+        goes_on: 9,
+        count: 1,
+        stop: Some(Stop::StoreMisaligned),
+        pc: 0x10004,
+        register: (5, 0x100000),
+    },
+    Example {
+        words: BYTE_IN_A_DOUBLEWORD,
+        bytes: &[0x88, 0x77, 0x66, 0x55, 0x44, 0x33, 0x22, 0x11],
+        goes_on: 9,
+        count: 4,
+        stop: Some(Stop::Ecall),
+        pc: 0x10010,
+        register: (7, 0x1122_3344_5566_77FF),
+    },
+    // no program
+    Example {
+        words: &[],
+        bytes: &[],
+        goes_on: 5,
+        count: 0,
+        stop: Some(Stop::FetchAccess),
+        pc: 0x10000,
+        register: (5, 0),
+    },
+];
+
+/// The hart of a program before its first instruction.
+fn hart_at_start(alloc: Global, words: &[u32], bytes: &[u8]) -> Result<Hart, Fail> {
+    if words.len() > 65536 || bytes.len() > 1_048_576 {
+        return Err(Fail::from("too long a program"));
+    }
     let memory = Memory::new(alloc, words, bytes)?;
     Ok(Hart::new([0; 32], 0x10000, memory, Environment::One))
 }
 
-/// The pc of a hart, its x5, and why a step would stop.
-fn shown(hart: &Hart) -> (u64, u64, Option<Stop>) {
-    (hart.pc(), hart.regs()[5], hart.stop_here())
+/// Where a hart stands.
+#[derive(Clone, Copy, Debug, PartialEq, Eq)]
+struct Standing {
+    pc: u64,
+    registers: [u64; 32],
+    stop: Option<Stop>,
 }
 
-/// A hart that counts x5 from 10 down to 0.
-fn countdown_hart(alloc: Global) -> Result<Hart, Fail> {
-    hart_at_start(alloc, &[0x00A0_0293, 0xFFF2_8293, 0xFE02_9EE3, ECALL], &[])
+fn shown(hart: &Hart) -> Standing {
+    Standing {
+        pc: hart.pc(),
+        registers: *hart.regs(),
+        stop: hart.stop_here(),
+    }
+}
+
+/// What a program's run answers, and where it stands then.
+fn ran(
+    alloc: Global,
+    words: &[u32],
+    bytes: &[u8],
+    goes_on: u64,
+) -> Result<((u64, Option<Stop>), Standing), Fail> {
+    let mut hart = hart_at_start(alloc, words, bytes)?;
+    let answer = hart.run(goes_on);
+    Ok((answer, shown(&hart)))
 }
 
 #[test]
-fn countdown(rt: HostRuntime) -> Result<(), Fail> {
-    let mut hart = countdown_hart(rt.alloc())?;
-    assert_eq!(rt; hart.run(7), (7, None));
-    assert_eq!(rt; shown(&hart), (0x10004, 7, None));
-    assert_eq!(rt; hart.run(100), (14, Some(Stop::Ecall)));
-    assert_eq!(rt; shown(&hart), (0x1000C, 0, Some(Stop::Ecall)));
-    assert_eq!(rt; hart.regs(), &[0; 32]);
+fn examples(rt: HostRuntime) -> Result<(), Fail> {
+    for it in &EXAMPLES {
+        let (answer, end) = ran(rt.alloc(), it.words, it.bytes, it.goes_on)?;
+        assert_eq!(rt; answer, (it.count, it.stop));
+        assert_eq!(rt; (end.pc, end.stop), (it.pc, it.stop));
+        assert_eq!(rt; end.registers.get(it.register.0), Some(&it.register.1));
+        assert_eq!(rt; end.registers[0], 0);
+    }
     Ok(())
 }
 
-/// What a copy of a hart shows once the hart itself is at its stop.
-fn copy_shown(alloc: Global, hart: &mut Hart) -> Result<(u64, u64, Option<Stop>), Fail> {
+/// What a step of a program answers, where it stands then, and the doubleword at the start of its
+/// data.
+fn stepped(
+    alloc: Global,
+    words: &[u32],
+    bytes: &[u8],
+    goes_on: u64,
+) -> Result<(Result<(), Stop>, Standing, Result<u64, Fault>), Fail> {
+    let mut hart = hart_at_start(alloc, words, bytes)?;
+    hart.run(goes_on);
+    let answer = hart.step();
+    Ok((
+        answer,
+        shown(&hart),
+        hart.memory().load(0x100000, Width::Double),
+    ))
+}
+
+#[test]
+fn steps(rt: HostRuntime) -> Result<(), Fail> {
+    let data = 0x1122_3344_5566_7788u64.to_le_bytes();
+    let (answer, end, stored) = stepped(rt.alloc(), BYTE_IN_A_DOUBLEWORD, &data, 2)?;
+    assert_eq!(rt; answer, Ok(()));
+    assert_eq!(rt; (end.pc, end.registers[6]), (0x1000C, 255));
+    assert_eq!(rt; stored, Ok(0x1122_3344_5566_77FF));
+    let (answer, end, _) = stepped(rt.alloc(), COUNTDOWN, &[], 21)?;
+    assert_eq!(rt; answer, Err(Stop::Ecall));
+    assert_eq!(rt; end.pc, 0x1000C);
+    assert_eq!(rt; end.registers, [0; 32]);
+    Ok(())
+}
+
+/// Where a copy of the countdown after 7 instructions stands once the hart itself is at its stop,
+/// and where that stands.
+fn copied(alloc: Global) -> Result<(Standing, Standing), Fail> {
+    let mut hart = hart_at_start(alloc, COUNTDOWN, &[])?;
+    hart.run(7);
     let copy = hart.try_clone(alloc)?;
     hart.run(100);
-    Ok(shown(&copy))
+    Ok((shown(&copy), shown(&hart)))
+}
+
+/// The environment and the first word of a copy.
+fn copied_whole(alloc: Global) -> Result<(Environment, Result<u32, Fault>), Fail> {
+    let copy = hart_at_start(alloc, COUNTDOWN, &[])?.try_clone(alloc)?;
+    Ok((copy.environment(), copy.memory().fetch(0x10000)))
 }
 
 #[test]
-fn copies_apart(rt: HostRuntime) -> Result<(), Fail> {
-    let mut hart = countdown_hart(rt.alloc())?;
-    assert_eq!(rt; hart.run(7), (7, None));
-    assert_eq!(rt; copy_shown(rt.alloc(), &mut hart)?, (0x10004, 7, None));
-    assert_eq!(rt; shown(&hart), (0x1000C, 0, Some(Stop::Ecall)));
-    Ok(())
-}
-
-#[test]
-fn copies_whole(rt: HostRuntime) -> Result<(), Fail> {
-    let copy = countdown_hart(rt.alloc())?.try_clone(rt.alloc())?;
-    assert_eq!(rt; copy.environment(), Environment::One);
-    assert_eq!(rt; copy.environment().number(), 1);
-    assert_eq!(rt; copy.memory().fetch(0x10000), Ok(0x00A0_0293));
-    Ok(())
-}
-
-#[test]
-fn x0_and_lui(rt: HostRuntime) -> Result<(), Fail> {
-    // addi x0, x0, 5; lui x5, 0x80000
-    let words = [0x0050_0013, 0x8000_02B7, ECALL];
-    let mut hart = hart_at_start(rt.alloc(), &words, &[])?;
-    assert_eq!(rt; hart.run(9), (2, Some(Stop::Ecall)));
-    assert_eq!(rt; hart.regs()[5], 0xFFFF_FFFF_8000_0000);
-    assert_eq!(rt; hart.regs()[0], 0);
-    Ok(())
-}
-
-#[test]
-fn addiw_wraps(rt: HostRuntime) -> Result<(), Fail> {
-    // lui x5, 0x80000; addiw x5, x5, -1; addiw x5, x5, 1
-    let words = [0x8000_02B7, 0xFFF2_829B, 0x0012_829B];
-    let mut hart = hart_at_start(rt.alloc(), &words, &[])?;
-    assert_eq!(rt; hart.run(2), (2, None));
-    assert_eq!(rt; hart.regs()[5], 0x0000_0000_7FFF_FFFF);
-    assert_eq!(rt; hart.step(), Ok(()));
-    assert_eq!(rt; hart.regs()[5], 0xFFFF_FFFF_8000_0000);
-    assert_eq!(rt; hart.step(), Err(Stop::Illegal));
-    Ok(())
-}
-
-#[test]
-fn misaligned_jalr(rt: HostRuntime) -> Result<(), Fail> {
-    // jalr x1, 2(x5)
-    let mut hart = hart_at_start(rt.alloc(), &[X5_TO_TEXT, 0x0022_80E7], &[])?;
-    assert_eq!(rt; hart.run(5), (1, Some(Stop::TargetMisaligned)));
+fn copies(rt: HostRuntime) -> Result<(), Fail> {
+    let (copy, hart) = copied(rt.alloc())?;
+    assert_eq!(rt; (copy.pc, copy.registers[5], copy.stop), (0x10004, 7, None));
     assert_eq!(rt;
-        shown(&hart),
-        (0x10004, 0x10000, Some(Stop::TargetMisaligned))
+        (hart.pc, hart.registers[5], hart.stop),
+        (0x1000C, 0, Some(Stop::Ecall))
     );
-    assert_eq!(rt; hart.regs()[1], 0);
-    Ok(())
-}
-
-#[test]
-fn jalr_drops_the_lowest_bit(rt: HostRuntime) -> Result<(), Fail> {
-    // jalr x1, 1(x5)
-    let mut hart = hart_at_start(rt.alloc(), &[X5_TO_TEXT, 0x0012_80E7], &[])?;
-    assert_eq!(rt; hart.run(2), (2, None));
-    assert_eq!(rt; hart.pc(), 0x10000);
-    assert_eq!(rt; hart.regs()[1], 0x10008);
-    Ok(())
-}
-
-#[test]
-fn store_to_text(rt: HostRuntime) -> Result<(), Fail> {
-    // sd x0, 0(x5)
-    let mut hart = hart_at_start(rt.alloc(), &[X5_TO_TEXT, 0x0002_B023], &[])?;
-    assert_eq!(rt; hart.run(9), (1, Some(Stop::StoreAccess)));
-    assert_eq!(rt; hart.stop_here(), Some(Stop::StoreAccess));
-    Ok(())
-}
-
-#[test]
-fn misaligned_store(rt: HostRuntime) -> Result<(), Fail> {
-    // sd x0, 1(x5)
-    let mut hart = hart_at_start(rt.alloc(), &[X5_TO_DATA, 0x0002_B0A3], &[0; 8])?;
-    assert_eq!(rt; hart.run(9), (1, Some(Stop::StoreMisaligned)));
-    assert_eq!(rt; hart.stop_here(), Some(Stop::StoreMisaligned));
-    Ok(())
-}
-
-#[test]
-fn byte_within_a_doubleword(rt: HostRuntime) -> Result<(), Fail> {
-    // addi x6, x0, 255; sb x6, 0(x5); ld x7, 0(x5)
-    let words = [X5_TO_DATA, 0x0FF0_0313, 0x0062_8023, 0x0002_B383, ECALL];
-    let data = 0x1122_3344_5566_7788u64.to_le_bytes();
-    let mut hart = hart_at_start(rt.alloc(), &words, &data)?;
-    assert_eq!(rt; hart.run(9), (4, Some(Stop::Ecall)));
-    assert_eq!(rt; hart.regs()[7], 0x1122_3344_5566_77FF);
-    assert_eq!(rt;
-        hart.memory().load(0x100000, Width::Double),
-        Ok(0x1122_3344_5566_77FF)
-    );
-    Ok(())
-}
-
-#[test]
-fn no_program(rt: HostRuntime) -> Result<(), Fail> {
-    let mut hart = hart_at_start(rt.alloc(), &[], &[])?;
-    assert_eq!(rt; hart.run(5), (0, Some(Stop::FetchAccess)));
-    assert_eq!(rt; hart.stop_here(), Some(Stop::FetchAccess));
+    let (environment, word) = copied_whole(rt.alloc())?;
+    assert_eq!(rt; (environment, environment.number()), (Environment::One, 1));
+    assert_eq!(rt; word, Ok(0x00A0_0293));
     Ok(())
 }
 
@@ -195,6 +289,7 @@ fn effect_of_a_store(rt: HostRuntime) -> Result<(), Fail> {
 #[test]
 fn values(rt: HostRuntime) {
     assert_eq!(rt; following(u64::MAX - 3), 0);
+    assert_eq!(rt; offset_by(2, -4), u64::MAX - 1);
     assert_eq!(rt; load_width(LoadKind::WordUnsigned), Width::Word);
     assert_eq!(rt; store_width(StoreWidth::Half), Width::Half);
     assert_eq!(rt; loaded(LoadKind::Byte, 0x80), 0xFFFF_FFFF_FFFF_FF80);

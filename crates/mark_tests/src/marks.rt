@@ -84,16 +84,27 @@ fn counts_down(rt: HostRuntime) -> Result<(), Fail> {
     Ok(())
 }
 
+/// What 30 instructions of a context answer, and the registers and pc of the hart then.
+fn at_the_stop(
+    alloc: Global,
+    origin: &Arc<Origin>,
+    context: Ctx,
+) -> Result<((u64, Option<Stop>), [u64; 32], u64), MarkFault> {
+    let mut mark = Mark::start(alloc, origin, context)?;
+    let answer = mark.advance(30)?;
+    let hart = mark.hart(alloc)?;
+    Ok((answer, *hart.regs(), hart.pc()))
+}
+
 #[test]
 fn stops(rt: HostRuntime) -> Result<(), Fail> {
     let alloc = rt.alloc();
-    let origin = origin_of(alloc, 1)?;
+    let origin = &origin_of(alloc, 1)?;
     let [first, ..] = Ctx::all();
-    let mut mark = Mark::start(alloc, &origin, first)?;
-    assert_eq!(rt; mark.advance(30)?, (21, Some(Stop::Ecall)));
-    let hart = mark.hart(alloc)?;
-    assert_eq!(rt; *hart.regs(), [0; 32]);
-    assert_eq!(rt; hart.pc(), 0x1000c);
+    let (answer, registers, pc) = at_the_stop(alloc, origin, first)?;
+    assert_eq!(rt; answer, (21, Some(Stop::Ecall)));
+    assert_eq!(rt; registers, [0; 32]);
+    assert_eq!(rt; pc, 0x1000c);
     Ok(())
 }
 
@@ -207,20 +218,13 @@ fn codes(rt: HostRuntime) -> Result<(), Fail> {
     Ok(())
 }
 
-/// The marks with those counts at contexts 0 and 1, and 0 at the others.
-fn grid(
-    alloc: Global,
-    origin: &Arc<Origin>,
-    first: u64,
-    second: u64,
-) -> Result<Eight<Mark>, MarkFault>
-    requires first { first ≤ 1000 }
-    requires second { second ≤ 1000 }
+/// The marks with those counts, at most 1000, at contexts 0 and 1, and 0 at the others.
+fn grid(alloc: Global, origin: &Arc<Origin>, counts: (u64, u64)) -> Result<Eight<Mark>, MarkFault>
     ensures { IfOk result (AreMarksOf (arc_value origin.now)) }
 {
     let mut marks = starts(alloc, origin)?;
-    let _ = marks.c0.advance(first)?;
-    let _ = marks.c1.advance(second)?;
+    let _ = marks.c0.advance(counts.0.min(1000))?;
+    let _ = marks.c1.advance(counts.1.min(1000))?;
     Ok(marks)
 }
 
@@ -275,13 +279,28 @@ fn merge(
     Ok(Tree::Merge(left, right))
 }
 
-/// The leaf of a grid of the origin.
-fn leaf(origin: &Arc<Origin>, marks: Eight<Mark>) -> Tree<Eight<Mark>>
-    requires { AreMarksOf (arc_value origin.now) marks }
-    ensures { All (AreMarksOf (arc_value origin.now)) (leaves result) }
+/// The leaf of the grid with these counts.
+fn leaf(
+    alloc: Global,
+    origin: &Arc<Origin>,
+    counts: (u64, u64),
+) -> Result<Tree<Eight<Mark>>, MarkFault>
+    ensures { IfOk result (λ tree. All (AreMarksOf (arc_value origin.now)) (leaves tree)) }
 {
-    let _ = origin;
-    Tree::Leaf(marks)
+    Ok(Tree::Leaf(grid(alloc, origin, counts)?))
+}
+
+/// The tree of two grids.
+fn two(
+    alloc: Global,
+    origin: &Arc<Origin>,
+    left: (u64, u64),
+    right: (u64, u64),
+) -> Result<Tree<Eight<Mark>>, MarkFault>
+    ensures { IfOk result (λ tree. All (AreMarksOf (arc_value origin.now)) (leaves tree)) }
+{
+    let first = leaf(alloc, origin, left)?;
+    merge(alloc, origin, first, leaf(alloc, origin, right)?)
 }
 
 /// The counts at contexts 0 and 1 of a folded tree of grids of the origin.
@@ -293,74 +312,69 @@ fn folded(origin: &Arc<Origin>, tree: Tree<Eight<Mark>>) -> (u64, u64)
     (best.c0.count(), best.c1.count())
 }
 
-/// The leaf with counts 5 and 3 at contexts 0 and 1.
-fn five_three(alloc: Global, origin: &Arc<Origin>) -> Result<Tree<Eight<Mark>>, MarkFault>
-    ensures { IfOk result (λ tree. All (AreMarksOf (arc_value origin.now)) (leaves tree)) }
-{
-    Ok(leaf(origin, grid(alloc, origin, 5, 3)?))
+/// Two grids merged and folded.
+fn folded_two(
+    alloc: Global,
+    origin: &Arc<Origin>,
+    left: (u64, u64),
+    right: (u64, u64),
+) -> Result<(u64, u64), MarkFault> {
+    Ok(folded(origin, two(alloc, origin, left, right)?))
 }
 
-/// The leaf with counts 2 and 9 at contexts 0 and 1.
-fn two_nine(alloc: Global, origin: &Arc<Origin>) -> Result<Tree<Eight<Mark>>, MarkFault>
-    ensures { IfOk result (λ tree. All (AreMarksOf (arc_value origin.now)) (leaves tree)) }
-{
-    Ok(leaf(origin, grid(alloc, origin, 2, 9)?))
+/// Three grids, grouped to the left, merged and folded.
+fn folded_to_the_left(
+    alloc: Global,
+    origin: &Arc<Origin>,
+    counts: [(u64, u64); 3],
+) -> Result<(u64, u64), MarkFault> {
+    let both = two(alloc, origin, counts[0], counts[1])?;
+    let all = merge(alloc, origin, both, leaf(alloc, origin, counts[2])?)?;
+    Ok(folded(origin, all))
 }
 
-/// Both grids, the first one first.
-fn one_way(alloc: Global, origin: &Arc<Origin>) -> Result<Tree<Eight<Mark>>, MarkFault>
-    ensures { IfOk result (λ tree. All (AreMarksOf (arc_value origin.now)) (leaves tree)) }
-{
-    let first = five_three(alloc, origin)?;
-    merge(alloc, origin, first, two_nine(alloc, origin)?)
+/// Three grids, grouped to the right, merged and folded.
+fn folded_to_the_right(
+    alloc: Global,
+    origin: &Arc<Origin>,
+    counts: [(u64, u64); 3],
+) -> Result<(u64, u64), MarkFault> {
+    let both = two(alloc, origin, counts[1], counts[2])?;
+    let all = merge(alloc, origin, leaf(alloc, origin, counts[0])?, both)?;
+    Ok(folded(origin, all))
 }
 
-/// Both grids, the second one first.
-fn other_way(alloc: Global, origin: &Arc<Origin>) -> Result<Tree<Eight<Mark>>, MarkFault>
-    ensures { IfOk result (λ tree. All (AreMarksOf (arc_value origin.now)) (leaves tree)) }
-{
-    let first = two_nine(alloc, origin)?;
-    merge(alloc, origin, first, five_three(alloc, origin)?)
+/// The merges of two grids in both ways, merged and folded.
+fn folded_both_ways(
+    alloc: Global,
+    origin: &Arc<Origin>,
+    one: (u64, u64),
+    other: (u64, u64),
+) -> Result<(u64, u64), MarkFault> {
+    let left = two(alloc, origin, one, other)?;
+    let all = merge(alloc, origin, left, two(alloc, origin, other, one)?)?;
+    Ok(folded(origin, all))
 }
 
-/// Both grids, the first one doubled.
-fn doubled(alloc: Global, origin: &Arc<Origin>) -> Result<Tree<Eight<Mark>>, MarkFault>
-    ensures { IfOk result (λ tree. All (AreMarksOf (arc_value origin.now)) (leaves tree)) }
-{
-    let both = one_way(alloc, origin)?;
-    merge(alloc, origin, both, five_three(alloc, origin)?)
-}
+const FIVE_THREE: (u64, u64) = (5, 3);
 
-/// The second grid twice and the first, grouped to the right.
-fn rightward(alloc: Global, origin: &Arc<Origin>) -> Result<Tree<Eight<Mark>>, MarkFault>
-    ensures { IfOk result (λ tree. All (AreMarksOf (arc_value origin.now)) (leaves tree)) }
-{
-    let both = other_way(alloc, origin)?;
-    merge(alloc, origin, two_nine(alloc, origin)?, both)
-}
+const TWO_NINE: (u64, u64) = (2, 9);
 
-/// The merges of both ways, merged.
-fn paired(alloc: Global, origin: &Arc<Origin>) -> Result<Tree<Eight<Mark>>, MarkFault>
-    ensures { IfOk result (λ tree. All (AreMarksOf (arc_value origin.now)) (leaves tree)) }
-{
-    let right = other_way(alloc, origin)?;
-    merge(alloc, origin, right, one_way(alloc, origin)?)
-}
-
-/// The counts at contexts 0 and 1 of each tree, folded.
+/// The furthest of both grids, merged both ways, doubled and regrouped.
 fn folded_counts(alloc: Global, origin: &Arc<Origin>) -> Result<[(u64, u64); 5], MarkFault> {
-    let one = folded(origin, one_way(alloc, origin)?);
-    let other = folded(origin, other_way(alloc, origin)?);
-    let twice = folded(origin, doubled(alloc, origin)?);
-    let right = folded(origin, rightward(alloc, origin)?);
-    let both = folded(origin, paired(alloc, origin)?);
-    Ok([one, other, twice, right, both])
+    Ok([
+        folded_two(alloc, origin, FIVE_THREE, TWO_NINE)?,
+        folded_two(alloc, origin, TWO_NINE, FIVE_THREE)?,
+        folded_to_the_left(alloc, origin, [FIVE_THREE, TWO_NINE, FIVE_THREE])?,
+        folded_to_the_right(alloc, origin, [TWO_NINE, TWO_NINE, FIVE_THREE])?,
+        folded_both_ways(alloc, origin, TWO_NINE, FIVE_THREE)?,
+    ])
 }
 
 #[test]
 fn grid_of_merges(rt: HostRuntime) -> Result<(), Fail> {
-    let origin = origin_of(rt.alloc(), 1)?;
-    let counts = folded_counts(rt.alloc(), &origin)?;
+    let origin = &origin_of(rt.alloc(), 1)?;
+    let counts = folded_counts(rt.alloc(), origin)?;
     assert_eq!(rt; counts, [(5, 9); 5]);
     Ok(())
 }
@@ -403,8 +417,8 @@ fn furthest_of_two(
 
 /// The counts at contexts 0 and 1 of the furthest of two grids.
 fn furthest_counts(alloc: Global, origin: &Arc<Origin>) -> Result<(u64, u64), MarkFault> {
-    let first = grid(alloc, origin, 5, 3)?;
-    let second = grid(alloc, origin, 2, 9)?;
+    let first = grid(alloc, origin, FIVE_THREE)?;
+    let second = grid(alloc, origin, TWO_NINE)?;
     let best = furthest_of_two(alloc, origin, first, second)?;
     Ok((best.c0.count(), best.c1.count()))
 }

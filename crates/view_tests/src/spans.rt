@@ -1,9 +1,7 @@
 //! Spans that touch at their ends, and what loads take of stores. The values follow from the
 //! addresses and from the bytes of a value, least first.
 
-use core_view::{Bytes, Span, load_answer, span_asked};
-use hart_step::Effect;
-use rv64_decode::{LoadKind, StoreWidth};
+use core_view::{Bytes, Span};
 use std::process::Abort;
 use std::test::Fail;
 
@@ -33,18 +31,6 @@ fn covered(rt: &impl Abort, table: &[(Span, Span, bool)]) {
 fn taken(rt: &impl Abort, store: Bytes, table: &[(Span, u64)]) {
     for &(load, want) in table {
         assert_eq!(rt; store.part(load), want, "{load:?} of {store:?}");
-    }
-}
-
-/// A load of each span is answered as the table says, given the newest store that shares a byte
-/// with it, where memory's number is 0x5555.
-fn answered(rt: &impl Abort, newest: Option<Bytes>, table: &[(Span, Option<u64>)]) {
-    for &(load, want) in table {
-        assert_eq!(rt;
-            load_answer(newest, load, 0x5555),
-            want,
-            "{load:?} after {newest:?}"
-        );
     }
 }
 
@@ -115,43 +101,5 @@ fn a_byte_store_gives_its_lowest_byte(rt: HostRuntime) -> Result<(), Fail> {
         value: 0x1234,
     };
     taken(&rt, byte, &[(span(LAST, 1), 0x34)]);
-    Ok(())
-}
-
-#[test]
-fn loads_wait_for_what_covers_a_part(rt: HostRuntime) -> Result<(), Fail> {
-    let half = Bytes {
-        span: span(0x10_0002, 2),
-        value: 0xDEAD_BEEF,
-    };
-    let table = [
-        (span(0x10_0002, 2), Some(0xBEEF)),
-        (span(0x10_0003, 1), Some(0xBE)),
-        (span(0x10_0000, 4), None),
-        (span(0x10_0000, 8), None),
-    ];
-    answered(&rt, Some(half), &table);
-    answered(&rt, None, &[(span(0x10_0002, 2), Some(0x5555))]);
-    Ok(())
-}
-
-#[test]
-fn every_load_asks(rt: HostRuntime) -> Result<(), Fail> {
-    let half = Effect::Loads {
-        kind: LoadKind::HalfUnsigned,
-        address: LAST - 1,
-    };
-    let misaligned = Effect::Loads {
-        kind: LoadKind::Double,
-        address: 0x10_0001,
-    };
-    let store = Effect::Stores {
-        width: StoreWidth::Double,
-        address: 0x10_0000,
-        value: 7,
-    };
-    assert_eq!(rt; span_asked(half), Some(span(LAST - 1, 2)));
-    assert_eq!(rt; span_asked(misaligned), Some(span(0x10_0001, 8)));
-    assert_eq!(rt; span_asked(store), None);
     Ok(())
 }
