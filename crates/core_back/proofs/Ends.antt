@@ -6,7 +6,7 @@ use Rattle.join_law.specs.declared.places.Eight.{Eight}
 use Rattle.origin_set.specs.OriginValue.{OriginValue}
 use Rattle.origin_set.specs.Start.{start}
 use Rattle.checkpoint.specs.MarkValue.{MarkValue, state_of}
-use Rattle.issue_queue.specs.declared.entry.Selected.{Selected}
+use Rattle.core_view.specs.declared.note.EntryId.{EntryId}
 use Rattle.core_view.specs.declared.status.Status.{Status}
 use Rattle.core_view.specs.declared.status.Status.TheVariants.{Running, Parked, Stopped}
 use Rattle.core_view.specs.View.{Context, StatusHolds}
@@ -24,7 +24,7 @@ within_target x Parked h = let e = h.0 in omega (arith, e)
 within_target x (Stopped why) h = let e = h.0 in omega (arith, e)
 
 -- a live context is where a mark may be
-pub reached_core : (s u : State) (stamp reorder : ℕ) (f : Flow) (names : List Selected) (c : ℕ) (t : Track) → u ≡ s → IsCore s stamp reorder f names c t → IsReached u t
+pub reached_core : (s u : State) (stamp reorder : ℕ) (f : Flow) (names : List EntryId) (c : ℕ) (t : Track) → u ≡ s → IsCore s stamp reorder f names c t → IsReached u t
 reached_core s u stamp reorder f names c t same core = subst (λ (v : State). IsReached v t) (sym same) (record {
   reached = core.live.reached;
   within = within_target t.context t.context.status core.live.status;
@@ -91,7 +91,7 @@ marks_at f m e0 e1 e2 e3 e4 e5 e6 e7 (suc (suc (suc (suc (suc (suc (suc zero))))
 marks_at f m e0 e1 e2 e3 e4 e5 e6 e7 (suc (suc (suc (suc (suc (suc (suc (suc n)))))))) h = absurd (omega arith)
 
 -- the mark of a live context is where that is
-pub mark_is_at : (o p : OriginValue) (stamp reorder : ℕ) (f : Flow) (names : List Selected) (c : ℕ) (t : Track) (x : Context) (mark : MarkValue) → IsCore (start o c) stamp reorder f names c t
+pub mark_is_at : (o p : OriginValue) (stamp reorder : ℕ) (f : Flow) (names : List EntryId) (c : ℕ) (t : Track) (x : Context) (mark : MarkValue) → IsCore (start o c) stamp reorder f names c t
     → p ≡ o → x ≡ t.context → mark ≡ mark_at p c t → IsMarkAt o c x mark
 mark_is_at o p stamp reorder f names c t x mark core same is e =
     subst (λ (y : Context). IsMarkAt o c y mark) (sym is) (record { mark_is = here; reached = ap (λ (m : MarkValue). state_of m) here ∙ core.live.reached })

@@ -7,7 +7,7 @@ use Rattle.std.proofs.lemmas.Bool.{eqb-true, eq-eqb, ne_eqb, cases_lt}
 use Rattle.std.proofs.lemmas.List.Folds.{list_any_at}
 use Rattle.std.proofs.lemmas.List.{length-set, length-take-le, map-set, set-get_or, get_or-map, get_or-take, take-take, drop-set-lt}
 use Rattle.hart_step.specs.State.{State}
-use Rattle.issue_queue.specs.declared.entry.Selected.{Selected}
+use Rattle.core_view.specs.declared.note.EntryId.{EntryId}
 use Rattle.core_view.specs.declared.operation.Operation.{Operation}
 use Rattle.core_view.specs.declared.operation.Operation.TheVariants as operation
 use Rattle.core_view.specs.declared.outcome.Outcome.{Outcome}
@@ -37,7 +37,7 @@ use Rattle.core_back.proofs.Waiting.{eqb-flip, queued_place, same_place, queued-
 -- ---- what issue asks
 
 -- the queues of loads and stores answer for an entry that is renamed, and for the one after these
-pub core_answered : {start : State} {stamp reorder c : ℕ} {f : Flow} {names : List Selected} {t : Track} → IsCore start stamp reorder f names c t → (i : ℕ) → i ≤ t.renamed → IsAnswered t.context i
+pub core_answered : {start : State} {stamp reorder c : ℕ} {f : Flow} {names : List EntryId} {t : Track} → IsCore start stamp reorder f names c t → (i : ℕ) → i ≤ t.renamed → IsAnswered t.context i
 core_answered {t = t} core i le = record {
   renamed = subst AllRenamed (take-take i t.renamed t.context.flight le) (renamed-take i (take t.renamed t.context.flight) core.are_renamed);
   growing = core.live.flight.growing;
@@ -52,7 +52,7 @@ both_some (Some v) None a b h = absurd cc
 both_some (Some v) (Some w) a b h = let same : (v, w) ≡ (a, b) = cc in (ap (λ (p : ℕ × ℕ). Some p.0) same, ap (λ (p : ℕ × ℕ). Some p.1) same)
 
 -- an outcome on the values of the data flow, over the bytes that are seen, is that of the entry
-pub core_outcome : {start : State} {stamp reorder c : ℕ} {f : Flow} {names : List Selected} {t : Track} → IsCore start stamp reorder f names c t → (i : ℕ) → i < t.renamed → (a b : ℕ) (outcome : Outcome)
+pub core_outcome : {start : State} {stamp reorder c : ℕ} {f : Flow} {names : List EntryId} {t : Track} → IsCore start stamp reorder f names c t → (i : ℕ) → i < t.renamed → (a b : ℕ) (outcome : Outcome)
     → sources_at (lane f c) i ≡ Some (a, b) → outcome ≡ outcome_in (image_of t.context.state) (flight_seen_at t.context i).bytes (entry_at t.context i).operation (entry_at t.context i).pc a b
     → IsOutcome (image_of t.context.state) (flight_seen_at t.context i) (entry_at t.context i).operation (entry_at t.context i).pc outcome
 core_outcome {t = t} core i lt a b outcome sources is =
@@ -64,7 +64,7 @@ core_outcome {t = t} core i lt a b outcome sources is =
 -- ---- the entry that was selected
 
 -- a queued entry is renamed
-pub queued_renamed : {start : State} {stamp reorder c : ℕ} {f : Flow} {names : List Selected} {t : Track} → IsCore start stamp reorder f names c t → (i : ℕ) → i < length t.context.flight → (entry_at t.context i).stage ≡ Queued → i < t.renamed
+pub queued_renamed : {start : State} {stamp reorder c : ℕ} {f : Flow} {names : List EntryId} {t : Track} → IsCore start stamp reorder f names c t → (i : ℕ) → i < length t.context.flight → (entry_at t.context i).stage ≡ Queued → i < t.renamed
 queued_renamed {t = t} core i lt stage =
     elim (cases_lt i t.renamed) [
       | inl below ↦ below
@@ -83,24 +83,24 @@ or_right_true true b h = refl
 or_right_true false b h = h
 
 -- what was selected is queued
-pub selected_queued : {start : State} {stamp reorder c : ℕ} {f : Flow} {names : List Selected} {t : Track} → IsCore start stamp reorder f names c t → (k : ℕ) → is_selected names c k ≡ true → queued_at k t.context.flight ≡ true
+pub selected_queued : {start : State} {stamp reorder c : ℕ} {f : Flow} {names : List EntryId} {t : Track} → IsCore start stamp reorder f names c t → (k : ℕ) → is_selected names c k ≡ true → queued_at k t.context.flight ≡ true
 selected_queued {c = c} {f = f} {names = names} core k h = sym (core.waiting k) ∙ or_right_true (waits_in f c k) (is_selected names c k) h
 
-pub selected_place : {start : State} {stamp reorder c : ℕ} {f : Flow} {names : List Selected} {t : Track} → IsCore start stamp reorder f names c t → (k : ℕ) → is_selected names c k ≡ true → (i : ℕ) × IsSelectedPlace t k i
+pub selected_place : {start : State} {stamp reorder c : ℕ} {f : Flow} {names : List EntryId} {t : Track} → IsCore start stamp reorder f names c t → (k : ℕ) → is_selected names c k ≡ true → (i : ℕ) × IsSelectedPlace t k i
 selected_place {t = t} core k h =
     let p = queued_place k t.context.flight (selected_queued core k h) in
     let q = p.1 in
     (p.0, record { within = q.within; renamed = queued_renamed core p.0 q.within q.stage; stamp = q.stamp; stage = q.stage })
 
 -- it is in the flight
-pub selected_known : {start : State} {stamp reorder c : ℕ} {f : Flow} {names : List Selected} {t : Track} → IsCore start stamp reorder f names c t → (k : ℕ) → is_selected names c k ≡ true → list_any (λ e. e.stamp == k) t.context.flight ≡ true
+pub selected_known : {start : State} {stamp reorder c : ℕ} {f : Flow} {names : List EntryId} {t : Track} → IsCore start stamp reorder f names c t → (k : ℕ) → is_selected names c k ≡ true → list_any (λ e. e.stamp == k) t.context.flight ≡ true
 selected_known {t = t} core k h =
     let p = selected_place core k h in
     let q = p.1 in
     list_any_at (λ e. e.stamp == k) t.context.flight p.0 no_entry q.within (eq-eqb (entry_at t.context p.0).stamp k q.stamp)
 
 -- and at no other place than the one with its stamp
-pub selected_at : {start : State} {stamp reorder c : ℕ} {f : Flow} {names : List Selected} {t : Track} → IsCore start stamp reorder f names c t → (k i : ℕ) → is_selected names c k ≡ true → i < length t.context.flight → (entry_at t.context i).stamp ≡ k
+pub selected_at : {start : State} {stamp reorder c : ℕ} {f : Flow} {names : List EntryId} {t : Track} → IsCore start stamp reorder f names c t → (k i : ℕ) → is_selected names c k ≡ true → i < length t.context.flight → (entry_at t.context i).stamp ≡ k
     → IsSelectedPlace t k i
 selected_at {t = t} core k i h lt is =
     let p = selected_place core k h in
@@ -122,7 +122,7 @@ left_over false t w s same none = rw same (sym (kept (w || s)))
     kept false = refl
 
 -- issue keeps a flight patient: a load that may issue doesn't wait
-issue_patient : {start : State} {stamp reorder c : ℕ} {f : Flow} {names : List Selected} {t : Track} → IsCore start stamp reorder f names c t → (i : ℕ) (x : Execution) (a b : ℕ) → i < length t.context.flight → (entry_at t.context i).stage ≡ Queued
+issue_patient : {start : State} {stamp reorder c : ℕ} {f : Flow} {names : List EntryId} {t : Track} → IsCore start stamp reorder f names c t → (i : ℕ) (x : Execution) (a b : ℕ) → i < length t.context.flight → (entry_at t.context i).stage ≡ Queued
     → may_issue_at t.context i a b ≡ true → IsPatient (set t.context.flight i (with_stage (entry_at t.context i) (Issued x)))
 issue_patient {t = t} core i x a b lt stage may = by_operation (entry_at t.context i).operation refl may
   where
@@ -139,7 +139,7 @@ issue_patient {t = t} core i x a b lt stage may = by_operation (entry_at t.conte
         let performs : stops_at_fetch e.operation ≡ false = subst (λ s. HasOutcome image (flight_seen_at t.context i) e.operation e.pc s) stage sound.outcome in
         absurd (let bad : true ≡ false = ap stops_at_fetch (sym is) ∙ performs in cc)
 
-pub issue_core : {start : State} {stamp reorder c k : ℕ} {f : Flow} {names : List Selected} {t : Track} → IsCore start stamp reorder f (record { context = c; stamp = k } ∷ names) c t → (i : ℕ) (x : Execution) (a b : ℕ)
+pub issue_core : {start : State} {stamp reorder c k : ℕ} {f : Flow} {names : List EntryId} {t : Track} → IsCore start stamp reorder f (record { context = c; stamp = k } ∷ names) c t → (i : ℕ) (x : Execution) (a b : ℕ)
     → is_selected names c k ≡ false → waits_in f c k ≡ false → i < length t.context.flight → (entry_at t.context i).stamp ≡ k → (entry_at t.context i).stage ≡ Queued → sources_at (lane f c) i ≡ Some (a, b)
     → may_issue_at t.context i a b ≡ true → x.outcome ≡ outcome_in (image_of t.context.state) (flight_seen_at t.context i).bytes (entry_at t.context i).operation (entry_at t.context i).pc a b
     → IsCore start stamp reorder f names c (issued t i x)
@@ -185,10 +185,10 @@ issue_core {start = start} {stamp = stamp} {c = c} {k = k} {f = f} {names = name
 -- ---- the other contexts
 
 -- the names of a context are the same without one of another
-pub selected_other : (names : List Selected) (c k d j : ℕ) → d ≢ c → is_selected (record { context = c; stamp = k } ∷ names) d j ≡ is_selected names d j
+pub selected_other : (names : List EntryId) (c k d j : ℕ) → d ≢ c → is_selected (record { context = c; stamp = k } ∷ names) d j ≡ is_selected names d j
 selected_other names c k d j ne = let away : (c == d) ≡ false = ne_eqb c d (λ same. ne (sym same)) in rw away refl
 
 -- where an entry of another context issues
-pub issue_other : {start : State} {stamp reorder c k d : ℕ} {f : Flow} {names : List Selected} {t : Track} → IsCore start stamp reorder f (record { context = c; stamp = k } ∷ names) d t → d ≢ c → IsCore start stamp reorder f names d t
+pub issue_other : {start : State} {stamp reorder c k d : ℕ} {f : Flow} {names : List EntryId} {t : Track} → IsCore start stamp reorder f (record { context = c; stamp = k } ∷ names) d t → d ≢ c → IsCore start stamp reorder f names d t
 issue_other {start = start} {stamp = stamp} {reorder = reorder} {c = c} {k = k} {d = d} {f = f} {names = names} {t = t} core ne =
     other_core start stamp stamp reorder f f (record { context = c; stamp = k } ∷ names) names d t core refl (λ j. ap (λ b. waits_in f d j || b) (sym (selected_other names c k d j ne))) (omega arith)

@@ -4,6 +4,7 @@ pub mod Ends
 pub mod Fetches
 pub mod Flights
 pub mod Held
+pub mod InFlight
 pub mod Issues
 pub mod MachineIssues
 pub mod Machines

@@ -5,7 +5,7 @@ use Rattle.std.proofs.lemmas.Bool.{cases_lt}
 use Rattle.std.proofs.lemmas.Bool.Decides.{nat_tests}
 use Rattle.std.specs.Arc.{arc_value}
 use Rattle.std.proofs.lemmas.List.{get_or-set_same, get_or-set_other, get_or_past, set-get_or, length-set, map-set}
-use Rattle.issue_queue.specs.declared.entry.Selected.{Selected}
+use Rattle.core_view.specs.declared.note.EntryId.{EntryId}
 use Rattle.origin_set.specs.Start.{start}
 use Rattle.core_view.specs.View.{Context, entry_at, seen_at}
 use Rattle.core_view.specs.Events.{issue_event}
@@ -31,12 +31,12 @@ use Rattle.issue_queue.specs.Entry.{Entry as Waiting}
 use Rattle.issue_queue.specs.IsSelected.{IsSelected}
 
 -- a list that isn't empty is its first element and the others
-first_and_rest : (names : List Selected) (n : Selected) → 0 < length names → n ≡ get_or names 0 n → names ≡ n ∷ drop 1 names
+first_and_rest : (names : List EntryId) (n : EntryId) → 0 < length names → n ≡ get_or names 0 n → names ≡ n ∷ drop 1 names
 first_and_rest [] n some is = absurd (omega arith)
 first_and_rest (m ∷ names) n some is = ap (λ x. x ∷ names) (sym is)
 
 -- there is a first name where the list isn't empty
-pub some_names : (names : List Selected) (empty : Bool) → empty ≡ (length names == 0) → empty ≡ false → 0 < length names
+pub some_names : (names : List EntryId) (empty : Bool) → empty ≡ (length names == 0) → empty ≡ false → 0 < length names
 some_names [] empty is no_names = absurd (let bad : true ≡ false = sym is ∙ no_names in cc)
 some_names (n ∷ names) empty is no_names = omega arith
 
@@ -49,11 +49,11 @@ pub some_sources : (sources read : Option (ℕ × ℕ)) → sources ≡ read →
 some_sources sources read is some = ap is_some is ∙ some
 
 -- a name is clear over these contexts
-abbrev IsClearIn : Flow → List Track → Selected → Type 0
+abbrev IsClearIn : Flow → List Track → EntryId → Type 0
 IsClearIn f ts n = IsClear f n.context (get_or ts n.context no_track) n.stamp
 
 -- a name that is clear is so once an entry of the context c has issued
-issued_clear_in : (f : Flow) (ts : List Track) (c : ℕ) (t : Track) (i : ℕ) (x : Execution) (n : Selected) → c < length ts → t ≡ get_or ts c no_track → (entry_at t.context i).stage ≡ Queued → IsClearIn f ts n → IsClearIn f (set ts c (issued t i x)) n
+issued_clear_in : (f : Flow) (ts : List Track) (c : ℕ) (t : Track) (i : ℕ) (x : Execution) (n : EntryId) → c < length ts → t ≡ get_or ts c no_track → (entry_at t.context i).stage ≡ Queued → IsClearIn f ts n → IsClearIn f (set ts c (issued t i x)) n
 issued_clear_in f ts c t i x n lt track stage clear = by_context (n.context == c) refl
   where
     by_context : (b : Bool) → (n.context == c) ≡ b → IsClearIn f (set ts c (issued t i x)) n
@@ -67,7 +67,7 @@ issued_clear_in f ts c t i x n lt track stage clear = by_context (n.context == c
 
 module _ {A : Type 0} where
   -- the first name, and what is known of the entry that it stands for
-  pub record IsFirstName (m : Inside A) (now : Machine) (n : Selected) (rest : List Selected) (t : Track) : Type 0 where
+  pub record IsFirstName (m : Inside A) (now : Machine) (n : EntryId) (rest : List EntryId) (t : Track) : Type 0 where
     pub names : m.selected.items ≡ n ∷ rest
     pub shown : At m now n.context t
     pub core : IsCore (start (arc_value m.origins.c0) n.context) m.stamp m.reorder m.flow (n ∷ rest) n.context t
@@ -77,7 +77,7 @@ module _ {A : Type 0} where
     pub supplied : IsSuppliedIn m.flow n
     pub clear : IsClear m.flow n.context t n.stamp
 
-  pub first_name : (m : Inside A) (now : Machine) (n : Selected) (k : ℕ) (t : Track) → machine_of m ≡ now → IsMachine m → 0 < length m.selected.items → n ≡ get_or m.selected.items 0 n → n.context < 8 → k ≡ n.context → t ≡ get_or m.tracks.items k t
+  pub first_name : (m : Inside A) (now : Machine) (n : EntryId) (k : ℕ) (t : Track) → machine_of m ≡ now → IsMachine m → 0 < length m.selected.items → n ≡ get_or m.selected.items 0 n → n.context < 8 → k ≡ n.context → t ≡ get_or m.tracks.items k t
       → IsFirstName m now n (drop 1 m.selected.items) t
   first_name m now n k t shows ok some is lt same read =
       let rest = drop 1 m.selected.items in
@@ -95,12 +95,12 @@ module _ {A : Type 0} where
       }
 
   -- the entry of the first name may issue
-  pub first_clear : (m : Inside A) (now : Machine) (n : Selected) (rest : List Selected) (t : Track) → IsFirstName m now n rest t → (i : ℕ) (values : ℕ × ℕ) (sources : Option (ℕ × ℕ))
+  pub first_clear : (m : Inside A) (now : Machine) (n : EntryId) (rest : List EntryId) (t : Track) → IsFirstName m now n rest t → (i : ℕ) (values : ℕ × ℕ) (sources : Option (ℕ × ℕ))
       → i < length t.context.flight → (entry_at t.context i).stamp ≡ n.stamp → sources ≡ sources_at (lane m.flow n.context) i → sources ≡ Some values → may_issue_at t.context i values.0 values.1 ≡ true
   first_clear m now n rest t h i values sources lt is read some = h.clear i values.0 values.1 (ready_place h.core n.stamp i h.selected h.supplied lt is).renamed is (sym read ∙ some)
 
   -- the context of the first name is a core once its entry has issued
-  pub issued_core : (m : Inside A) (now : Machine) (n : Selected) (rest : List Selected) (t : Track) → IsFirstName m now n rest t → (i : ℕ) (x : Execution) (values : ℕ × ℕ) (sources : Option (ℕ × ℕ))
+  pub issued_core : (m : Inside A) (now : Machine) (n : EntryId) (rest : List EntryId) (t : Track) → IsFirstName m now n rest t → (i : ℕ) (x : Execution) (values : ℕ × ℕ) (sources : Option (ℕ × ℕ))
       → i < length t.context.flight → (entry_at t.context i).stamp ≡ n.stamp → sources ≡ sources_at (lane m.flow n.context) i → sources ≡ Some values
       → x.outcome ≡ outcome_in (image_of t.context.state) (seen_at t.context i).bytes (entry_at t.context i).operation (entry_at t.context i).pc values.0 values.1
       → IsCore (start (arc_value m.origins.c0) n.context) m.stamp m.reorder m.flow rest n.context (issued t i x)
@@ -109,7 +109,7 @@ module _ {A : Type 0} where
       issue_core h.core i x values.0 values.1 h.other h.idle lt is place.stage (sym read ∙ some) (first_clear m now n rest t h i values sources lt is read some) outcome
 
   -- after the entry of a name has issued, each context is a core
-  issued_cores : (m : Inside A) (n : Selected) (rest : List Selected) (u : Track) → IsMachine m → m.selected.items ≡ n ∷ rest → n.context < 8
+  issued_cores : (m : Inside A) (n : EntryId) (rest : List EntryId) (u : Track) → IsMachine m → m.selected.items ≡ n ∷ rest → n.context < 8
       → IsCore (start (arc_value m.origins.c0) n.context) m.stamp m.reorder m.flow rest n.context u
       → (d : ℕ) → d < 8 → IsCore (start (arc_value m.origins.c0) d) m.stamp m.reorder m.flow rest d (get_or (set m.tracks.items n.context u) d no_track)
   issued_cores m n rest u ok names lt core d lt-d = by_context (d == n.context) refl
@@ -128,7 +128,7 @@ module _ {A : Type 0} where
           rw (get_or-set_other m.tracks.items n.context d u no_track other) (issue_other before other)
 
   -- the machine after the entry of the first name has issued
-  pub issued_machine : (m w : Inside A) (now : Machine) (n : Selected) (k : ℕ) (rest : List Selected) (t : Track) (i : ℕ) (x : Execution) → IsMachine m → IsFirstName m now n rest t → n.context < 8 → i < length t.context.flight → (entry_at t.context i).stamp ≡ n.stamp
+  pub issued_machine : (m w : Inside A) (now : Machine) (n : EntryId) (k : ℕ) (rest : List EntryId) (t : Track) (i : ℕ) (x : Execution) → IsMachine m → IsFirstName m now n rest t → n.context < 8 → i < length t.context.flight → (entry_at t.context i).stamp ≡ n.stamp
       → IsCore (start (arc_value m.origins.c0) n.context) m.stamp m.reorder m.flow rest n.context (issued t i x)
       → k ≡ n.context → w.origins ≡ m.origins → w.flow ≡ m.flow → w.tracks.items ≡ set m.tracks.items k (issued t i x) → w.selected.items ≡ rest → w.cycle ≡ m.cycle → w.stamp ≡ m.stamp → w.fetch_room ≡ m.fetch_room → w.reorder ≡ m.reorder → IsMachine w
   issued_machine m w now n k rest t i x ok h lt within is core same origins flow tracks_k selected cycle stamp room reorder =
@@ -153,7 +153,7 @@ module _ {A : Type 0} where
       }
 
   -- and what it shows
-  pub issued_shown : (m : Inside A) (now : Machine) (c k : ℕ) (rest : List Selected) (u : Track) (x : Context) → machine_of m ≡ now → k ≡ c → u.context ≡ x
+  pub issued_shown : (m : Inside A) (now : Machine) (c k : ℕ) (rest : List EntryId) (u : Track) (x : Context) → machine_of m ≡ now → k ≡ c → u.context ≡ x
       → (let v : Machine = record {
         origin = arc_value m.origins.c0;
         view = record { cycle = m.cycle; stamp = m.stamp; contexts = map (λ (t : Track). t.context) (set m.tracks.items k u) };
@@ -164,7 +164,7 @@ module _ {A : Type 0} where
   issued_shown m now c k rest u x shows same context = rw (same, map-set (λ (t : Track). t.context) m.tracks.items c u, context, ← shows) refl
 
   -- the entry of the first name has issued
-  pub is_issued : (m : Inside A) (now : Machine) (n : Selected) (k : ℕ) (rest : List Selected) (t u : Track) (i : ℕ) (x : Execution) (latency : ℕ) (left : List Selected) → machine_of m ≡ now → IsFirstName m now n rest t → k ≡ n.context
+  pub is_issued : (m : Inside A) (now : Machine) (n : EntryId) (k : ℕ) (rest : List EntryId) (t u : Track) (i : ℕ) (x : Execution) (latency : ℕ) (left : List EntryId) → machine_of m ≡ now → IsFirstName m now n rest t → k ≡ n.context
       → i < length t.context.flight → (entry_at t.context i).stamp ≡ n.stamp → u ≡ issued t i x → x.due ≡ m.cycle + latency → left ≡ rest
       → IsIssued now (record {
         origin = arc_value m.origins.c0;
@@ -172,7 +172,7 @@ module _ {A : Type 0} where
         names = left;
         fetch_room = m.fetch_room;
         reorder = m.reorder;
-      }) (record { entry = record { context = n.context; stamp = n.stamp }; latency = latency; miss = x.miss })
+      }) (record { entry = n; latency = latency; miss = x.miss })
   is_issued m now n k rest t u i x latency left shows h same lt is new due names =
       let context : t.context ≡ context_at now n.context = h.shown.context in
       record {
@@ -190,7 +190,7 @@ module _ {A : Type 0} where
 -- ---- a selection
 
 -- names have the values of their sources still, where only what waits has changed
-same_supplied : (f g : Flow) (names : List Selected) → g ≡ record f { waiters = g.waiters } → All (IsSuppliedIn f) names → All (IsSuppliedIn g) names
+same_supplied : (f g : Flow) (names : List EntryId) → g ≡ record f { waiters = g.waiters } → All (IsSuppliedIn f) names → All (IsSuppliedIn g) names
 same_supplied f g names same supplied i d lt =
     let n = get_or names i d in
     let lanes : lane g n.context ≡ lane f n.context = ap (λ (h : Flow). lane h n.context) same in
@@ -251,7 +251,7 @@ module _ {A : Type 0} where
   }
 
   -- the machine after a selection among what isn't held
-  pub selected_machine : (m h w : Inside A) (now : Machine) (n : ℕ) {key : Waiting → ℕ} {width : ℕ} {names : List Selected} → machine_of m ≡ now → IsMachine m → now.names ≡ [] → IsHeldTo m h n → 8 ≤ n
+  pub selected_machine : (m h w : Inside A) (now : Machine) (n : ℕ) {key : Waiting → ℕ} {width : ℕ} {names : List EntryId} → machine_of m ≡ now → IsMachine m → now.names ≡ [] → IsHeldTo m h n → 8 ≤ n
       → w.flow ≡ record h.flow { waiters = w.flow.waiters } → IsSelected key width (queued h.flow) (queued w.flow) names
       → w.origins ≡ h.origins → w.tracks ≡ h.tracks → w.selected.items ≡ names → w.cycle ≡ h.cycle → w.stamp ≡ h.stamp → w.fetch_room ≡ h.fetch_room → w.reorder ≡ h.reorder → IsMachine w
   selected_machine m h w now n {names = names} shows ok idle so_far all same s origins tracks selected cycle stamp room reorder =
@@ -288,7 +288,7 @@ module _ {A : Type 0} where
       ]
 
   -- and what it shows
-  pub selected_shown : (m h : Inside A) (now : Machine) (n : ℕ) (names : List Selected) → machine_of m ≡ now → IsHeldTo m h n
+  pub selected_shown : (m h : Inside A) (now : Machine) (n : ℕ) (names : List EntryId) → machine_of m ≡ now → IsHeldTo m h n
       → (let v : Machine = record {
         origin = arc_value h.origins.c0;
         view = record { cycle = h.cycle; stamp = h.stamp; contexts = map (λ (t : Track). t.context) h.tracks.items };

@@ -9,7 +9,7 @@ use Rattle.core_view.specs.Loads.{IsPatient}
 use Rattle.core_view.specs.Queues.{AllRenamed}
 use Rattle.core_view.specs.View.{Context, IsLive}
 use Rattle.core_view.proofs.Live.{later_live}
-use Rattle.issue_queue.specs.declared.entry.Selected.{Selected}
+use Rattle.core_view.specs.declared.note.EntryId.{EntryId}
 use Rattle.data_flow.specs.Flow.{Lane, Flow, no_lane, lane, with_lane, with_result, without_oldest, cut_from, cut_flow, waits_in}
 use Rattle.core_back.specs.Track.{Track, cut_stamp}
 use Rattle.core_back.specs.Queued.{queued_at}
@@ -94,7 +94,7 @@ count-completed_flow f c i x context =
 -- ---- how a context stands
 
 -- a track and the data flow stand for a context still, where its part of the data flow, and what waits or was selected, are the same, and stamps were taken
-pub other_core : (start : State) (stamp later reorder : ℕ) (f g : Flow) (names names' : List Selected) (d : ℕ) (t : Track) → IsCore start stamp reorder f names d t → lane g d ≡ lane f d
+pub other_core : (start : State) (stamp later reorder : ℕ) (f g : Flow) (names names' : List EntryId) (d : ℕ) (t : Track) → IsCore start stamp reorder f names d t → lane g d ≡ lane f d
     → ((k : ℕ) → (waits_in g d k || is_selected names' d k) ≡ (waits_in f d k || is_selected names d k)) → stamp ≤ later → IsCore start later reorder g names' d t
 other_core start stamp later reorder f g names names' d t core same waits le = record {
   live = later_live start stamp later t.context le core.live;
@@ -112,12 +112,12 @@ other_core start stamp later reorder f g names names' d t core same waits le = r
 }
 
 -- the same of a context that an event at another one left
-pub left_core : (start : State) (stamp later reorder : ℕ) (f g : Flow) (names : List Selected) (d : ℕ) (t : Track) → IsCore start stamp reorder f names d t → IsLeft f g d → stamp ≤ later → IsCore start later reorder g names d t
+pub left_core : (start : State) (stamp later reorder : ℕ) (f g : Flow) (names : List EntryId) (d : ℕ) (t : Track) → IsCore start stamp reorder f names d t → IsLeft f g d → stamp ≤ later → IsCore start later reorder g names d t
 left_core start stamp later reorder f g names d t core left le =
     other_core start stamp later reorder f g names names d t core left.lane (λ k. ap (λ b. b || is_selected names d k) (left.waits k)) le
 
 -- what is known of a context's flight and its part of the data flow, said of so many renamed entries and a flight
-pub record IsFlightCore (reorder : ℕ) (f : Flow) (names : List Selected) (c renamed : ℕ) (es : List Entry) : Type 0 where
+pub record IsFlightCore (reorder : ℕ) (f : Flow) (names : List EntryId) (c renamed : ℕ) (es : List Entry) : Type 0 where
   pub nodes : (lane f c).nodes ≡ map node_of_entry (take renamed es)
   pub room : (lane f c).room ≡ reorder
   pub within : renamed ≤ length es
@@ -128,7 +128,7 @@ pub record IsFlightCore (reorder : ℕ) (f : Flow) (names : List Selected) (c re
   pub waiting : (k : ℕ) → (waits_in f c k || is_selected names c k) ≡ queued_at k es
   pub patient : IsPatient es
 
-pub core_from : (start : State) (stamp reorder : ℕ) (f : Flow) (names : List Selected) (c : ℕ) (t : Track) (renamed : ℕ) (es : List Entry) → t.renamed ≡ renamed → t.context.flight ≡ es → IsLive start stamp t.context
+pub core_from : (start : State) (stamp reorder : ℕ) (f : Flow) (names : List EntryId) (c : ℕ) (t : Track) (renamed : ℕ) (es : List Entry) → t.renamed ≡ renamed → t.context.flight ≡ es → IsLive start stamp t.context
     → (lane f c).registers ≡ t.context.state.registers → t.capacity ≡ reorder + front_room → IsFlightCore reorder f names c renamed es → IsCore start stamp reorder f names c t
 core_from start stamp reorder f names c t renamed es is_renamed flight live registers capacity h =
     let p : IsFlightCore reorder f names c t.renamed t.context.flight = subst (λ n. IsFlightCore reorder f names c n t.context.flight) (sym is_renamed) (subst (λ fs. IsFlightCore reorder f names c renamed fs) (sym flight) h) in

@@ -5,7 +5,7 @@ use Rattle.std.proofs.lemmas.Bool.{ne_eqb, eq-eqb, or_parts}
 use Rattle.std.proofs.lemmas.List.Elements.{All-map, All-from_get_or}
 use Rattle.std.proofs.lemmas.List.{length-set, length-take-le, get_or-take, take_more_set, drop_more, drop-set-lt, map_push}
 use Rattle.hart_step.specs.State.{State}
-use Rattle.issue_queue.specs.declared.entry.Selected.{Selected}
+use Rattle.core_view.specs.declared.note.EntryId.{EntryId}
 use Rattle.core_view.specs.declared.operation.Operation.{Operation}
 use Rattle.core_view.specs.declared.operation.Operation.TheVariants as operation
 use Rattle.core_view.specs.declared.entry.Stage.TheVariants.{Fetched}
@@ -51,7 +51,7 @@ renamed_node e cycle = rw (none_if (destination_of e.operation == 0) (result_of 
 -- ---- what renaming asks
 
 -- the entry after the renamed ones is fetched
-pub first_fetched : {start : State} {stamp reorder c : ℕ} {f : Flow} {names : List Selected} {t : Track} → IsCore start stamp reorder f names c t → t.renamed < length t.context.flight → (entry_at t.context t.renamed).stage ≡ Fetched
+pub first_fetched : {start : State} {stamp reorder c : ℕ} {f : Flow} {names : List EntryId} {t : Track} → IsCore start stamp reorder f names c t → t.renamed < length t.context.flight → (entry_at t.context t.renamed).stage ≡ Fetched
 first_fetched {t = t} core some = fetched_after t.renamed t.context.flight t.renamed core.are_fetched (omega arith) some
 
 growing_before : (low : ℕ) (es : List Entry) (i j : ℕ) → IsGrowing low es → i < j → j < length es → (get_or es i no_entry).stamp < (get_or es j no_entry).stamp
@@ -61,7 +61,7 @@ growing_before low (e ∷ es) zero (suc j) g lt within = let later = growing_at 
 growing_before low (e ∷ es) (suc i) (suc j) g lt within = growing_before (e.stamp + 1) es i j g.1 (omega arith) (omega arith)
 
 -- all instructions in the data flow are older than it
-pub nodes_older : {start : State} {stamp reorder c : ℕ} {f : Flow} {names : List Selected} {t : Track} → IsCore start stamp reorder f names c t → t.renamed < length t.context.flight
+pub nodes_older : {start : State} {stamp reorder c : ℕ} {f : Flow} {names : List EntryId} {t : Track} → IsCore start stamp reorder f names c t → t.renamed < length t.context.flight
     → All (λ n. n.operands.stamp < (entry_at t.context t.renamed).stamp) (lane f c).nodes
 nodes_older {t = t} core some =
     let younger = (entry_at t.context t.renamed).stamp in
@@ -72,7 +72,7 @@ nodes_older {t = t} core some =
     subst (All (λ (n : Node). n.operands.stamp < younger)) (sym core.nodes) (All-map (λ (n : Node). n.operands.stamp < younger) node_of_entry es entries)
 
 -- a stamp whose entry isn't queued neither waits nor was selected
-pub not_queued : {start : State} {stamp reorder c : ℕ} {f : Flow} {names : List Selected} {t : Track} → IsCore start stamp reorder f names c t → (i : ℕ) → i < length t.context.flight → is_queued (entry_at t.context i).stage ≡ false
+pub not_queued : {start : State} {stamp reorder c : ℕ} {f : Flow} {names : List EntryId} {t : Track} → IsCore start stamp reorder f names c t → (i : ℕ) → i < length t.context.flight → is_queued (entry_at t.context i).stage ≡ false
     → (waits_in f c (entry_at t.context i).stamp ≡ false) × (is_selected names c (entry_at t.context i).stamp ≡ false)
 not_queued {c = c} {f = f} {names = names} {t = t} core i lt stage =
     or_parts (waits_in f c (entry_at t.context i).stamp) (is_selected names c (entry_at t.context i).stamp) (core.waiting (entry_at t.context i).stamp ∙ none (queued_at (entry_at t.context i).stamp t.context.flight) refl)
@@ -87,13 +87,13 @@ not_queued {c = c} {f = f} {names = names} {t = t} core i lt stage =
     none false is = refl
 
 -- so the entry doesn't wait yet
-pub first_idle : {start : State} {stamp reorder c : ℕ} {f : Flow} {names : List Selected} {t : Track} → IsCore start stamp reorder f names c t → t.renamed < length t.context.flight → waits_in f c (entry_at t.context t.renamed).stamp ≡ false
+pub first_idle : {start : State} {stamp reorder c : ℕ} {f : Flow} {names : List EntryId} {t : Track} → IsCore start stamp reorder f names c t → t.renamed < length t.context.flight → waits_in f c (entry_at t.context t.renamed).stamp ≡ false
 first_idle {t = t} core some = (not_queued core t.renamed some (ap is_queued (first_fetched core some))).0
 
 -- ---- the core once it is renamed
 
 -- over a data flow that has it, and in which it waits where it is queued
-renamed_over : {start : State} {stamp reorder c : ℕ} {f : Flow} {names : List Selected} {t : Track} → IsCore start stamp reorder f names c t → (cycle : ℕ) (g : Flow) → t.renamed < length t.context.flight → t.renamed < reorder
+renamed_over : {start : State} {stamp reorder c : ℕ} {f : Flow} {names : List EntryId} {t : Track} → IsCore start stamp reorder f names c t → (cycle : ℕ) (g : Flow) → t.renamed < length t.context.flight → t.renamed < reorder
     → lane g c ≡ with_node (lane f c) (operands_of (entry_at t.context t.renamed))
     → ((k : ℕ) → (waits_in g c k || is_selected names c k) ≡ queued_at k (set t.context.flight t.renamed (with_stage (entry_at t.context t.renamed) (renamed_stage cycle (entry_at t.context t.renamed).operation))))
     → IsCore start stamp reorder g names c (renamed_one cycle t)
@@ -132,7 +132,7 @@ one_waits false true q t u h same = rw (sym h) (or_true t)
     or_true false = refl
 one_waits false false q t u h same = rw (sym h) (or_false t ∙ same)
 
-pub rename_core : {start : State} {stamp reorder c : ℕ} {f : Flow} {names : List Selected} {t : Track} → IsCore start stamp reorder f names c t → (cycle : ℕ) (speculative : Bool) → c < length f.lanes
+pub rename_core : {start : State} {stamp reorder c : ℕ} {f : Flow} {names : List EntryId} {t : Track} → IsCore start stamp reorder f names c t → (cycle : ℕ) (speculative : Bool) → c < length f.lanes
     → t.renamed < length t.context.flight → t.renamed < reorder
     → IsCore start stamp reorder (renamed_flow f c (entry_at t.context t.renamed) speculative) names c (renamed_one cycle t)
 rename_core {start = start} {stamp = stamp} {reorder = reorder} {c = c} {f = f} {names = names} {t = t} core cycle speculative within some free = by_stop (stops_at_fetch e.operation) refl

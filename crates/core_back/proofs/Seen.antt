@@ -4,7 +4,7 @@ use Rattle.std.specs.Prelude.{◌==◌, slice_set, if◌then◌else◌}
 use Rattle.std.proofs.lemmas.List.{length-map, length-take-le, get_or-take, take-take, take-map, get_or-map}
 use Rattle.paged_memory.specs.Cells.{byte_at}
 use Rattle.hart_step.specs.State.{State}
-use Rattle.issue_queue.specs.declared.entry.Selected.{Selected}
+use Rattle.core_view.specs.declared.note.EntryId.{EntryId}
 use Rattle.core_view.specs.declared.entry.Entry.{Entry}
 use Rattle.core_view.specs.Operations.{destination_of, first_source_of, second_source_of}
 use Rattle.core_view.specs.Flight.{Seen, result_of, known, produced, seen_after, seen_past, source_value}
@@ -31,16 +31,16 @@ seen_past_entries seen (e ∷ es) =
 -- ---- of a core
 
 -- the instructions before a place are the entries before it
-pub nodes_before : {start : State} {stamp reorder c : ℕ} {f : Flow} {names : List Selected} {t : Track} → IsCore start stamp reorder f names c t → (i : ℕ) → i ≤ t.renamed
+pub nodes_before : {start : State} {stamp reorder c : ℕ} {f : Flow} {names : List EntryId} {t : Track} → IsCore start stamp reorder f names c t → (i : ℕ) → i ≤ t.renamed
     → take i (lane f c).nodes ≡ map node_of_entry (take i t.context.flight)
 nodes_before {t = t} core i le = ap (take i) core.nodes ∙ take-map node_of_entry i (take t.renamed t.context.flight) ∙ ap (map node_of_entry) (take-take i t.renamed t.context.flight le)
 
 -- as many instructions are in the data flow as entries are renamed
-pub node_count : {start : State} {stamp reorder c : ℕ} {f : Flow} {names : List Selected} {t : Track} → IsCore start stamp reorder f names c t → length (lane f c).nodes ≡ t.renamed
+pub node_count : {start : State} {stamp reorder c : ℕ} {f : Flow} {names : List EntryId} {t : Track} → IsCore start stamp reorder f names c t → length (lane f c).nodes ≡ t.renamed
 node_count {t = t} core = ap length core.nodes ∙ length-map (take t.renamed t.context.flight) node_of_entry ∙ length-take-le t.renamed t.context.flight core.within
 
 -- the instruction at a place is its entry
-pub node_is : {start : State} {stamp reorder c : ℕ} {f : Flow} {names : List Selected} {t : Track} → IsCore start stamp reorder f names c t → (i : ℕ) → i < t.renamed
+pub node_is : {start : State} {stamp reorder c : ℕ} {f : Flow} {names : List EntryId} {t : Track} → IsCore start stamp reorder f names c t → (i : ℕ) → i < t.renamed
     → node_at (lane f c) i ≡ node_of_entry (entry_at t.context i)
 node_is {t = t} core i lt =
     ap (λ (ns : List Node). get_or ns i no_node) core.nodes
@@ -48,12 +48,12 @@ node_is {t = t} core i lt =
     ∙ ap node_of_entry (get_or-take t.renamed t.context.flight i no_entry lt)
 
 -- so are its operands
-pub operands_at : {start : State} {stamp reorder c : ℕ} {f : Flow} {names : List Selected} {t : Track} → IsCore start stamp reorder f names c t → (i : ℕ) → i < t.renamed
+pub operands_at : {start : State} {stamp reorder c : ℕ} {f : Flow} {names : List EntryId} {t : Track} → IsCore start stamp reorder f names c t → (i : ℕ) → i < t.renamed
     → (node_at (lane f c) i).operands ≡ operands_of (entry_at t.context i)
 operands_at core i lt = ap (λ (n : Node). n.operands) (node_is core i lt)
 
 -- the registers that it sees are those that its entry sees
-pub lane_seen : {start : State} {stamp reorder c : ℕ} {f : Flow} {names : List Selected} {t : Track} → IsCore start stamp reorder f names c t → (i : ℕ) → i ≤ t.renamed
+pub lane_seen : {start : State} {stamp reorder c : ℕ} {f : Flow} {names : List EntryId} {t : Track} → IsCore start stamp reorder f names c t → (i : ℕ) → i ≤ t.renamed
     → seen_at (lane f c) i ≡ (flight_seen_at t.context i).registers
 lane_seen {t = t} core i le =
     rw (core.registers, nodes_before core i le) (seen_past_entries (record { registers = known t.context.state.registers; bytes = byte_at t.context.state.memory }) (take i t.context.flight))
@@ -63,6 +63,6 @@ abbrev pub entry_sources : Seen → Entry → Option (ℕ × ℕ)
 entry_sources seen e = both (source_value seen.registers (first_source_of e.operation)) (source_value seen.registers (second_source_of e.operation))
 
 -- so the values of its sources are the same
-pub sources_are : {start : State} {stamp reorder c : ℕ} {f : Flow} {names : List Selected} {t : Track} → IsCore start stamp reorder f names c t → (i : ℕ) → i < t.renamed
+pub sources_are : {start : State} {stamp reorder c : ℕ} {f : Flow} {names : List EntryId} {t : Track} → IsCore start stamp reorder f names c t → (i : ℕ) → i < t.renamed
     → sources_at (lane f c) i ≡ entry_sources (flight_seen_at t.context i) (entry_at t.context i)
 sources_are core i lt = rw (lane_seen core i (omega arith), operands_at core i lt) refl

@@ -7,7 +7,7 @@ use Rattle.std.proofs.lemmas.List.{length-map, length-take-le, get_or-map, get_o
 use Rattle.std.proofs.lemmas.List.Elements.{All-head, All-tail, All-map}
 use Rattle.std.proofs.lemmas.List.Folds.{list_any_at, list_any_none}
 use Rattle.hart_step.specs.State.{State}
-use Rattle.issue_queue.specs.declared.entry.Selected.{Selected}
+use Rattle.core_view.specs.declared.note.EntryId.{EntryId}
 use Rattle.issue_queue.specs.Entry.{Entry as Waiting, IsReady, AreDistinct, is_named}
 use Rattle.issue_queue.specs.Views.{name_of}
 use Rattle.issue_queue.specs.IsSelected.{IsSelected, is_among}
@@ -31,21 +31,21 @@ use Rattle.core_back.proofs.Waiting.{eqb-flip, growing_at}
 -- ---- names
 
 -- a name stands for the entry of its context and stamp
-abbrev pub is_name : ℕ → ℕ → Selected → Bool
+abbrev pub is_name : ℕ → ℕ → EntryId → Bool
 is_name c k n = (n.context == c) && (n.stamp == k)
 
-flip_name : (c k : ℕ) (n : Selected) (e : Waiting) → is_named c k e ≡ true → is_named n.context n.stamp e ≡ is_name c k n
+flip_name : (c k : ℕ) (n : EntryId) (e : Waiting) → is_named c k e ≡ true → is_named n.context n.stamp e ≡ is_name c k n
 flip_name c k n e is =
     let h = and_parts (e.context == c) (e.stamp == k) is in
     rw (eqb-true e.context c h.0, eqb-true e.stamp k h.1, eqb-flip c n.context, eqb-flip k n.stamp) refl
 
 -- an entry is among the names where its context and stamp are
-among_names : (c k : ℕ) (names : List Selected) (e : Waiting) → is_named c k e ≡ true → is_among names e ≡ is_selected names c k
+among_names : (c k : ℕ) (names : List EntryId) (e : Waiting) → is_named c k e ≡ true → is_among names e ≡ is_selected names c k
 among_names c k [] e is = refl
 among_names c k (n ∷ names) e is = rw (flip_name c k n e is) (ap (λ b. is_name c k n || b) (among_names c k names e is))
 
 -- a name of these is selected
-pub name_selected : (names : List Selected) (i : ℕ) (d : Selected) → i < length names → is_selected names (get_or names i d).context (get_or names i d).stamp ≡ true
+pub name_selected : (names : List EntryId) (i : ℕ) (d : EntryId) → i < length names → is_selected names (get_or names i d).context (get_or names i d).stamp ≡ true
 name_selected names i d lt =
     let n = get_or names i d in
     list_any_at (is_name n.context n.stamp) names i d lt (rw (eq-eqb n.context n.context refl, eq-eqb n.stamp n.stamp refl) refl)
@@ -75,7 +75,7 @@ left_at false true s r r' same ih = ih
 left_at false false s r r' same ih = ih
 
 -- what isn't among the names stays
-left_named : (c k : ℕ) (names : List Selected) (es : List Waiting) → list_any (is_named c k) (filter (λ e. not (is_among names e)) es) ≡ (list_any (is_named c k) es && not (is_selected names c k))
+left_named : (c k : ℕ) (names : List EntryId) (es : List Waiting) → list_any (is_named c k) (filter (λ e. not (is_among names e)) es) ≡ (list_any (is_named c k) es && not (is_selected names c k))
 left_named c k names [] = refl
 left_named c k names (e ∷ es) =
     any_cond (is_named c k) (not (is_among names e)) e (filter (λ x. not (is_among names x)) es)
@@ -95,12 +95,12 @@ chosen_named c k es (e ∷ chosen) from h = go (is_named c k e) refl h (chosen_n
 -- ---- what a selection leaves
 
 -- what was selected doesn't wait any more, and the others wait as before
-pub select_left : {key : Waiting → ℕ} {width : ℕ} {names : List Selected} (f g : Flow) → IsSelected key width (queued f) (queued g) names → (c k : ℕ) → waits_in g c k ≡ (waits_in f c k && not (is_selected names c k))
+pub select_left : {key : Waiting → ℕ} {width : ℕ} {names : List EntryId} (f g : Flow) → IsSelected key width (queued f) (queued g) names → (c k : ℕ) → waits_in g c k ≡ (waits_in f c k && not (is_selected names c k))
 select_left {names = names} f g s c k =
     sym (queue_waits g c k) ∙ ap (list_any (is_named c k)) s.others ∙ left_named c k names (queued f) ∙ ap (λ w. w && not (is_selected names c k)) (queue_waits f c k)
 
 -- what was selected waited
-pub select_waited : {key : Waiting → ℕ} {width : ℕ} {names : List Selected} (f g : Flow) → IsSelected key width (queued f) (queued g) names → (c k : ℕ) → is_selected names c k ≡ true → waits_in f c k ≡ true
+pub select_waited : {key : Waiting → ℕ} {width : ℕ} {names : List EntryId} (f g : Flow) → IsSelected key width (queued f) (queued g) names → (c k : ℕ) → is_selected names c k ≡ true → waits_in f c k ≡ true
 select_waited f g s c k h = sym (queue_waits f c k) ∙ chosen_named c k (queued f) s.chosen s.queued (subst (λ ns. is_selected ns c k ≡ true) s.names h)
 
 restored : (w s : Bool) → (s ≡ true → w ≡ true) → ((w && not s) || s) ≡ w
@@ -110,11 +110,11 @@ restored false true h = sym (h refl)
 restored false false h = refl
 
 -- so what waits or was selected is what waited
-pub select_waits : {key : Waiting → ℕ} {width : ℕ} {names : List Selected} (f g : Flow) → IsSelected key width (queued f) (queued g) names → (c k : ℕ) → (waits_in g c k || is_selected names c k) ≡ waits_in f c k
+pub select_waits : {key : Waiting → ℕ} {width : ℕ} {names : List EntryId} (f g : Flow) → IsSelected key width (queued f) (queued g) names → (c k : ℕ) → (waits_in g c k || is_selected names c k) ≡ waits_in f c k
 select_waits {names = names} f g s c k = ap (λ w. w || is_selected names c k) (select_left f g s c k) ∙ restored (waits_in f c k) (is_selected names c k) (select_waited f g s c k)
 
 -- no name waits
-pub select_idle : {key : Waiting → ℕ} {width : ℕ} {names : List Selected} (f g : Flow) → IsSelected key width (queued f) (queued g) names → All (λ n. waits_in g n.context n.stamp ≡ false) names
+pub select_idle : {key : Waiting → ℕ} {width : ℕ} {names : List EntryId} (f g : Flow) → IsSelected key width (queued f) (queued g) names → All (λ n. waits_in g n.context n.stamp ≡ false) names
 select_idle {names = names} f g s i d lt =
     let n = get_or names i d in
     select_left f g s n.context n.stamp ∙ ap (λ b. waits_in f n.context n.stamp && not b) (name_selected names i d lt) ∙ and_none (waits_in f n.context n.stamp)
@@ -127,7 +127,7 @@ no_waiting = record { stamp = 0; context = 0; guessed = false; speculative = fal
 apart_names : (e x : Waiting) → AreDistinct e x → AreApart (name_of e) (name_of x)
 apart_names e x h = rw (eqb-flip x.context e.context, eqb-flip x.stamp e.stamp) h
 
-pub select_apart : {key : Waiting → ℕ} {width : ℕ} {old rest : List Waiting} {names : List Selected} → IsSelected key width old rest names → AllPairs AreApart names
+pub select_apart : {key : Waiting → ℕ} {width : ℕ} {old rest : List Waiting} {names : List EntryId} → IsSelected key width old rest names → AllPairs AreApart names
 select_apart s = subst (AllPairs AreApart) (sym s.names) (λ i j d lt within.
     let below : j < length s.chosen = omega (arith, within, length-map s.chosen name_of) in
     let one = get_or-map name_of s.chosen i no_waiting d (omega arith) in
@@ -151,7 +151,7 @@ ready_supplied f e from ready =
     let none : (queued_waiter f.lanes w).waits ≡ [] = ap (λ (x : Waiting). x.waits) (sym is) ∙ ready.0 in
     subst (λ (x : Waiting). IsSuppliedIn f (name_of x)) (sym is) (none_waited (is_supplied (known (lane f w.context).registers) (lane f w.context).nodes w.stamp) none)
 
-pub select_supplied : {key : Waiting → ℕ} {width : ℕ} {rest : List Waiting} {names : List Selected} (f : Flow) → IsSelected key width (queued f) rest names → All (IsSuppliedIn f) names
+pub select_supplied : {key : Waiting → ℕ} {width : ℕ} {rest : List Waiting} {names : List EntryId} (f : Flow) → IsSelected key width (queued f) rest names → All (IsSuppliedIn f) names
 select_supplied f s = subst (All (IsSuppliedIn f)) (sym s.names) (All-map (IsSuppliedIn f) name_of s.chosen (λ i d lt. ready_supplied f (get_or s.chosen i d) (s.queued i d lt) (s.ready i d lt)))
 
 -- ---- names are clear
@@ -167,13 +167,13 @@ ready_free f e from ready held =
     absurd (true≢false bad)
 
 -- so what was selected isn't
-pub select_free : {key : Waiting → ℕ} {width : ℕ} {rest : List Waiting} {names : List Selected} (f : Flow) → IsSelected key width (queued f) rest names → All (λ n. ¬ (IsHeld f n.context n.stamp)) names
+pub select_free : {key : Waiting → ℕ} {width : ℕ} {rest : List Waiting} {names : List EntryId} (f : Flow) → IsSelected key width (queued f) rest names → All (λ n. ¬ (IsHeld f n.context n.stamp)) names
 select_free f s =
-    let free = λ (n : Selected). ¬ (IsHeld f n.context n.stamp) in
+    let free = λ (n : EntryId). ¬ (IsHeld f n.context n.stamp) in
     subst (All free) (sym s.names) (All-map free name_of s.chosen (λ i d lt. ready_free f (get_or s.chosen i d) (s.queued i d lt) (s.ready i d lt)))
 
 -- an entry that was selected and isn't held may issue
-pub select_clear : {start : State} {stamp reorder c : ℕ} {g : Flow} {names : List Selected} {t : Track} (f : Flow) → IsCore start stamp reorder g names c t → (k : ℕ) → is_selected names c k ≡ true → AreHeld f c t → lane g c ≡ lane f c → ¬ (IsHeld f c k) → IsClear g c t k
+pub select_clear : {start : State} {stamp reorder c : ℕ} {g : Flow} {names : List EntryId} {t : Track} (f : Flow) → IsCore start stamp reorder g names c t → (k : ℕ) → is_selected names c k ≡ true → AreHeld f c t → lane g c ≡ lane f c → ¬ (IsHeld f c k) → IsClear g c t k
 select_clear {c = c} {t = t} f core k h held same free i a b lt is sources = by_test (may_issue_at t.context i a b) refl
   where
     within : i < length t.context.flight
@@ -198,7 +198,7 @@ supplied_at low seen (e ∷ es) (suc i) g lt =
     rw other (supplied_at (e.stamp + 1) (seen_past_node seen (node_of_entry e)) es i g.1 (omega arith))
 
 -- a renamed entry whose stamp has the values of its sources has them at its place
-pub supplied_sources : {start : State} {stamp reorder c : ℕ} {f : Flow} {names : List Selected} {t : Track} → IsCore start stamp reorder f names c t → (i : ℕ) → i < t.renamed
+pub supplied_sources : {start : State} {stamp reorder c : ℕ} {f : Flow} {names : List EntryId} {t : Track} → IsCore start stamp reorder f names c t → (i : ℕ) → i < t.renamed
     → IsSuppliedIn f (record { context = c; stamp = (entry_at t.context i).stamp }) → is_some (sources_at (lane f c) i) ≡ true
 supplied_sources {c = c} {f = f} {t = t} core i lt h =
     let l = lane f c in
@@ -216,11 +216,11 @@ supplied_sources {c = c} {f = f} {t = t} core i lt h =
 -- ---- the core once its entries are selected
 
 -- marks of what waits are nothing of a core
-pub remarked_core : {start : State} {stamp reorder c : ℕ} {f g : Flow} {t : Track} {names : List Selected} → IsCore start stamp reorder f names c t → IsRemarked f g → IsCore start stamp reorder g names c t
+pub remarked_core : {start : State} {stamp reorder c : ℕ} {f g : Flow} {t : Track} {names : List EntryId} → IsCore start stamp reorder f names c t → IsRemarked f g → IsCore start stamp reorder g names c t
 remarked_core {start = start} {stamp = stamp} {reorder = reorder} {c = c} {f = f} {g = g} {t = t} {names = names} core marks =
     other_core start stamp stamp reorder f g names names c t core (remarked_lane f g c marks) (λ k. ap (λ w. w || is_selected names c k) (marks.waits c k)) (omega arith)
 
-pub select_core : {start : State} {stamp reorder c : ℕ} {f g : Flow} {t : Track} {key : Waiting → ℕ} {width : ℕ} {names : List Selected} → IsCore start stamp reorder f [] c t → g ≡ record f { waiters = g.waiters } → IsSelected key width (queued f) (queued g) names
+pub select_core : {start : State} {stamp reorder c : ℕ} {f g : Flow} {t : Track} {key : Waiting → ℕ} {width : ℕ} {names : List EntryId} → IsCore start stamp reorder f [] c t → g ≡ record f { waiters = g.waiters } → IsSelected key width (queued f) (queued g) names
     → IsCore start stamp reorder g names c t
 select_core {start = start} {stamp = stamp} {reorder = reorder} {c = c} {f = f} {g = g} {t = t} {names = names} core same s =
     other_core start stamp stamp reorder f g [] names c t core (ap (λ (h : Flow). lane h c) same) (λ k. select_waits f g s c k ∙ sym (or_none (waits_in f c k))) (omega arith)
@@ -232,11 +232,11 @@ select_core {start = start} {stamp = stamp} {reorder = reorder} {c = c} {f = f} 
 -- ---- the first name
 
 -- the others are of other entries
-pub first_apart : (n : Selected) (names : List Selected) → AllPairs AreApart (n ∷ names) → is_selected names n.context n.stamp ≡ false
+pub first_apart : (n : EntryId) (names : List EntryId) → AllPairs AreApart (n ∷ names) → is_selected names n.context n.stamp ≡ false
 first_apart n names apart = list_any_none (is_name n.context n.stamp) names (λ i d lt. apart 0 (suc i) d (omega arith) (omega (arith, lt)))
 
 -- and apart among themselves
-pub rest_apart : (n : Selected) (names : List Selected) → AllPairs AreApart (n ∷ names) → AllPairs AreApart names
+pub rest_apart : (n : EntryId) (names : List EntryId) → AllPairs AreApart (n ∷ names) → AllPairs AreApart names
 rest_apart n names apart i j d lt within = apart (suc i) (suc j) d (omega (arith, lt)) (omega (arith, within))
 
 -- the place of an entry that may issue: it is queued, and the data flow has the values of its sources
@@ -246,7 +246,7 @@ pub record IsReadyPlace (f : Flow) (c : ℕ) (t : Track) (i : ℕ) : Type 0 wher
   pub stage : (entry_at t.context i).stage ≡ Queued
   pub sources : is_some (sources_at (lane f c) i) ≡ true
 
-pub ready_place : {start : State} {stamp reorder c : ℕ} {f : Flow} {names : List Selected} {t : Track} → IsCore start stamp reorder f names c t → (k i : ℕ) → is_selected names c k ≡ true → IsSuppliedIn f (record { context = c; stamp = k })
+pub ready_place : {start : State} {stamp reorder c : ℕ} {f : Flow} {names : List EntryId} {t : Track} → IsCore start stamp reorder f names c t → (k i : ℕ) → is_selected names c k ≡ true → IsSuppliedIn f (record { context = c; stamp = k })
     → i < length t.context.flight → (entry_at t.context i).stamp ≡ k → IsReadyPlace f c t i
 ready_place {c = c} {f = f} {t = t} core k i h supplied lt is =
     let p = selected_at core k i h lt is in

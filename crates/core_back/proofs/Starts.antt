@@ -4,7 +4,7 @@ use Rattle.std.proofs.Math.ListN.{length-set}
 use Rattle.std.specs.Prelude.{set}
 use Rattle.std.proofs.lemmas.List.{get_or-replicate, set-set, set-get_or, ext_get_or, get_or-set_same, get_or-set_other, get_or_append_left}
 use Rattle.hart_step.specs.State.{State}
-use Rattle.issue_queue.specs.declared.entry.Selected.{Selected}
+use Rattle.core_view.specs.declared.note.EntryId.{EntryId}
 use Rattle.hart_step.specs.Next.{after}
 use Rattle.paged_memory.specs.Cells.{rights_at}
 use Rattle.join_law.specs.Eight.{place_of}
@@ -171,7 +171,7 @@ apart_of : (o : OriginValue) (c : ℕ) → IsTextApart (rights_at (start o c).me
 apart_of o c = elim (place_of o.programs c) as (λ p. IsTextApart (rights_at (start_memory p))) [ None ↦ apart_at_start [] [] | Some p ↦ apart_at_start p.words p.bytes ]
 
 -- a track and the data flow stand for a context that starts in a state
-first_core_at : (o : OriginValue) (c count target reorder load_places store_places : ℕ) (s : State) (f : Flow) (names : List Selected) → count ≤ target → after count (start o c) ≡ Some s → s.pc % 4 ≡ 0 → slice_index s.registers 0 ≡ 0
+first_core_at : (o : OriginValue) (c count target reorder load_places store_places : ℕ) (s : State) (f : Flow) (names : List EntryId) → count ≤ target → after count (start o c) ≡ Some s → s.pc % 4 ≡ 0 → slice_index s.registers 0 ≡ 0
     → f.waiters ≡ [] → names ≡ [] → lane f c ≡ record { registers = s.registers; nodes = []; room = reorder } → IsCore (start o c) 0 reorder f names c (first_track count target s (reorder + front_room) load_places store_places)
 first_core_at o c count target reorder load_places store_places s f names le reached aligned zero_register waiters empty is = record {
   live = first_live (start o c) 0 count target s le reached aligned zero_register (apart_of o c);
@@ -197,7 +197,7 @@ pub origin_of_first : (o p : OriginValue) (marks : Eight MarkValue) (c : ℕ) �
 origin_of_first o p marks c aligned same lt is = is ∙ (mark_of_first o marks c aligned same lt).of_origin
 
 -- so for the track of a mark
-pub first_core : (o : OriginValue) (c target reorder : ℕ) (mark : MarkValue) (f : Flow) (names : List Selected) (t : Track) → IsMarkOf o c mark → IsTarget mark target → f.waiters ≡ [] → names ≡ [] → IsLaneOf mark reorder (lane f c)
+pub first_core : (o : OriginValue) (c target reorder : ℕ) (mark : MarkValue) (f : Flow) (names : List EntryId) (t : Track) → IsMarkOf o c mark → IsTarget mark target → f.waiters ≡ [] → names ≡ [] → IsLaneOf mark reorder (lane f c)
     → IsFirstTrack mark target (reorder + front_room) t → IsCore (start o c) 0 reorder f names c t
 first_core o c target reorder mark f names t of bounds waiters empty lane_is first =
     let reached : after mark.count (start o c) ≡ Some t.context.state =

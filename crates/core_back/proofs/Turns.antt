@@ -5,7 +5,7 @@ use Rattle.std.proofs.lemmas.List.{length-take, set-get_or}
 use Rattle.core_view.specs.declared.entry.Execution.{Execution}
 use Rattle.core_view.specs.declared.entry.Entry.{Entry}
 use Rattle.core_view.specs.declared.note.Issue.{Issue}
-use Rattle.issue_queue.specs.declared.entry.Selected.{Selected}
+use Rattle.core_view.specs.declared.note.EntryId.{EntryId}
 use Rattle.core_view.specs.View.{Context, no_entry}
 use Rattle.core_view.specs.Events.{with_flight, due_at, completed_by, completed_at, completed_from, complete_in, kept_length, complete_event, issue_event}
 use Rattle.core_view.proofs.Completed.{from_step}
@@ -156,6 +156,6 @@ issue_alike m n i is =
     alike_set m n i.entry.context (issue_event (context_at m i.entry.context) is.place is.execution) (ap (λ (k : Machine). k.origin) is.after) (ap (λ (k : Machine). k.view.cycle) is.after)
     (ap (λ (k : Machine). k.view.contexts) is.after) refl
 
-pub none_left : (names : List Selected) → length names ≤ 0 → names ≡ []
+pub none_left : (names : List EntryId) → length names ≤ 0 → names ≡ []
 none_left [] le = refl
 none_left (n ∷ ns) le = absurd (omega arith)

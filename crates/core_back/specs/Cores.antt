@@ -9,7 +9,7 @@ use Rattle.core_view.specs.Operations.{destination_of, first_source_of, second_s
 use Rattle.core_view.specs.Flight.{result_of}
 use Rattle.core_view.specs.Queues.{AllRenamed}
 use Rattle.core_view.specs.View.{IsLive}
-use Rattle.issue_queue.specs.declared.entry.Selected.{Selected}
+use Rattle.core_view.specs.declared.note.EntryId.{EntryId}
 use Rattle.data_flow.specs.declared.operands.Operands.{Operands}
 use Rattle.data_flow.specs.Flow.{Node, Flow, lane, waits_in}
 use Rattle.core_back.specs.Track.{Track}
@@ -33,7 +33,7 @@ AllFetched [] = Unit {0}
 AllFetched (e ∷ es) = (e.stage ≡ Fetched) × AllFetched es
 
 -- the entry of a context and stamp was selected, and has not issued yet
-abbrev pub is_selected : List Selected → ℕ → ℕ → Bool
+abbrev pub is_selected : List EntryId → ℕ → ℕ → Bool
 is_selected names c k = list_any (λ n. (n.context == c) && (n.stamp == k)) names
 
 -- ---- one context
@@ -43,7 +43,7 @@ abbrev pub front_room : ℕ
 front_room = 16
 
 -- a track and the data flow stand for a context that is live: the oldest entries are renamed, and the data flow has them; what waits there or was selected is what is queued
-pub record IsCore (start : State) (stamp reorder : ℕ) (f : Flow) (names : List Selected) (c : ℕ) (t : Track) : Type 0 where
+pub record IsCore (start : State) (stamp reorder : ℕ) (f : Flow) (names : List EntryId) (c : ℕ) (t : Track) : Type 0 where
   pub live : IsLive start stamp t.context
   pub registers : (lane f c).registers ≡ t.context.state.registers
   pub nodes : (lane f c).nodes ≡ map node_of_entry (take t.renamed t.context.flight)

@@ -64,5 +64,5 @@ pub record IsIssued (old new : Machine) (n : Issue) : Type 0 where
   pub queued : (entry_at (context_at old n.entry.context) place).stage ≡ Queued
   pub due : execution.due ≡ old.view.cycle + n.latency
   pub miss : execution.miss ≡ n.miss
-  pub names : old.names ≡ record { context = n.entry.context; stamp = n.entry.stamp } ∷ new.names
+  pub names : old.names ≡ n.entry ∷ new.names
   pub after : new ≡ record (with_context old n.entry.context (issue_event (context_at old n.entry.context) place execution)) { names = new.names }

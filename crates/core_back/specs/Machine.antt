@@ -1,10 +1,10 @@
 -- What the parts of a core show together.
-use Rattle.std.specs.Prelude.{◌≡◌, ℕ, ◌+◌, ◌-◌, ◌<◌, List, [], ◌∷◌, get_or, slice_get, option_and_then, slice_set, Option, Some, None}
+use Rattle.std.specs.Prelude.{◌≡◌, ℕ, ◌+◌, ◌-◌, ◌<◌, List, [], ◌∷◌, length, sum_by, get_or, slice_get, option_and_then, slice_set, Option, Some, None}
 use Rattle.hart_step.specs.declared.environment.Environment.TheVariants.{One}
 use Rattle.hart_step.specs.State.{State}
 use Rattle.paged_memory.specs.Start.{start_cells}
 use Rattle.origin_set.specs.OriginValue.{OriginValue}
-use Rattle.issue_queue.specs.declared.entry.Selected.{Selected}
+use Rattle.core_view.specs.declared.note.EntryId.{EntryId}
 use Rattle.core_view.specs.declared.outcome.Outcome.{Outcome}
 use Rattle.core_view.specs.declared.entry.Stage.{Stage}
 use Rattle.core_view.specs.declared.entry.Stage.TheVariants.{Fetched, Queued, Issued, Done}
@@ -18,7 +18,7 @@ use Rattle.core_back.specs.Track.{Track, first_track}
 pub record Machine : Type 0 where
   pub origin : OriginValue
   pub view : View
-  pub names : List Selected
+  pub names : List EntryId
   pub fetch_room : ℕ
   pub reorder : ℕ
 
@@ -33,6 +33,10 @@ no_track = first_track 0 0 no_state 0 0 0
 
 abbrev pub context_at : Machine → ℕ → Context
 context_at m c = get_or m.view.contexts c no_context
+
+-- how many entries of all contexts are in flight
+unfoldable pub in_flight : Machine → ℕ
+in_flight m = sum_by (λ x. length x.flight) m.view.contexts
 
 -- one context is another from now on
 abbrev pub with_context : Machine → ℕ → Context → Machine

@@ -3,7 +3,7 @@ use Rattle.std.specs.Prelude.{◌≡◌, ℕ, ◌+◌, ◌*◌, ◌<◌, ◌≤�
 use Rattle.std.specs.Arc.{arc_value}
 use Rattle.join_law.specs.Eight.{place_of}
 use Rattle.origin_set.specs.Start.{start}
-use Rattle.issue_queue.specs.declared.entry.Selected.{Selected}
+use Rattle.core_view.specs.declared.note.EntryId.{EntryId}
 use Rattle.core_back.specs.declared.machine.Machine.TheInside.{Inside}
 use Rattle.core_view.specs.Flight.{known}
 use Rattle.data_flow.specs.Flow.{Flow, lane, is_supplied, waits_in}
@@ -21,11 +21,11 @@ machine_of m = record {
 }
 
 -- two names of different entries
-abbrev pub AreApart : Selected → Selected → Type 0
+abbrev pub AreApart : EntryId → EntryId → Type 0
 AreApart n m = ((m.context == n.context) && (m.stamp == n.stamp)) ≡ false
 
 -- a name is that of an instruction with the values of its sources
-abbrev pub IsSuppliedIn : Flow → Selected → Type 0
+abbrev pub IsSuppliedIn : Flow → EntryId → Type 0
 IsSuppliedIn f n = is_supplied (known (lane f n.context).registers) (lane f n.context).nodes n.stamp ≡ true
 
 -- eight contexts, each live and as its parts have it

@@ -1,7 +1,7 @@
 //! The part of a cycle in which entries issue.
 
 ghost use Rattle.std.specs.Prelude.{◌≡◌, ◌+◌, ◌<◌, ◌≤◌, ◌^◌, []};
-ghost use Rattle.core_back.specs.Machine.{IsAlike};
+ghost use Rattle.core_back.specs.Machine.{IsAlike, in_flight};
 
 use crate::machine::Machine;
 use arrayvec::ArrayVec;
@@ -26,6 +26,7 @@ pub fn issue<A: Allocator, O: Order, D: Delay>(
     ensures alike { IsAlike machine.old machine.new }
     ensures idle { machine.new.names ≡ [] }
     ensures keeps { D.may_answer delay.new ≡ D.may_answer delay.old }
+    ensures flights { in_flight machine.new ≡ in_flight machine.old }
 {
     machine.select(order, width);
     for _place in 0..width {

@@ -5,21 +5,19 @@ ghost use Rattle.paged_memory.specs.Cells.{byte_at};
 ghost use Rattle.core_view.specs.Outcomes.{image_of, outcome_in};
 ghost use Rattle.core_view.specs.View.{entry_at};
 ghost use Rattle.data_tags.specs.Latency.{IsWithin};
-ghost use Rattle.core_back.specs.Issued.{kind_of as kind_of_operation, address_of as address_of_effect, IsLagOf};
+ghost use Rattle.core_back.specs.Issued.{kind_of_insn, address_of as address_of_effect, IsLagOf};
 
-use core_view::{Operation, Outcome};
+use crate::track::Performed;
+use core_view::Outcome;
 use data_tags::{Delay, Kind, Lag};
 use hart_step::Effect;
 use join_law::Ctx;
 use rv64_decode::Insn;
 
-/// What a delay is told of an operation.
-pub(crate) fn kind_of(operation: &Operation) -> Kind
-    ensures { result ≡ kind_of_operation operation.now }
+/// What a delay is told of an instruction.
+pub(crate) fn kind_of(insn: &Insn) -> Kind
+    ensures { result ≡ kind_of_insn insn.now }
 {
-    let Operation::Performs { insn } = operation else {
-        return Kind::Alu;
-    };
     match insn {
         Insn::Jal { .. } | Insn::Jalr { .. } | Insn::Branch { .. } => Kind::Branch,
         Insn::Load { .. } => Kind::Load,
@@ -39,26 +37,21 @@ pub(crate) fn address_of(effect: Effect) -> u64
 }
 
 /// The lag of what issues: of a load or store that stops one cycle, else the delay's answer.
-pub(crate) fn lag_of<D: Delay>(
-    delay: &mut D,
-    context: Ctx,
-    kind: Kind,
-    address: u64,
-    outcome: &Outcome,
-) -> Lag
-    ensures lag { IsLagOf (D.may_answer delay.old context) kind address outcome.now result }
+pub(crate) fn lag_of<D: Delay>(delay: &mut D, context: Ctx, performed: &Performed) -> Lag
+    ensures lag { let p = performed.now in IsLagOf (D.may_answer delay.old context) p.kind p.address p.outcome result }
     ensures least { 1 ≤ result.cycles }
     ensures most { result.cycles ≤ 200 }
     ensures keeps { D.may_answer delay.new ≡ D.may_answer delay.old }
     ensures keeps_greatest { D.greatest_lag delay.new ≡ D.greatest_lag delay.old }
 {
-    let stops = matches!(outcome, Outcome::Stops { .. });
-    if stops && matches!(kind, Kind::Load | Kind::Store) {
+    let stops = matches!(performed.outcome, Outcome::Stops { .. });
+    if stops && matches!(performed.kind, Kind::Load | Kind::Store) {
         return Lag {
             cycles: 1,
             miss: false,
         };
     }
+    // `greatest` ensures that no lag is above 200 cycles.
     let _greatest = delay.greatest();
-    delay.delay(context, kind, address)
+    delay.delay(context, performed.kind, performed.address)
 }

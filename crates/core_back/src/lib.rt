@@ -12,10 +12,10 @@ mod retiring;
 mod sizes;
 mod track;
 
-pub use completing::complete;
+pub use completing::{Completion, complete};
 pub use fetching::Fetch;
 pub use issuing::issue;
-pub use machine::Machine;
+pub use machine::{Machine, Retirement};
 pub use retiring::retire;
 pub use sizes::Sizes;
-pub use track::Track;
+pub use track::{Performed, Track};

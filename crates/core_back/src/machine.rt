@@ -1,12 +1,12 @@
 //! Eight contexts, and the data flow that they share.
 
-ghost use Rattle.std.specs.Prelude.{◌≡◌, ◌≢◌, ◌↔◌, ℕ, ◌+◌, ◌-◌, ◌<◌, ◌≤◌, ◌%◌, ◌^◌, ◌==◌, ◌&&◌, true, false, not, length, take, drop, slice_get, slice_index, option_copied, [], ◌∷◌, IfOk, IfSome, IsSome, IsTrue, Some, None, Err};
+ghost use Rattle.std.specs.Prelude.{◌≡◌, ◌≢◌, ◌↔◌, ℕ, ◌+◌, ◌-◌, ◌<◌, ◌≤◌, ◌%◌, ◌^◌, ◌==◌, ◌&&◌, true, false, not, length, slice_index, [], ◌∷◌, IfOk, IfSome, IsSome, IsTrue, Some, None, Err};
 ghost use Rattle.core_view.specs.declared.outcome.Outcome.TheVariants.{Goes, Stops};
 ghost use Rattle.core_view.specs.declared.entry.Stage.TheVariants.{Issued};
 ghost use Rattle.core_view.specs.Events.{retire_event, stop_event, complete_event};
 ghost use Rattle.core_view.specs.View.{entry_at, IsLive};
 ghost use Rattle.origin_set.specs.Start.{start};
-ghost use Rattle.core_back.specs.Machine.{IsAlike, context_at, with_context, with_cycle, first_done, due_in};
+ghost use Rattle.core_back.specs.Machine.{IsAlike, context_at, in_flight, with_context, with_cycle, first_done, due_in};
 ghost use Rattle.core_back.specs.Issued.{IsIssued};
 ghost use Rattle.core_back.specs.Fetched.{IsRenamed, IsFetched};
 ghost use Rattle.core_back.specs.First.{IsFirst, IsTarget, AreSizes, AreMarksAt};
@@ -26,7 +26,7 @@ use core_view::{Entry, EntryId, Execution, Issue, Outcome, Status, Step};
 use data_flow::DataFlow;
 use data_tags::Delay;
 use hart_step::Stop;
-use issue_queue::{Order, Selected};
+use issue_queue::Order;
 use join_law::{Ctx, Eight};
 use origin_set::Origin;
 use paged_memory::Memory;
@@ -35,13 +35,22 @@ use std::alloc::{AllocError, Allocator, Global};
 use std::marker::Model;
 use std::sync::Arc;
 
+/// An entry that retired, and how many younger ones were dropped with it.
+#[derive(Clone, Copy)]
+pub struct Retirement {
+    /// The entry.
+    pub entry: Entry,
+    /// How many were dropped.
+    pub dropped: usize,
+}
+
 /// Eight contexts in flight. A contract sees the origin, the view, and what was selected and has not issued yet.
 #[derive(Drop)]
 pub struct Machine<A: Allocator = Global> {
     origins: Eight<Arc<Origin<A>, A>>,
     flow: DataFlow<A>,
     tracks: Vec<Track<A>, A>,
-    selected: ArrayVec<Selected, 8>,
+    selected: ArrayVec<EntryId, 8>,
     cycle: u64,
     stamp: u64,
     fetch_room: u8,
@@ -128,17 +137,6 @@ impl<A: Allocator> Machine<A> {
         track.len()
     }
 
-    /// How many entries of all contexts are in flight.
-    pub fn in_flight(&self) -> usize
-        ensures { result ≤ 640 }
-    {
-        let mut entries = 0;
-        for context in Ctx::all() {
-            entries += self.len(context);
-        }
-        entries
-    }
-
     /// How many more entries may be fetched in this cycle.
     pub fn fetch_room(&self) -> u8
         ensures { result ≡ self.now.fetch_room }
@@ -194,27 +192,38 @@ impl<A: Allocator> Machine<A> {
         track.head()
     }
 
-    /// The oldest entry of a context, which is done with a step, retires. Answers that entry.
-    pub fn retire(&mut self, context: Ctx, step: Step) -> Entry
+    /// The oldest entry of a context, which is done with a step, retires. At its target the context is parked, and its
+    /// younger entries are dropped.
+    pub fn retire(&mut self, context: Ctx, step: Step) -> Retirement
         requires done { first_done (context_at self.old context).flight ≡ Some (Goes step) }
         requires idle { self.old.names ≡ [] }
         ensures retired { self.new ≡ with_context self.old context (retire_event (context_at self.old context) step) }
-        ensures entry { result ≡ entry_at (context_at self.old context) 0 }
+        ensures entry { result.entry ≡ entry_at (context_at self.old context) 0 }
+        ensures dropped { result.dropped + 1 + in_flight self.new ≡ in_flight self.old }
+        ensures bound { result.dropped ≤ 80 }
     {
         let track = &mut self.tracks[context.index()];
+        let before = track.len();
         let oldest = track.entry_at(0);
         events::retire(&mut self.flow, track, context, step);
-        oldest
+        Retirement {
+            entry: oldest,
+            dropped: before - track.len() - 1,
+        }
     }
 
-    /// The oldest entry of a context, which is done with a stop, stops it.
-    pub fn stop(&mut self, context: Ctx, why: Stop)
+    /// The oldest entry of a context, which is done with a stop, stops it. Answers how many entries are dropped: all.
+    pub fn stop(&mut self, context: Ctx, why: Stop) -> usize
         requires done { first_done (context_at self.old context).flight ≡ Some (Stops why) }
         requires idle { self.old.names ≡ [] }
-        ensures { self.new ≡ with_context self.old context (stop_event (context_at self.old context) why) }
+        ensures stopped { self.new ≡ with_context self.old context (stop_event (context_at self.old context) why) }
+        ensures dropped { result + in_flight self.new ≡ in_flight self.old }
+        ensures bound { result ≤ 80 }
     {
         let track = &mut self.tracks[context.index()];
+        let dropped = track.len();
         events::stop(&mut self.flow, track, context, why);
+        dropped
     }
 
     /// The execution of the entry of a context at a place, where it is due in this cycle.
@@ -275,21 +284,16 @@ impl<A: Allocator> Machine<A> {
         let track = &mut self.tracks[name.context.index()];
         let place = track.place_of(name.stamp).unwrap();
         let (first, second) = self.flow.sources(name.context, place).unwrap();
-        let outcome = track.outcome(place, first, second);
-        let kind = track.kind(place);
-        let address = track.address(place, first, second);
-        let lag = lag_of(delay, name.context, kind, address, &outcome);
+        let performed = track.perform(place, first, second);
+        let lag = lag_of(delay, name.context, &performed);
         let execution = Execution {
             due: self.cycle + u64::from(lag.cycles),
             miss: lag.miss,
-            outcome,
+            outcome: performed.outcome,
         };
         track.issue(place, execution);
         Some(Issue {
-            entry: EntryId {
-                context: name.context,
-                stamp: name.stamp,
-            },
+            entry: name,
             latency: lag.cycles,
             miss: lag.miss,
         })
@@ -307,6 +311,7 @@ impl<A: Allocator> Machine<A> {
         requires { self.old.names ≡ [] }
         ensures none { result ≡ None → self.new ≡ self.old }
         ensures renamed { IfSome result (IsRenamed self.old self.new context) }
+        ensures flights { in_flight self.new ≡ in_flight self.old }
         ensures alike { IsAlike self.old self.new }
         ensures idle { self.new.names ≡ [] }
     {
@@ -364,14 +369,6 @@ impl<A: Allocator> Machine<A> {
         }
     }
 
-    /// The entry of a context at a place, counted from the oldest.
-    pub fn entry(&self, context: Ctx, place: usize) -> Option<&Entry>
-        ensures { option_copied result ≡ slice_get (context_at self.now context).flight place }
-    {
-        let track = &self.tracks[context.index()];
-        track.entry(place)
-    }
-
     /// Whether one more entry of a context can be fetched: it runs, doesn't wait, and its front list has room.
     pub fn can_fetch(&self, context: Ctx) -> bool {
         let track = &self.tracks[context.index()];
@@ -386,6 +383,7 @@ impl<A: Allocator> Machine<A> {
         requires cycle { self.old.view.cycle < 2 ^ 56 }
         ensures none { result ≡ None → self.new ≡ self.old }
         ensures fetched { IfSome result (IsFetched (G.may_answer guess.old) self.old self.new context) }
+        ensures flights { IfSome result (λ _. in_flight self.new ≡ in_flight self.old + 1) }
         ensures alike { IsAlike self.old self.new }
         ensures idle { self.new.names ≡ [] }
         ensures keeps { G.may_answer guess.new ≡ G.may_answer guess.old }
@@ -405,7 +403,8 @@ impl<A: Allocator> Machine<A> {
     /// The next cycle begins.
     pub fn tick(&mut self)
         requires { self.old.view.cycle < 2 ^ 56 }
-        ensures { self.new ≡ with_cycle self.old }
+        ensures next { self.new ≡ with_cycle self.old }
+        ensures flights { in_flight self.new ≡ in_flight self.old }
     {
         self.cycle += 1;
         self.fetch_room = 8;

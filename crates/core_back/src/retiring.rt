@@ -2,7 +2,7 @@
 
 ghost use Rattle.std.specs.Prelude.{◌≡◌, ◌+◌, ◌<◌, ◌≤◌, []};
 ghost use Rattle.arrayvec.specs.ArrayVec.{array_vec_len};
-ghost use Rattle.core_back.specs.Machine.{IsAlike};
+ghost use Rattle.core_back.specs.Machine.{IsAlike, in_flight};
 
 use crate::machine::Machine;
 use arrayvec::ArrayVec;
@@ -14,26 +14,40 @@ use std::alloc::Allocator;
 
 /// The oldest entries retire, at most so many in all. Contexts are taken from the cycle's number upwards, and each goes
 /// on while its oldest entry is done. One that is done with a stop stops its context, and takes no place of the width.
-/// What retires is listed in order.
+/// What retires is listed in order. Answers how many entries were dropped: all of a context that stops, and what is left
+/// of one that is parked.
 pub fn retire<A: Allocator, G: Guess>(
     machine: &mut Machine<A>,
     guess: &mut G,
     width: usize,
     retired: &mut ArrayVec<EntryId, 16>,
-)
+) -> usize
     requires idle { machine.old.names ≡ [] }
     requires width { width ≤ 16 }
     requires fresh { retired.old.items ≡ [] }
     ensures alike { IsAlike machine.old machine.new }
     ensures idle { machine.new.names ≡ [] }
     ensures keeps { G.may_answer guess.new ≡ G.may_answer guess.old }
+    ensures dropped { result + array_vec_len retired.new + in_flight machine.new ≡ in_flight machine.old }
+    ensures bound { result ≤ 10880 }
 {
     let first = machine.cycle();
     let mut left = width;
+    let mut dropped = 0;
     for turn in 0..8u64 {
         let context = context_in_turn(first, turn);
-        left = retire_context(machine, guess, context, left, retired);
+        let after = retire_context(machine, guess, context, left, retired);
+        left = after.left;
+        dropped += after.dropped;
     }
+    dropped
+}
+
+/// What is left once a context has had its turn: so much of the width. So many of its entries were dropped.
+#[derive(Clone, Copy)]
+struct Turn {
+    left: usize,
+    dropped: usize,
 }
 
 /// The context whose turn comes in a cycle after so many others.
@@ -44,46 +58,64 @@ fn context_in_turn(cycle: u64, turn: u64) -> Ctx
     Ctx::new(number as usize).unwrap()
 }
 
-/// The oldest entries of a context retire, at most so many. Answers how much of the width is left.
+/// The oldest entries of a context retire, at most so many.
 fn retire_context<A: Allocator, G: Guess>(
     machine: &mut Machine<A>,
     guess: &mut G,
     context: Ctx,
     width: usize,
     retired: &mut ArrayVec<EntryId, 16>,
-) -> usize
+) -> Turn
     requires idle { machine.old.names ≡ [] }
     requires room { array_vec_len retired.old + width ≤ 16 }
     ensures alike { IsAlike machine.old machine.new }
     ensures idle { machine.new.names ≡ [] }
-    ensures width { array_vec_len retired.new + result ≤ 16 }
+    ensures width { array_vec_len retired.new + result.left ≤ 16 }
     ensures keeps { G.may_answer guess.new ≡ G.may_answer guess.old }
+    ensures dropped { result.dropped + array_vec_len retired.new + in_flight machine.new ≡ array_vec_len retired.old + in_flight machine.old }
+    ensures bound { result.dropped ≤ 1360 }
 {
+    let mut dropped = 0;
     for done in 0..width {
-        match machine.head(context) {
-            Some(Outcome::Goes { step }) => {
-                let oldest = machine.retire(context, step);
-                if let Operation::Performs { insn } = &oldest.operation {
-                    if is_shown(insn) {
-                        guess.learn(context, oldest.pc, insn, step.next);
-                    }
-                }
-                retired.push(EntryId {
-                    context,
-                    stamp: oldest.stamp,
-                });
+        let Some(Outcome::Goes { step }) = machine.head(context) else {
+            let stopped = stop_done(machine, context);
+            return Turn {
+                left: width - done,
+                dropped: dropped + stopped,
+            };
+        };
+        let retirement = machine.retire(context, step);
+        dropped += retirement.dropped;
+        let oldest = retirement.entry;
+        if let Operation::Performs { insn } = &oldest.operation {
+            if is_shown(insn) {
+                guess.learn(context, oldest.pc, insn, step.next);
             }
-            Some(Outcome::Stops { why }) => {
-                machine.stop(context, why);
-                return width - done;
-            }
-            None => return width - done,
         }
+        retired.push(EntryId {
+            context,
+            stamp: oldest.stamp,
+        });
     }
-    if let Some(Outcome::Stops { why }) = machine.head(context) {
-        machine.stop(context, why);
+    let rest = stop_done(machine, context);
+    Turn {
+        left: 0,
+        dropped: dropped + rest,
     }
-    0
+}
+
+/// A context whose oldest entry is done with a stop is stopped. Answers how many entries are dropped.
+fn stop_done<A: Allocator>(machine: &mut Machine<A>, context: Ctx) -> usize
+    requires { machine.old.names ≡ [] }
+    ensures alike { IsAlike machine.old machine.new }
+    ensures idle { machine.new.names ≡ [] }
+    ensures dropped { result + in_flight machine.new ≡ in_flight machine.old }
+    ensures bound { result ≤ 80 }
+{
+    let Some(Outcome::Stops { why }) = machine.head(context) else {
+        return 0;
+    };
+    machine.stop(context, why)
 }
 
 /// Whether an instruction is shown to the guess as it retires: a conditional branch, a JAL or a JALR.

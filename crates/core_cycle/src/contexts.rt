@@ -1,9 +1,10 @@
 //! Eight contexts between two cycles, when nothing is selected.
 
 ghost use Rattle.std.specs.Prelude.{◌≡◌, ℕ, ◌+◌, ◌<◌, ◌^◌, []};
+ghost use Rattle.arrayvec.specs.ArrayVec.{array_vec_len};
 ghost use Rattle.core_view.specs.View.{IsLive};
 ghost use Rattle.origin_set.specs.Start.{start};
-ghost use Rattle.core_back.specs.Machine.{context_at};
+ghost use Rattle.core_back.specs.Machine.{context_at, in_flight};
 
 use crate::{fetching, renaming};
 use branch_predict::Guess;
@@ -76,18 +77,18 @@ impl<A: Allocator> Contexts<A> {
         ensures targets { (c : ℕ) → c < 8 → (context_at self.new c).target ≡ (context_at self.old c).target }
         ensures guess { G.may_answer guess.new ≡ G.may_answer guess.old }
         ensures delay { D.may_answer delay.new ≡ D.may_answer delay.old }
+        ensures flights { result.cut + array_vec_len result.retired + in_flight self.new ≡ in_flight self.old + array_vec_len result.fetched }
     {
         let mut note = CycleNote::new();
-        let before = self.machine.in_flight();
-        retire(
+        let dropped = retire(
             &mut self.machine,
             guess,
             usize::from(profile.retire_width),
             &mut note.retired,
         );
-        note.completed = complete(&mut self.machine);
-        let gone = before.saturating_sub(self.machine.in_flight());
-        note.cut = gone.saturating_sub(note.retired.len()) as u32;
+        let completion = complete(&mut self.machine);
+        note.completed = completion.completed as u32;
+        note.cut = (dropped + completion.cut) as u32;
         issue(
             &mut self.machine,
             order,
@@ -110,6 +111,7 @@ impl<A: Allocator> Contexts<A> {
             &mut note.fetched,
         );
         self.machine.tick();
+        // `cycle` ensures that each context is live.
         let _live = self.machine.cycle();
         note
     }

@@ -1,11 +1,12 @@
 //! The core.
 
 ghost use Rattle.std.specs.Prelude.{◌≡◌, ℕ, ◌+◌, ◌<◌, ◌≤◌, ◌^◌, [], slice_index, IfOk, IfErr, IfSome, None};
+ghost use Rattle.arrayvec.specs.ArrayVec.{array_vec_len};
 ghost use Rattle.join_law.specs.Eight.{place_of};
 ghost use Rattle.checkpoint.specs.Aligned.{IsAligned};
 ghost use Rattle.core_view.specs.View.{IsLive};
 ghost use Rattle.origin_set.specs.Start.{start};
-ghost use Rattle.core_back.specs.Machine.{context_at, IsAlike};
+ghost use Rattle.core_back.specs.Machine.{context_at, in_flight, IsAlike};
 ghost use Rattle.core_back.specs.First.{IsFirst, AreSizes, AreMarksAt};
 ghost use Rattle.core_cycle.specs.Faults.{IsBehind, IsRefusal};
 
@@ -127,7 +128,8 @@ impl<G: Guess + Drop, P: Pick + Drop, O: Order + Drop, D: Delay + Drop, A: Alloc
 
     /// One cycle: entries retire, complete, issue, are renamed and are fetched. It takes no memory. Answers what was
     /// done. Whatever is guessed, picked and ordered, and however long it takes, each context is then where plain
-    /// RV64I is after as many instructions as it retired, and its flight is sound.
+    /// RV64I is after as many instructions as it retired, and its flight is sound. What was in flight or fetched is in
+    /// flight then, retired, or was cut.
     pub fn cycle(&mut self) -> CycleNote
         requires { (shown self.old).view.cycle < 2 ^ 56 }
         ensures live { (c : ℕ) → c < 8 → IsLive (start (shown self.new).origin c) (shown self.new).view.stamp (context_at (shown self.new) c) }
@@ -136,6 +138,7 @@ impl<G: Guess + Drop, P: Pick + Drop, O: Order + Drop, D: Delay + Drop, A: Alloc
         ensures targets { (c : ℕ) → c < 8 → (context_at (shown self.new) c).target ≡ (context_at (shown self.old) c).target }
         ensures guess { G.may_answer self.new.guess ≡ G.may_answer self.old.guess }
         ensures delay { D.may_answer self.new.delay ≡ D.may_answer self.old.delay }
+        ensures flights { result.cut + array_vec_len result.retired + in_flight (shown self.new) ≡ in_flight (shown self.old) + array_vec_len result.fetched }
     {
         self.contexts.cycle(
             &mut self.guess,

@@ -1,7 +1,7 @@
 //! The part of a cycle in which entries are renamed.
 
 ghost use Rattle.std.specs.Prelude.{◌≡◌, ◌+◌, ◌<◌, ◌≤◌, []};
-ghost use Rattle.core_back.specs.Machine.{IsAlike};
+ghost use Rattle.core_back.specs.Machine.{IsAlike, in_flight};
 
 use arrayvec::ArrayVec;
 use core_back::Machine;
@@ -22,6 +22,7 @@ pub(crate) fn rename<A: Allocator>(
     requires fresh { renamed.old.items ≡ [] }
     ensures alike { IsAlike machine.old machine.new }
     ensures idle { machine.new.names ≡ [] }
+    ensures flights { in_flight machine.new ≡ in_flight machine.old }
 {
     for _place in 0..width {
         let Some(context) = oldest_renamable(machine, front_delay) else {

@@ -1,39 +1,15 @@
 -- The numbers of a table with no fault are in their ranges.
-use Rattle.std.proofs.Common.{◌≡◌, ℕ, ℤ, pos, negsuc, Bool, true, false, List, Option, Some, None, unwrap_or, Ordering, Less, Equal, Greater, nat_cmp, refl, sym, subst, ◌∙◌}
+use Rattle.std.proofs.Common.{◌≡◌, ℕ, ℤ, pos, negsuc, Bool, true, false, Option, Some, None, unwrap_or, option_map, refl, sym, subst, ◌∙◌}
 use Rattle.std.specs.Prelude.{if◌then◌else◌}
 use Rattle.std.specs.Option.{option_and_then}
-use Rattle.std.specs.Cmp.Lexicographic.{slice_cmp}
-use Rattle.std.specs.Ordering.{match_ordering}
-use Rattle.std.proofs.lemmas.Map.Lookups.{exact_bytes}
-use Rattle.toml.specs.Data.{Data, Members, no_members, member, get_member, as_integer}
+use Rattle.toml.specs.Data.{Data, Members, get_member, as_integer}
 use Rattle.core_profile.specs.declared.key.Key.{Key}
 use Rattle.core_profile.specs.declared.key.Key.TheVariants.{AluLatency, BranchLatency, ExtraRegisters, Fetch, FrontDelay, HitLatency, Issue, IssueQueue, IssueWidth, LoadQueue, MissLatency, Num1, Num2, RenameWidth, ReorderBuffer, RetireWidth, StoreLatency, StoreQueue}
 use Rattle.core_profile.specs.Fields.{as_natural, number_at, fields_at, first_outside}
-use Rattle.core_profile.specs.Refusals.{Fault, member_fault, value_fault, first_fault, wrong_number, wrong_value}
+use Rattle.core_profile.specs.Refusals.{IsFaultless, key_fault, wrong_at, wrong_number, wrong_value}
 use Rattle.core_profile.specs.Tables.{Range, fetch_policy, issue_policy, one_two_four, from_to, key_named, name_of, range_of, allows, default_of}
 use Rattle.core_profile.specs.declared.wrong.Wrong.{Wrong}
 use Rattle.core_profile.specs.declared.wrong.Wrong.TheVariants.{Range as OutOfRange}
-
--- a member and those after it have no fault
-none_here : (name : List ℕ) (k : Option Key) (d : Data) (later : Option Fault) → member_fault name k d later ≡ None → (member_fault name k d None ≡ None) × (later ≡ None)
-none_here name None d later h = absurd cc
-none_here name (Some k) d later h = by (wrong_value (range_of k) d) h
-  where
-    by : (w : Option Wrong) → value_fault k w later ≡ None → (value_fault k w None ≡ None) × (later ≡ None)
-    by None h = (refl, h)
-    by (Some w) h = absurd cc
-
--- so the value at each key has none
-fine : (ms : Members) → first_fault ms ≡ None → (name : List ℕ) (d : Data) → get_member name ms ≡ Some d → member_fault name (key_named name) d None ≡ None
-fine no_members h name d g = absurd cc
-fine (member l e ms) h name d g =
-    let parts = none_here l (key_named l) e (first_fault ms) h in
-    by (slice_cmp nat_cmp name l) refl parts.0 g (fine ms parts.1 name d)
-  where
-    by : (o : Ordering) → slice_cmp nat_cmp name l ≡ o → member_fault l (key_named l) e None ≡ None → match_ordering o (get_member name ms) (Some e) (get_member name ms) ≡ Some d → (get_member name ms ≡ Some d → member_fault name (key_named name) d None ≡ None) → member_fault name (key_named name) d None ≡ None
-    by Less q here g more = more g
-    by Equal q here g more = let eq : e ≡ d = cc in rw (exact_bytes name l q, ← eq) here
-    by Greater q here g more = more g
 
 -- a number may stand at the key
 abbrev IsNumber : Range → Type 0
@@ -52,25 +28,25 @@ of_value r default (Some (pos n)) d h = by (allows r n) refl h
     by false q h = absurd cc
 of_value r default (Some (negsuc n)) d h = absurd cc
 
-at_number : (k : Key) (ms : Members) → key_named (name_of k) ≡ Some k → ((d : Data) → wrong_value (range_of k) d ≡ wrong_number (range_of k) (as_integer d)) → allows (range_of k) (default_of k) ≡ true → first_fault ms ≡ None → allows (range_of k) (number_at k ms) ≡ true
+at_number : (k : Key) (ms : Members) → key_named (name_of k) ≡ Some k → ((d : Data) → wrong_value (range_of k) d ≡ wrong_number (range_of k) (as_integer d)) → allows (range_of k) (default_of k) ≡ true → IsFaultless ms → allows (range_of k) (number_at k ms) ≡ true
 at_number k ms named number default none = by (get_member (name_of k) ms) refl
   where
-    no_wrong : (d : Data) → member_fault (name_of k) (Some k) d None ≡ None → wrong_value (range_of k) d ≡ None
-    no_wrong d h = elim (wrong_value (range_of k) d) as (λ w. value_fault k w None ≡ None → w ≡ None) [ None ↦ λ h. refl | Some w ↦ λ h. absurd cc ] h
+    no_wrong : (d : Data) → key_fault (name_of k) (Some k) d ≡ None → wrong_value (range_of k) d ≡ None
+    no_wrong d h = elim (wrong_value (range_of k) d) as (λ w. option_map (wrong_at k) w ≡ None → w ≡ None) [ None ↦ λ h. refl | Some w ↦ λ h. absurd cc ] h
 
     by : (o : Option Data) → get_member (name_of k) ms ≡ o → allows (range_of k) (unwrap_or (option_and_then as_natural (option_and_then as_integer o)) (default_of k)) ≡ true
     by None q = default
     by (Some d) q =
-        let P : Option Key → Type 0 = λ o. member_fault (name_of k) o d None ≡ None in
-        of_value (range_of k) (default_of k) (as_integer d) default (sym (number d) ∙ no_wrong d (subst P named (fine ms none (name_of k) d q)))
+        let P : Option Key → Type 0 = λ o. key_fault (name_of k) o d ≡ None in
+        of_value (range_of k) (default_of k) (as_integer d) default (sym (number d) ∙ no_wrong d (subst P named (none (name_of k) d q)))
 
 -- the number at each key is in its range
-in_range : (k : Key) (ms : Members) → IsNumber (range_of k) → first_fault ms ≡ None → allows (range_of k) (number_at k ms) ≡ true
+in_range : (k : Key) (ms : Members) → IsNumber (range_of k) → IsFaultless ms → allows (range_of k) (number_at k ms) ≡ true
 unfolding allows
 in_range Fetch ms h none = absurd h
 in_range Issue ms h none = absurd h
 in_range k ms h none = at_number k ms refl (λ d. refl) refl none
 
-pub none_outside : (ms : Members) → first_fault ms ≡ None → first_outside (fields_at ms) ≡ None
+pub none_outside : (ms : Members) → IsFaultless ms → first_outside (fields_at ms) ≡ None
 none_outside ms none =
     rw (in_range AluLatency ms tt none, in_range BranchLatency ms tt none, in_range ExtraRegisters ms tt none, in_range FrontDelay ms tt none, in_range HitLatency ms tt none, in_range IssueQueue ms tt none, in_range IssueWidth ms tt none, in_range LoadQueue ms tt none, in_range MissLatency ms tt none, in_range Num1 ms tt none, in_range Num2 ms tt none, in_range RenameWidth ms tt none, in_range ReorderBuffer ms tt none, in_range RetireWidth ms tt none, in_range StoreLatency ms tt none, in_range StoreQueue ms tt none) refl

@@ -1,2 +1,4 @@
 pub mod Allowed
+pub mod Ascending
+pub mod FirstFault
 pub mod InRange

@@ -1,5 +1,5 @@
 -- The fields of a profile, and those that a table gives.
-use Rattle.std.specs.Prelude.{ℕ, ℤ, pos, negsuc, List, [], ◌∷◌, Option, Some, None, option_map, option_and_then, unwrap_or, find, not}
+use Rattle.std.specs.Prelude.{◌≡◌, ℕ, ℤ, pos, negsuc, List, [], ◌∷◌, Option, Some, None, option_map, option_and_then, unwrap_or, find, not, true, false, Contains}
 use Rattle.toml.specs.Data.{Members, as_integer, as_str, get_member}
 use Rattle.core_profile.specs.declared.key.Key.{Key}
 use Rattle.core_profile.specs.declared.key.Key.TheVariants.{AluLatency, BranchLatency, ExtraRegisters, Fetch, FrontDelay, HitLatency, Issue, IssueQueue, IssueWidth, LoadQueue, MissLatency, Num1, Num2, RenameWidth, ReorderBuffer, RetireWidth, StoreLatency, StoreQueue}
@@ -10,7 +10,7 @@ use Rattle.core_profile.specs.declared.policy.IssuePolicy.TheVariants.{OldestFir
 use Rattle.core_profile.specs.declared.profile.Profile.{Profile}
 use Rattle.core_profile.specs.declared.fields.ProfileFields.{ProfileFields}
 use Rattle.core_profile.specs.Policies.{fetch_named, issue_named}
-use Rattle.core_profile.specs.Tables.{name_of, range_of, allows, default_of}
+use Rattle.core_profile.specs.Tables.{IsBefore, name_of, range_of, allows, default_of}
 
 -- the fields of a profile
 abbrev pub fields_of : Profile → ProfileFields
@@ -75,10 +75,17 @@ fields_at ms = record {
   miss_latency = number_at MissLatency ms;
 }
 
--- the numbers of a profile with their keys, in the order of the keys' bytes
+-- the numbers of a profile with their keys
 abbrev pub numbers : ProfileFields → List (Key × ℕ)
 numbers f = (AluLatency, f.alu_latency) ∷ (BranchLatency, f.branch_latency) ∷ (ExtraRegisters, f.extra_registers) ∷ (FrontDelay, f.front_delay) ∷ (HitLatency, f.hit_latency) ∷ (IssueQueue, f.issue_queue) ∷ (IssueWidth, f.issue_width) ∷ (LoadQueue, f.load_queue) ∷ (MissLatency, f.miss_latency) ∷ (Num1, f.num1) ∷ (Num2, f.num2) ∷ (RenameWidth, f.rename_width) ∷ (ReorderBuffer, f.reorder_buffer) ∷ (RetireWidth, f.retire_width) ∷ (StoreLatency, f.store_latency) ∷ (StoreQueue, f.store_queue) ∷ []
 
--- the first key whose number is out of its range
+-- the first of these whose number is out of its range
 abbrev pub first_outside : ProfileFields → Option Key
 first_outside f = option_map (λ r. r.0) (find (λ r. not (allows (range_of r.0) r.1)) (numbers f))
+
+-- the key of a number out of its range, where no key that comes before it in byte order has one
+pub record IsFirstOutside (f : ProfileFields) (k : Key) : Type 0 where
+  pub number : ℕ
+  pub here : Contains (numbers f) (k, number)
+  pub outside : allows (range_of k) number ≡ false
+  pub first : (j : Key) (n : ℕ) → IsBefore (name_of j) (name_of k) → Contains (numbers f) (j, n) → allows (range_of j) n ≡ true

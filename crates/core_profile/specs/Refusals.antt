@@ -1,6 +1,6 @@
 -- What is wrong with a table.
-use Rattle.std.specs.Prelude.{◌≡◌, ℕ, ℤ, pos, negsuc, Bool, List, Option, Some, None, is_some, Result, Ok, Err, string_bytes, if◌then◌else◌}
-use Rattle.toml.specs.Data.{Data, Members, no_members, member, as_integer, as_str}
+use Rattle.std.specs.Prelude.{◌≡◌, ℕ, ℤ, pos, negsuc, Bool, List, Option, Some, None, is_some, option_map, Result, Ok, Err, string_bytes, if◌then◌else◌}
+use Rattle.toml.specs.Data.{Data, Members, get_member, as_integer, as_str}
 use Rattle.core_profile.specs.declared.key.Key.{Key}
 use Rattle.core_profile.specs.declared.wrong.Wrong.{Wrong}
 use Rattle.core_profile.specs.declared.wrong.Wrong.TheVariants.{Kind, Range, Policy}
@@ -8,10 +8,10 @@ use Rattle.core_profile.specs.declared.profile.Profile.{Profile}
 use Rattle.core_profile.specs.declared.fault.ProfileFault.{ProfileFault}
 use Rattle.core_profile.specs.declared.fault.ProfileFault.TheVariants.{UnknownKey, WrongKind, OutOfRange, UnknownPolicy, OutOfMemory}
 use Rattle.core_profile.specs.declared.fields.ProfileFields.{ProfileFields}
-use Rattle.core_profile.specs.Fields.{fields_of, fields_at, first_outside}
+use Rattle.core_profile.specs.Fields.{fields_of, fields_at, IsFirstOutside}
 use Rattle.core_profile.specs.Policies.{fetch_named, issue_named}
 use Rattle.core_profile.specs.Tables as table
-use Rattle.core_profile.specs.Tables.{fetch_policy, issue_policy, one_two_four, from_to, allows, key_named, range_of}
+use Rattle.core_profile.specs.Tables.{fetch_policy, issue_policy, one_two_four, from_to, IsBefore, allows, key_named, range_of}
 
 -- what is wrong with a number, None being another kind of value
 abbrev pub wrong_number : table.Range → Option ℤ → Option Wrong
@@ -36,20 +36,26 @@ pub data Fault : Type 0 where
   unknown_key : List ℕ → Fault
   wrong_at : Key → Wrong → Fault
 
--- the fault of a key's value, or else one of a later key
-abbrev pub value_fault : Key → Option Wrong → Option Fault → Option Fault
-value_fault k None later = later
-value_fault k (Some w) later = Some (wrong_at k w)
+-- the fault of a value at a key, or at a name that is no key
+abbrev pub key_fault : List ℕ → Option Key → Data → Option Fault
+key_fault name None d = Some (unknown_key name)
+key_fault name (Some k) d = option_map (wrong_at k) (wrong_value (range_of k) d)
 
--- the fault of a member, or else one of a later member
-abbrev pub member_fault : List ℕ → Option Key → Data → Option Fault → Option Fault
-member_fault name None d later = Some (unknown_key name)
-member_fault name (Some k) d later = value_fault k (wrong_value (range_of k) d) later
+-- the fault of a value at a name
+abbrev pub fault_of : List ℕ → Data → Option Fault
+fault_of name d = key_fault name (key_named name) d
 
--- the first fault of a table, whose members stand in the order of their keys' bytes
-abbrev pub first_fault : Members → Option Fault
-first_fault no_members = None
-first_fault (member name d ms) = member_fault name (key_named name) d (first_fault ms)
+-- no name of a table has a fault
+abbrev pub IsFaultless : Members → Type 0
+IsFaultless ms = (name : List ℕ) (d : Data) → get_member name ms ≡ Some d → fault_of name d ≡ None
+
+-- the fault at a name of a table, where no name of the table that comes before it in byte order has one
+pub record IsFirstFault (ms : Members) (f : Fault) : Type 0 where
+  pub name : List ℕ
+  pub value : Data
+  pub here : get_member name ms ≡ Some value
+  pub fault : fault_of name value ≡ Some f
+  pub first : (other : List ℕ) (d : Data) → IsBefore other name → get_member other ms ≡ Some d → fault_of other d ≡ None
 
 -- a refusal is of this fault. Memory is wanted for the name of an unknown key alone
 abbrev pub Refuses : {A : Type 0} → ProfileFault A → Fault → Type 0
@@ -59,17 +65,21 @@ Refuses (OutOfRange k) f = f ≡ wrong_at k Range
 Refuses (UnknownPolicy k) f = f ≡ wrong_at k Policy
 Refuses OutOfMemory f = (name : List ℕ) × (f ≡ unknown_key name)
 
--- what stands of a first fault: none, or a refusal of it
-abbrev pub Finds : {A : Type 0} → Option Fault → Result (Unit {0}) (ProfileFault A) → Type 0
-Finds fault (Ok u) = fault ≡ None
-Finds fault (Err e) = (f : Fault) × (fault ≡ Some f) × Refuses e f
+-- a refusal of the first fault of a table
+abbrev pub RefusesFirst : {A : Type 0} → Members → ProfileFault A → Type 0
+RefusesFirst ms e = (f : Fault) × IsFirstFault ms f × Refuses e f
+
+-- what stands of a table that is looked through for faults: it has none, or a refusal of the first one
+abbrev pub Finds : {A : Type 0} → Members → Result (Unit {0}) (ProfileFault A) → Type 0
+Finds ms (Ok u) = IsFaultless ms
+Finds ms (Err e) = RefusesFirst ms e
 
 -- what stands of a table: its fields where it has no fault, and else a refusal of its first fault
 abbrev pub IsProfileOf : {A : Type 0} → Members → Result Profile (ProfileFault A) → Type 0
-IsProfileOf ms (Ok p) = (first_fault ms ≡ None) × (fields_of p ≡ fields_at ms)
-IsProfileOf ms (Err e) = (f : Fault) × (first_fault ms ≡ Some f) × Refuses e f
+IsProfileOf ms (Ok p) = IsFaultless ms × (fields_of p ≡ fields_at ms)
+IsProfileOf ms (Err e) = RefusesFirst ms e
 
 -- what stands of fields: a profile of them where each number is in its range, and else the first key out of it
 abbrev pub IsChecked : {A : Type 0} → ProfileFields → Result Profile (ProfileFault A) → Type 0
 IsChecked fields (Ok p) = fields_of p ≡ fields
-IsChecked fields (Err e) = (k : Key) × (first_outside fields ≡ Some k) × (e ≡ OutOfRange k)
+IsChecked fields (Err e) = (k : Key) × IsFirstOutside fields k × (e ≡ OutOfRange k)

@@ -1,6 +1,9 @@
 -- The table of a profile: its keys, what may stand at each, and the defaults.
-use Rattle.std.specs.Prelude.{ℕ, ◌≤◌, ◌≢◌, List, [], ◌∷◌, Bool, false, ◌&&◌, ◌||◌, ◌==◌, nat_le, Option, codes, find}
+use Rattle.std.specs.Prelude.{◌≡◌, ℕ, ◌≤◌, ◌≢◌, List, [], ◌∷◌, Bool, false, ◌&&◌, ◌||◌, ◌==◌, nat_le, Option, codes, find, AllPairs}
 use Rattle.std.specs.Str.{bytes_eq}
+use Rattle.std.specs.Ordering.{nat_cmp}
+use Rattle.std.specs.Cmp.Lexicographic.{slice_cmp}
+use Rattle.std.specs.declared.cmp.Ordering.TheVariants.{Less}
 use Rattle.core_profile.specs.declared.key.Key.{Key}
 use Rattle.core_profile.specs.declared.key.Key.TheVariants.{AluLatency, BranchLatency, ExtraRegisters, Fetch, FrontDelay, HitLatency, Issue, IssueQueue, IssueWidth, LoadQueue, MissLatency, Num1, Num2, RenameWidth, ReorderBuffer, RetireWidth, StoreLatency, StoreQueue}
 
@@ -28,6 +31,14 @@ name_of ReorderBuffer = codes "reorder_buffer"
 name_of RetireWidth = codes "retire_width"
 name_of StoreLatency = codes "store_latency"
 name_of StoreQueue = codes "store_queue"
+
+-- a name comes before another in the order of their bytes
+abbrev pub IsBefore : List ℕ → List ℕ → Type 0
+IsBefore name other = slice_cmp nat_cmp name other ≡ Less
+
+-- each name of the keys comes before those after it
+abbrev pub AreInOrder : List Key → Type 0
+AreInOrder ks = AllPairs (λ j k. IsBefore (name_of j) (name_of k)) ks
 
 -- the key of a name
 abbrev pub key_named : List ℕ → Option Key

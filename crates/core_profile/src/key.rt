@@ -2,6 +2,7 @@
 
 ghost use Rattle.std.specs.Prelude.{◌≡◌};
 ghost use Rattle.core_profile.specs.Tables as spec;
+ghost use Rattle.core_profile.specs.Tables.{AreInOrder};
 
 use std::fmt;
 
@@ -49,7 +50,8 @@ pub enum Key {
 impl Key {
     /// The keys, in the order of the bytes of their names.
     pub fn all() -> [Key; 18]
-        ensures { result ≡ spec.keys }
+        ensures keys { result ≡ spec.keys }
+        ensures in_order { AreInOrder result }
     {
         [
             Key::AluLatency,

@@ -23,7 +23,7 @@ fn number_in(key: Key, number: u64) -> Result<u8, Key>
     }
 }
 
-/// The profile of the fields, or the first key in byte order whose number is out of its range.
+/// The profile of the fields, or the first key of the table whose number is out of its range.
 pub(crate) fn in_ranges(fields: &ProfileFields) -> Result<Profile, Key>
     ensures ok { IfOk result (λ p. (fields_of p ≡ fields.now) × (first_outside fields.now ≡ None)) }
     ensures err { IfErr result (λ k. first_outside fields.now ≡ Some k) }

@@ -6,7 +6,7 @@ ghost use Rattle.toml.specs.View.{table_view, view};
 ghost use Rattle.core_profile.specs.Fields as spec;
 ghost use Rattle.core_profile.specs.Policies.{fetch_named, issue_named};
 ghost use Rattle.core_profile.specs.Refusals as refusal;
-ghost use Rattle.core_profile.specs.Refusals.{Finds, IsProfileOf, Refuses, first_fault, wrong_number, wrong_policy, wrong_value};
+ghost use Rattle.core_profile.specs.Refusals.{Finds, IsProfileOf, Refuses, wrong_number, wrong_policy, wrong_value};
 ghost use Rattle.core_profile.specs.Tables.{default_of, name_of, range_of};
 
 use crate::fault::ProfileFault;
@@ -89,7 +89,7 @@ fn unknown_key<A: Allocator>(alloc: A, name: &str) -> ProfileFault<A>
 
 /// Refuses a table for its first key in byte order that is at fault.
 fn find_fault<A: Allocator>(alloc: A, table: &Table) -> Result<(), ProfileFault<A>>
-    ensures { Finds (first_fault (table_view table.now)) result }
+    ensures { Finds (table_view table.now) result }
 {
     for (name, value) in table {
         let Some(key) = Key::from_name(name.as_str()) else {

@@ -6,7 +6,7 @@ use Rattle.std.proofs.lemmas.List.{length-map}
 use Rattle.std.proofs.lemmas.List.Sums.{sum_by-cons}
 use Rattle.std.proofs.lemmas.List.Elements.{All-weaker, All-map, All-contains, All-filter, All-same}
 use Rattle.issue_queue.specs.declared.entry.QueueView.{QueueView}
-use Rattle.issue_queue.specs.declared.entry.Selected.{Selected}
+use Rattle.core_view.specs.declared.note.EntryId.{EntryId}
 use Rattle.issue_queue.specs.Entry.{Entry, IsReady, AreDistinct}
 use Rattle.issue_queue.specs.Views.{view_of, name_of}
 use Rattle.issue_queue.specs.Stamps.{place_of_oldest, stamps_of}
@@ -32,9 +32,9 @@ Contains-shown f xs x h = (h.0, omega (arith, h.1, length-map xs f), get_or-map 
 
 names_shown : (lanes : List Lane) (es : List Entry) → map name_of (map (shown_entry lanes) es) ≡ map name_of es
 names_shown lanes [] = refl
-names_shown lanes (e ∷ es) = ap (λ (ns : List Selected). name_of e ∷ ns) (names_shown lanes es)
+names_shown lanes (e ∷ es) = ap (λ (ns : List EntryId). name_of e ∷ ns) (names_shown lanes es)
 
-filter_shown : (lanes : List Lane) (selected : List Selected) (es : List Entry) → map (shown_entry lanes) (filter (λ e. not (is_among selected e)) es) ≡ filter (λ e. not (is_among selected e)) (map (shown_entry lanes) es)
+filter_shown : (lanes : List Lane) (selected : List EntryId) (es : List Entry) → map (shown_entry lanes) (filter (λ e. not (is_among selected e)) es) ≡ filter (λ e. not (is_among selected e)) (map (shown_entry lanes) es)
 filter_shown lanes selected [] = refl
 filter_shown lanes selected (e ∷ es) = at_test (not (is_among selected e)) refl (filter_shown lanes selected es)
   where
@@ -72,7 +72,7 @@ place_shown lanes c es =
 
 -- ---- what is selected
 
-pub carried : (key : QueueView → ℕ) (width : ℕ) (lanes : List Lane) (old rest : List Entry) (selected : List Selected) → All (IsFaithful (shown_entry lanes)) old
+pub carried : (key : QueueView → ℕ) (width : ℕ) (lanes : List Lane) (old rest : List Entry) (selected : List EntryId) → All (IsFaithful (shown_entry lanes)) old
     → IsSelected (λ e. key (view_of e)) width old rest selected → IsSelected (λ e. key (view_of e)) width (map (shown_entry lanes) old) (map (shown_entry lanes) rest) selected
 carried key width lanes old rest selected h s =
     let f : Entry → Entry = shown_entry lanes in

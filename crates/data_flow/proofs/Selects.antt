@@ -3,7 +3,7 @@ use Rattle.std.proofs.Common.{◌≡◌, ℕ, not, List, map, sym, ap, subst, �
 use Rattle.std.specs.Prelude.{All, filter, Option}
 use Rattle.std.proofs.lemmas.List.Elements.{All-weaker, All-same, All-filter}
 use Rattle.issue_queue.specs.declared.entry.QueueView.{QueueView}
-use Rattle.issue_queue.specs.declared.entry.Selected.{Selected}
+use Rattle.core_view.specs.declared.note.EntryId.{EntryId}
 use Rattle.issue_queue.specs.Entry.{Entry}
 use Rattle.issue_queue.specs.Views.{view_of}
 use Rattle.issue_queue.specs.IssueQueue.{IssueQueue}
@@ -16,12 +16,12 @@ use Rattle.data_flow.proofs.Ready.{shown_entry, IsFaithful, faithful}
 use Rattle.data_flow.proofs.Carried.{carried, shown_entries, place_shown}
 
 -- what a queue leaves from which entries were selected
-pub record Selects {A : Type 0} (d : Inside A) (now : Flow) (q : IssueQueue) (key : QueueView → ℕ) (width : ℕ) (names : List Selected) : Type 0 where
+pub record Selects {A : Type 0} (d : Inside A) (now : Flow) (q : IssueQueue) (key : QueueView → ℕ) (width : ℕ) (names : List EntryId) : Type 0 where
   pub shown : flow (record d { queue = q }) ≡ record now { waiters = map waiter_of q.entries }
   pub selected : IsSelected (λ e. key (view_of e)) width (queued now) (queued (flow (record d { queue = q }))) names
   pub wired : IsWiredUp (record d { queue = q })
 
-pub selects : {A : Type 0} (d : Inside A) (now : Flow) (q : IssueQueue) (key : QueueView → ℕ) (width : ℕ) (selected : List Selected) → flow d ≡ now → IsWiredUp d
+pub selects : {A : Type 0} (d : Inside A) (now : Flow) (q : IssueQueue) (key : QueueView → ℕ) (width : ℕ) (selected : List EntryId) → flow d ≡ now → IsWiredUp d
     → q.capacity ≡ d.queue.capacity → IsSelected (λ e. key (view_of e)) width d.queue.entries q.entries selected → Selects d now q key width selected
 selects {A} d now q key width selected shows up capacity s =
     let waits : Entry → Type 0 = IsWaiting d.registers.cells d.renamed.items in

@@ -13,7 +13,8 @@ ghost use Rattle.data_flow.specs.Flow.{lane, node_at, sources_at, with_lane, wit
 
 use crate::operands::{Operands, Renamed};
 use arrayvec::ArrayVec;
-use issue_queue::{Order, Queue, Selected, Waiting};
+use core_view::EntryId;
+use issue_queue::{Order, Queue, Waiting};
 use join_law::Ctx;
 use rename_file::{PhysicalRegister, Registers, RenameFault};
 use reorder_buffer::Ring;
@@ -223,7 +224,7 @@ impl<A: Allocator> DataFlow<A> {
 
     /// Removes the first instructions by an order that have the values of their sources, at most so many, from those
     /// that wait, and gives their names in that order.
-    pub fn select<O: Order>(&mut self, order: &O, width: usize) -> ArrayVec<Selected, 8>
+    pub fn select<O: Order>(&mut self, order: &O, width: usize) -> ArrayVec<EntryId, 8>
         requires { width ≤ 8 }
         ensures lanes { self.new ≡ record self.old { waiters = self.new.waiters } }
         ensures selected { IsSelected (λ e. O.key_of order.now (view_of e)) width (queued self.old) (queued self.new) result.items }

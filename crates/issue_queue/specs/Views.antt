@@ -2,7 +2,7 @@
 use Rattle.std.specs.Prelude.{false}
 use Rattle.std.specs.List.{filter_map}
 use Rattle.issue_queue.specs.declared.entry.QueueView.{QueueView}
-use Rattle.issue_queue.specs.declared.entry.Selected.{Selected}
+use Rattle.core_view.specs.declared.note.EntryId.{EntryId}
 use Rattle.issue_queue.specs.declared.entry.Waiting.{Waiting}
 use Rattle.issue_queue.specs.Entry.{Entry}
 
@@ -11,7 +11,7 @@ abbrev pub view_of : Entry → QueueView
 view_of e = record { stamp = e.stamp; context = e.context; guessed = e.guessed; speculative = e.speculative }
 
 -- the name of an entry
-abbrev pub name_of : Entry → Selected
+abbrev pub name_of : Entry → EntryId
 name_of e = record { context = e.context; stamp = e.stamp }
 
 -- a new entry waits for each of its sources that is not ready, and is not held

@@ -6,6 +6,7 @@ ghost use Rattle.issue_queue.specs.Entry.{IsReady, is_named};
 ghost use Rattle.issue_queue.specs.IssueQueue.{awake, is_from};
 ghost use Rattle.issue_queue.specs.Views.{entry_of, name_of, view_of};
 
+use core_view::EntryId;
 use join_law::Ctx;
 use rename_file::PhysicalRegister;
 use std::marker::Model;
@@ -36,22 +37,6 @@ pub struct QueueView {
     pub guessed: bool,
     /// Whether an older guessed entry of its context has not completed.
     pub speculative: bool,
-}
-
-/// The name of an entry that has left the queue to be issued.
-#[derive(Clone, Copy, Debug, PartialEq, Eq)]
-pub struct Selected {
-    /// Its context.
-    pub context: Ctx,
-    /// Its stamp.
-    pub stamp: u64,
-}
-
-impl Default for Selected {
-    fn default() -> Selected {
-        let [context, ..] = Ctx::all();
-        Selected { context, stamp: 0 }
-    }
 }
 
 /// An entry in the queue.
@@ -149,10 +134,10 @@ impl Queued {
     }
 
     /// Its name.
-    pub(crate) fn name(&self) -> Selected
+    pub(crate) fn name(&self) -> EntryId
         ensures { result ≡ name_of self.now }
     {
-        Selected {
+        EntryId {
             context: self.context,
             stamp: self.stamp,
         }

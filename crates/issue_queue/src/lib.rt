@@ -9,6 +9,6 @@ mod queue;
 mod selecting;
 mod stamps;
 
-pub use entry::{QueueView, Selected, Waiting};
+pub use entry::{QueueView, Waiting};
 pub use order::{BranchFirst, NamedOrder, OldestFirst, Order, SpecLast};
 pub use queue::{Queue, QueueFault};

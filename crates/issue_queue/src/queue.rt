@@ -9,8 +9,9 @@ ghost use Rattle.issue_queue.specs.Stamps.{place_of_oldest};
 ghost use Rattle.issue_queue.specs.Views.{entry_of, view_of};
 
 use crate::entry::Queued;
-use crate::{Order, Selected, Waiting, marks, selecting, stamps};
+use crate::{Order, Waiting, marks, selecting, stamps};
 use arrayvec::ArrayVec;
+use core_view::EntryId;
 use join_law::Ctx;
 use rename_file::PhysicalRegister;
 use std::marker::Model;
@@ -133,7 +134,7 @@ impl Queue {
 
     /// Removes the first ready entries by (key, stamp), at most `width` of them, and gives their names in that
     /// order. The others stay in theirs.
-    pub fn select<O: Order>(&mut self, order: &O, width: usize) -> ArrayVec<Selected, 8>
+    pub fn select<O: Order>(&mut self, order: &O, width: usize) -> ArrayVec<EntryId, 8>
         requires { width ≤ 8 }
         ensures capacity { self.new.capacity ≡ self.old.capacity }
         ensures selected { IsSelected (λ e. O.key_of order.now (view_of e)) width self.old.entries self.new.entries result.items }

@@ -1,8 +1,9 @@
 //! The worked examples.
 
 use core_profile::IssuePolicy;
+use core_view::EntryId;
 use issue_queue::{
-    BranchFirst, NamedOrder, OldestFirst, Order, Queue, QueueFault, Selected, SpecLast, Waiting,
+    BranchFirst, NamedOrder, OldestFirst, Order, Queue, QueueFault, SpecLast, Waiting,
 };
 use join_law::Ctx;
 use rename_file::PhysicalRegister;
@@ -36,7 +37,7 @@ fn put_ready(rt: &impl Abort, queue: &mut Queue, number: usize, stamp: u64) {
     put(rt, queue, waiting(context(rt, number), stamp, [None, None]));
 }
 
-fn assert_stamps(rt: &impl Abort, selected: &[Selected], stamps: &[u64]) {
+fn assert_stamps(rt: &impl Abort, selected: &[EntryId], stamps: &[u64]) {
     assert_eq!(rt; selected.len(), stamps.len());
     for (entry, stamp) in selected.iter().zip(stamps) {
         assert_eq!(rt; entry.stamp, *stamp);

@@ -87,6 +87,15 @@ fn assert_ring(
     assert_eq!(rt; stamps(ring, place), want);
 }
 
+// The entries are those with these stamps, in this order.
+fn assert_entries(rt: &impl Abort, ring: &Ring<Entry>, stamps: &[u64]) {
+    let mut left = stamps.iter();
+    for entry in ring.iter() {
+        assert_eq!(rt; left.next().copied(), Some(entry.stamp));
+    }
+    assert_eq!(rt; left.next().copied(), None);
+}
+
 #[test]
 fn a_full_ring_hands_the_entry_back(rt: HostRuntime) -> Result<(), Fail> {
     let mut ring = Ring::new(rt.alloc(), 64)?;
@@ -111,6 +120,7 @@ fn a_ring_wraps_round_and_is_cut_in_the_middle(rt: HostRuntime) -> Result<(), Fa
     assert_retire(&rt, &mut ring, &[1, 2]);
     push_each(&rt, &mut ring, &[8, 9]);
     assert_ring(&rt, &ring, 4, 2, [Some(3), Some(8), Some(9)]);
+    assert_entries(&rt, &ring, &[3, 4, 8, 9]);
     // No entry has the stamp 6.
     ring.cut_from(6);
     assert_ring(&rt, &ring, 2, 2, [Some(3), None, Some(4)]);

@@ -2,11 +2,12 @@
 
 ghost use Rattle.std.specs.Prelude.{◌≡◌, ◌↔◌, ◌++◌, ◌∷◌, [], ◌<◌, ◌≤◌, length, take, drop, slice_get, slice_set, option_copied, IfOk, OnOk, OnErr, IsOk, IsTrue, Ok, Err};
 ghost use Rattle.std.specs.Option.{ForSome};
+ghost use Rattle.std.specs.Map.Iter.{ShowsInOrder, deref};
 ghost use Rattle.circular_buffer.specs.Buffer.{buffer, last_item};
 ghost use Rattle.reorder_buffer.specs.Growing.{IsGrowing, below};
 
 use crate::{RingFault, Stamped};
-use circular_buffer::HeapCircularBuffer;
+use circular_buffer::{HeapCircularBuffer, Iter};
 use std::alloc::{Allocator, Global};
 use std::marker::Model;
 
@@ -89,6 +90,14 @@ impl<E: Stamped, A: Allocator> Ring<E, A> {
         ensures { option_copied result ≡ slice_get self.now.items place }
     {
         self.buffer.get(place)
+    }
+
+    /// The entries, oldest first.
+    pub fn iter(&self) -> Iter<'_, E>
+        ensures rest { result ≡ self.now.items }
+        ensures runs { ShowsInOrder (deref {X = E}) }
+    {
+        self.buffer.iter()
     }
 
     /// Takes in an entry whose stamp is above the youngest one's. A full ring hands it back.

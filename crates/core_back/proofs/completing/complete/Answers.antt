@@ -1,5 +1,6 @@
-use Rattle.std.proofs.Common.{arith, ap, sym, subst, ◌∙◌, ◌≡◌, get_or, length, List, ℕ}
+use Rattle.std.proofs.Common.{arith, ap, sym, subst, ◌∙◌, ◌≡◌, ◌+◌, ◌<◌, get_or, length, List, ℕ}
 use Rattle.core_back.specs.Machine.{Machine, context_at, with_context, completed_context}
+use Rattle.core_back.proofs.InFlight.{in_flight-with_context}
 use Rattle.core_back.proofs.Turns.{mapped_alike, mapped_length, mapped_next, nth_context}
 use Rattle.core_back.proofs.completing.complete.Goals as goal
 
@@ -8,11 +9,16 @@ loop-context-preserved g c =
     let place : get_or c.all-context-items.result c.loop-context.context-index c.context-item.result ≡ c.loop-context.context-index =
     ap (λ (xs : List ℕ). get_or xs c.loop-context.context-index c.context-item.result) c.all-context-items.ensures ∙ nth_context c.loop-context.context-index c.context-item.result c.loop-context-test.true in
     let count = mapped_length (completed_context c.args.machine.now.view.cycle) c.loop-context.context-index c.args.machine.now.view.contexts in
+    let step = subst (λ i. c.complete_context-done.new.machine ≡ with_context c.loop-context.machine i (completed_context c.loop-context.machine.view.cycle (context_at c.loop-context.machine i))) place c.complete_context-done.ensures.completed in
+    let lost = subst (λ i. c.complete_context-done.result.cut + length (completed_context c.loop-context.machine.view.cycle (context_at c.loop-context.machine i)).flight ≡ length (context_at c.loop-context.machine i).flight) place c.complete_context-done.ensures.cut in
+    let here : c.loop-context.context-index < length c.loop-context.machine.view.contexts = omega (arith, c.loop-context-test.true, c.complete_context-done.ensures.contexts) in
+    let fewer = in_flight-with_context c.loop-context.machine c.complete_context-done.new.machine c.loop-context.context-index (completed_context c.loop-context.machine.view.cycle (context_at c.loop-context.machine c.loop-context.context-index)) c.complete_context-done.result.cut step here lost in
     record {
-      so_far = mapped_next c.args.machine.now c.loop-context.machine c.complete_context-completed.new.machine c.loop-context.context-index c.loop-context.invariant.so_far
-          (subst (λ i. c.complete_context-completed.new.machine ≡ with_context c.loop-context.machine i (completed_context c.loop-context.machine.view.cycle (context_at c.loop-context.machine i))) place c.complete_context-completed.ensures.completed);
-      contexts = λ some. sym (ap (λ (m : Machine). length m.view.contexts) c.loop-context.invariant.so_far ∙ count) ∙ c.complete_context-completed.ensures.contexts;
-      count = omega (arith, c.loop-context.invariant.count, c.complete_context-completed.ensures.bound);
+      so_far = mapped_next c.args.machine.now c.loop-context.machine c.complete_context-done.new.machine c.loop-context.context-index c.loop-context.invariant.so_far step;
+      contexts = λ some. sym (ap (λ (m : Machine). length m.view.contexts) c.loop-context.invariant.so_far ∙ count) ∙ c.complete_context-done.ensures.contexts;
+      cut = omega (arith, c.loop-context.invariant.cut, fewer);
+      count = omega (arith, c.loop-context.invariant.count, c.complete_context-done.ensures.bound);
+      cut_count = omega (arith, c.loop-context.invariant.cut_count, c.complete_context-done.ensures.cut_bound);
     }
 
 pub returns-clause-alike : goal.returns-clause-alike

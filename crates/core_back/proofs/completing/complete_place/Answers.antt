@@ -8,18 +8,18 @@ use Rattle.core_back.proofs.completing.complete_place.Goals as goal
 pub returns-in_default-clause-goes_on : goal.returns-in_default-clause-goes_on
 returns-in_default-clause-goes_on g c = due_none c.args.machine.now.view.cycle (context_at c.args.machine.now c.args.context).flight c.args.place (sym c.due.ensures.value ∙ c.in_default.is)
 
-pub complete-requires-clause-place : goal.complete-requires-clause-place
-complete-requires-clause-place g c = (due_some c.args.machine.now.view.cycle (context_at c.args.machine.now c.args.context).flight c.args.place c.in-Some.execution (sym c.due.ensures.value ∙ c.in-Some.is)).0
+pub complete-cut-requires-clause-place : goal.complete-cut-requires-clause-place
+complete-cut-requires-clause-place g c = (due_some c.args.machine.now.view.cycle (context_at c.args.machine.now c.args.context).flight c.args.place c.in-Some.execution (sym c.due.ensures.value ∙ c.in-Some.is)).0
 
-pub complete-requires-clause-issued : goal.complete-requires-clause-issued
-complete-requires-clause-issued g c =
+pub complete-cut-requires-clause-issued : goal.complete-cut-requires-clause-issued
+complete-cut-requires-clause-issued g c =
     due_stage c.args.machine.now.view.cycle (entry_at (context_at c.args.machine.now c.args.context) c.args.place).stage c.in-Some.execution
     (due_some c.args.machine.now.view.cycle (context_at c.args.machine.now c.args.context).flight c.args.place c.in-Some.execution (sym c.due.ensures.value ∙ c.in-Some.is)).1
 
 pub returns-then-is_guessed-clause-goes_on : goal.returns-then-is_guessed-clause-goes_on
 returns-then-is_guessed-clause-goes_on g c =
-    due_step c.args.machine.now c.settle_speculation.new.self c.args.context c.args.place c.in-Some.execution (c.settle_speculation.ensures ∙ c.complete.ensures.completed) (sym c.due.ensures.value ∙ c.in-Some.is)
+    due_step c.args.machine.now c.settle_speculation.new.self c.args.context c.args.place c.in-Some.execution (c.settle_speculation.ensures ∙ c.complete-cut.ensures.completed) (sym c.due.ensures.value ∙ c.in-Some.is)
 
 pub returns-else-is_guessed-clause-goes_on : goal.returns-else-is_guessed-clause-goes_on
 returns-else-is_guessed-clause-goes_on g c =
-    due_step c.args.machine.now c.complete.new.self c.args.context c.args.place c.in-Some.execution c.complete.ensures.completed (sym c.due.ensures.value ∙ c.in-Some.is)
+    due_step c.args.machine.now c.complete-cut.new.self c.args.context c.args.place c.in-Some.execution c.complete-cut.ensures.completed (sym c.due.ensures.value ∙ c.in-Some.is)

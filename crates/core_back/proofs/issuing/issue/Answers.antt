@@ -1,7 +1,8 @@
 use Rattle.std.proofs.Common.{List, ap, sym, subst, ◌∙◌, refl, length, arith}
-use Rattle.issue_queue.specs.declared.entry.Selected.{Selected}
-use Rattle.core_back.specs.Machine.{Machine, IsAlike, context_at}
+use Rattle.core_view.specs.declared.note.EntryId.{EntryId}
+use Rattle.core_back.specs.Machine.{Machine, IsAlike, context_at, in_flight}
 use Rattle.core_back.specs.Issued.{IsIssued}
+use Rattle.core_back.proofs.InFlight.{in_flight_same, in_flight_issued}
 use Rattle.core_back.proofs.Turns.{alike_chain, issue_alike, none_left}
 use Rattle.core_back.proofs.issuing.issue.Goals as goal
 
@@ -11,6 +12,7 @@ loop-place-init g c =
     record {
       alike = record { origin = ap (λ (m : Machine). m.origin) e; cycle = ap (λ (m : Machine). m.view.cycle) e; targets = λ d lt. ap (λ (m : Machine). (context_at m d).target) e };
       left = omega (arith, c.select.ensures.most);
+      flights = in_flight_same c.args.machine.now c.select.new.self (ap (λ (m : Machine). m.view.contexts) e);
       room = omega (arith, ap length c.requires.fresh);
       keeps = refl;
     }
@@ -32,7 +34,8 @@ loop-place-preserved g c =
     let step : IsIssued c.loop-place.machine c.issue_next.new.self c.in-Some.issue = c.in-Some.ensures.issued in
     record {
       alike = alike_chain c.args.machine.now c.loop-place.machine c.issue_next.new.self c.loop-place.invariant.alike (issue_alike c.loop-place.machine c.issue_next.new.self c.in-Some.issue step);
-      left = omega (arith, c.loop-place.invariant.left, ap (λ (ns : List Selected). length ns) step.names);
+      flights = in_flight_issued c.loop-place.machine c.issue_next.new.self c.in-Some.issue step ∙ c.loop-place.invariant.flights;
+      left = omega (arith, c.loop-place.invariant.left, ap (λ (ns : List EntryId). length ns) step.names);
       room = omega (arith, c.loop-place.invariant.room, c.push.ensures.len);
       keeps = c.issue_next.ensures.keeps ∙ c.loop-place.invariant.keeps;
     }
@@ -45,3 +48,9 @@ returns-clause-idle g c = none_left c.loop-place.machine.names (omega (arith, c.
 
 pub returns-clause-keeps : goal.returns-clause-keeps
 returns-clause-keeps g c = c.loop-place.invariant.keeps
+
+pub returns-in_default-clause-flights : goal.returns-in_default-clause-flights
+returns-in_default-clause-flights g c = ap in_flight (c.issue_next.ensures.none c.in_default.is).1 ∙ c.loop-place.invariant.flights
+
+pub returns-clause-flights : goal.returns-clause-flights
+returns-clause-flights g c = c.loop-place.invariant.flights

@@ -1,12 +1,13 @@
 use Rattle.std.proofs.Common.{◌≡◌, ◌+◌, ◌≤◌, length}
 use Rattle.arrayvec.specs.ArrayVec.{array_vec_len}
-use Rattle.core_back.specs.Machine.{IsAlike}
+use Rattle.core_back.specs.Machine.{IsAlike, in_flight}
 use Rattle.core_back.proofs.issuing.issue.Given as goal
 
 abbrev pub invariant-loop-place : goal.invariant-loop-place
 invariant-loop-place g l = record {
   alike : IsAlike l.fn.machine l.machine;
   left : length l.machine.names + l._place ≤ l.width;
+  flights : in_flight l.machine ≡ in_flight l.fn.machine;
   room : array_vec_len l.issued ≤ l._place;
   keeps : g.D.Delay.may_answer l.delay ≡ g.D.Delay.may_answer l.fn.delay;
 }

@@ -1,6 +1,6 @@
-use Rattle.std.proofs.Common.{◌≡◌, ◌+◌, ◌≤◌, []}
+use Rattle.std.proofs.Common.{◌≡◌, ◌+◌, ◌*◌, ◌≤◌, []}
 use Rattle.arrayvec.specs.ArrayVec.{array_vec_len}
-use Rattle.core_back.specs.Machine.{IsAlike}
+use Rattle.core_back.specs.Machine.{IsAlike, in_flight}
 use Rattle.core_back.proofs.retiring.retire.Given as goal
 
 abbrev pub invariant-loop-turn : goal.invariant-loop-turn
@@ -8,5 +8,7 @@ invariant-loop-turn g l = record {
   alike : IsAlike l.fn.machine l.machine;
   idle : l.machine.names ≡ [];
   room : array_vec_len l.retired + l.left ≤ 16;
+  dropped : l.dropped + array_vec_len l.retired + in_flight l.machine ≡ in_flight l.fn.machine;
+  bound : l.dropped ≤ l.turn * 1360;
   keeps : g.G.Guess.may_answer l.guess ≡ g.G.Guess.may_answer l.fn.guess;
 }

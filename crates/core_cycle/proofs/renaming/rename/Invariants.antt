@@ -1,11 +1,12 @@
 use Rattle.std.proofs.Common.{◌≡◌, ◌≤◌, []}
 use Rattle.arrayvec.specs.ArrayVec.{array_vec_len}
-use Rattle.core_back.specs.Machine.{IsAlike}
+use Rattle.core_back.specs.Machine.{IsAlike, in_flight}
 use Rattle.core_cycle.proofs.renaming.rename.Given as goal
 
 abbrev pub invariant-loop-place : goal.invariant-loop-place
 invariant-loop-place g l = record {
   alike : IsAlike l.fn.machine l.machine;
   idle : l.machine.names ≡ [];
+  flights : in_flight l.machine ≡ in_flight l.fn.machine;
   room : array_vec_len l.renamed ≤ l._place;
 }

@@ -25,15 +25,15 @@ unwrap-first-requires g c =
     let r = ready_place h.core c.remove-name.result.stamp c.unwrap-place.result h.selected h.supplied p.0 p.1 in
     some_sources c.sources.result (sources_at (lane c.self.inside.flow c.remove-name.result.context) c.unwrap-place.result) c.sources.ensures r.sources
 
-pub outcome-outcome-requires-clause-answered : goal.outcome-outcome-requires-clause-answered
-outcome-outcome-requires-clause-answered g c =
+pub perform-performed-requires-clause-answered : goal.perform-performed-requires-clause-answered
+perform-performed-requires-clause-answered g c =
     let h = first_name c.self.inside c.args.self.now c.remove-name.result c.index.result c.index_mut-track.result.now c.self.view_is c.self.invariant (some_names c.self.inside.selected.items c.is_empty.result c.is_empty.ensures c.if-is_empty.false) c.remove-name.ensures.value (omega (arith, c.index.ensures)) c.index.ensures.value c.index_mut-track.ensures.value in
     let p = found_place c.index_mut-track.result.now c.remove-name.result.stamp c.place_of.result c.unwrap-place.result c.place_of.ensures.found c.unwrap-place.ensures in
     let r = ready_place h.core c.remove-name.result.stamp c.unwrap-place.result h.selected h.supplied p.0 p.1 in
     core_answered h.core c.unwrap-place.result (omega (arith, r.renamed))
 
-pub outcome-outcome-requires-clause-clear : goal.outcome-outcome-requires-clause-clear
-outcome-outcome-requires-clause-clear g c =
+pub perform-performed-requires-clause-clear : goal.perform-performed-requires-clause-clear
+perform-performed-requires-clause-clear g c =
     let h = first_name c.self.inside c.args.self.now c.remove-name.result c.index.result c.index_mut-track.result.now c.self.view_is c.self.invariant (some_names c.self.inside.selected.items c.is_empty.result c.is_empty.ensures c.if-is_empty.false) c.remove-name.ensures.value (omega (arith, c.index.ensures)) c.index.ensures.value c.index_mut-track.ensures.value in
     let p = found_place c.index_mut-track.result.now c.remove-name.result.stamp c.place_of.result c.unwrap-place.result c.place_of.ensures.found c.unwrap-place.ensures in
     first_clear c.self.inside c.args.self.now c.remove-name.result (drop 1 c.self.inside.selected.items) c.index_mut-track.result.now h c.unwrap-place.result c.unwrap-first.result c.sources.result p.0 p.1 c.sources.ensures c.unwrap-first.ensures
@@ -48,8 +48,8 @@ pub invariant_of-self : goal.invariant_of-self
 invariant_of-self g c =
     let h = first_name c.self.inside c.args.self.now c.remove-name.result c.index.result c.index_mut-track.result.now c.self.view_is c.self.invariant (some_names c.self.inside.selected.items c.is_empty.result c.is_empty.ensures c.if-is_empty.false) c.remove-name.ensures.value (omega (arith, c.index.ensures)) c.index.ensures.value c.index_mut-track.ensures.value in
     let p = found_place c.index_mut-track.result.now c.remove-name.result.stamp c.place_of.result c.unwrap-place.result c.place_of.ensures.found c.unwrap-place.ensures in
-    let x : Execution = record { due = c.self.inside.cycle + c.from.result; miss = c.lag_of-lag.result.miss; outcome = c.outcome-outcome.result } in
-    let core = issued_core c.self.inside c.args.self.now c.remove-name.result (drop 1 c.self.inside.selected.items) c.index_mut-track.result.now h c.unwrap-place.result x c.unwrap-first.result c.sources.result p.0 p.1 c.sources.ensures c.unwrap-first.ensures c.outcome-outcome.ensures in
+    let x : Execution = record { due = c.self.inside.cycle + c.from.result; miss = c.lag_of-lag.result.miss; outcome = c.perform-performed.result.outcome } in
+    let core = issued_core c.self.inside c.args.self.now c.remove-name.result (drop 1 c.self.inside.selected.items) c.index_mut-track.result.now h c.unwrap-place.result x c.unwrap-first.result c.sources.result p.0 p.1 c.sources.ensures c.unwrap-first.ensures c.perform-performed.ensures.outcome in
     issued_machine c.self.inside _ c.args.self.now c.remove-name.result c.index.result (drop 1 c.self.inside.selected.items) c.index_mut-track.result.now c.unwrap-place.result x c.self.invariant h (omega (arith, c.index.ensures)) p.0 p.1 core
     c.index.ensures.value refl refl (ap (set c.self.inside.tracks.items c.index.result) c.issue.ensures) c.remove-name.ensures.items refl refl refl refl
 
@@ -57,6 +57,6 @@ pub returns-clause-issued : goal.returns-clause-issued
 returns-clause-issued g c =
     let h = first_name c.self.inside c.args.self.now c.remove-name.result c.index.result c.index_mut-track.result.now c.self.view_is c.self.invariant (some_names c.self.inside.selected.items c.is_empty.result c.is_empty.ensures c.if-is_empty.false) c.remove-name.ensures.value (omega (arith, c.index.ensures)) c.index.ensures.value c.index_mut-track.ensures.value in
     let p = found_place c.index_mut-track.result.now c.remove-name.result.stamp c.place_of.result c.unwrap-place.result c.place_of.ensures.found c.unwrap-place.ensures in
-    let x : Execution = record { due = c.self.inside.cycle + c.from.result; miss = c.lag_of-lag.result.miss; outcome = c.outcome-outcome.result } in
+    let x : Execution = record { due = c.self.inside.cycle + c.from.result; miss = c.lag_of-lag.result.miss; outcome = c.perform-performed.result.outcome } in
     is_issued c.self.inside c.args.self.now c.remove-name.result c.index.result (drop 1 c.self.inside.selected.items) c.index_mut-track.result.now c.issue.new.self c.unwrap-place.result x c.lag_of-lag.result.cycles c.remove-name.new.self.items
     c.self.view_is h c.index.ensures.value p.0 p.1 c.issue.ensures (ap (λ k. c.self.inside.cycle + k) c.from.ensures) c.remove-name.ensures.items

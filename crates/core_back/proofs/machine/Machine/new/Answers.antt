@@ -2,7 +2,7 @@ use Rattle.std.proofs.Common.{rules, arith, refl, sym, subst, ◌≡◌, [], ◌
 use Rattle.std.specs.Prelude.{AllPairs}
 use Rattle.std.specs.Arc.{arc_value}
 use Rattle.join_law.specs.Eight.{place_of}
-use Rattle.issue_queue.specs.declared.entry.Selected.{Selected}
+use Rattle.core_view.specs.declared.note.EntryId.{EntryId}
 use Rattle.data_flow.specs.Flow.{waits_in}
 use Rattle.core_back.specs.Issuable.{IsClear}
 use Rattle.core_back.specs.Machine.{no_track}
@@ -20,10 +20,10 @@ invariant_of-result g c =
       origins = λ d lt. origin_of_first (arc_value c.in_ok-origins.origins.c0) (arc_value (place_of c.in_ok-origins.origins d)) c.args.marks.now d c.requires.aligned origin lt (c.in_ok-origins.ensures d lt);
       tracks = c.in_ok-tracks.ensures.count;
       lanes = c.in_ok-flow.ensures.count;
-      apart = subst (λ (ns : List Selected). AllPairs AreApart ns) (sym empty) (λ i j d lt below. absurd (omega arith));
-      supplied = subst (λ (ns : List Selected). All (IsSuppliedIn c.in_ok-flow.flow) ns) (sym empty) (search rules);
-      clear = subst (λ (ns : List Selected). All (λ n. IsClear c.in_ok-flow.flow n.context (get_or c.in_ok-tracks.tracks.items n.context no_track) n.stamp) ns) (sym empty) (λ i d lt. absurd (omega arith));
-      left = subst (λ (ns : List Selected). All (λ n. waits_in c.in_ok-flow.flow n.context n.stamp ≡ false) ns) (sym empty) (search rules);
+      apart = subst (λ (ns : List EntryId). AllPairs AreApart ns) (sym empty) (λ i j d lt below. absurd (omega arith));
+      supplied = subst (λ (ns : List EntryId). All (IsSuppliedIn c.in_ok-flow.flow) ns) (sym empty) (search rules);
+      clear = subst (λ (ns : List EntryId). All (λ n. IsClear c.in_ok-flow.flow n.context (get_or c.in_ok-tracks.tracks.items n.context no_track) n.stamp) ns) (sym empty) (λ i d lt. absurd (omega arith));
+      left = subst (λ (ns : List EntryId). All (λ n. waits_in c.in_ok-flow.flow n.context n.stamp ≡ false) ns) (sym empty) (search rules);
       stamps = omega arith;
       bounded = c.requires.sizes.reorder_high;
     }

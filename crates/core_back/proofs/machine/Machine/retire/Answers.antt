@@ -1,4 +1,4 @@
-use Rattle.std.proofs.Common.{refl, ap, ◌∙◌, arith}
+use Rattle.std.proofs.Common.{◌≡◌, ◌+◌, ◌≤◌, length, refl, ap, ◌∙◌, arith}
 use Rattle.std.specs.Prelude.{set}
 use Rattle.std.specs.Arc.{arc_value}
 use Rattle.origin_set.specs.Start.{start}
@@ -7,9 +7,10 @@ use Rattle.core_view.specs.View.{Context, entry_at}
 use Rattle.core_view.specs.Events.{retire_event}
 use Rattle.core_back.specs.Track.{Track, is_last}
 use Rattle.core_back.specs.Steps.{retired_flow}
-use Rattle.core_back.specs.Machine.{first_done}
+use Rattle.core_back.specs.Machine.{context_at, first_done}
 use Rattle.core_back.proofs.Others.{retired_flow_left, count-retired_flow}
 use Rattle.core_back.proofs.Retires.{is_first_done, retire_core, oldest_known, oldest_done, oldest_idle, oldest_below, oldest_sized}
+use Rattle.core_back.proofs.InFlight.{in_flight_after, retire_fewer}
 use Rattle.core_back.proofs.Machines.{at_context, idle_core, machine_after, shown_after}
 use Rattle.core_back.proofs.machine.Machine.retire.Goals as goal
 
@@ -75,3 +76,42 @@ returns-clause-entry g c =
     let core = idle_core c.self.inside c.args.self.now c.args.context c.index_mut-track.result.now c.self.view_is c.requires.idle h in
     let d = is_first_done c.index_mut-track.result.now.context.flight (Goes c.args.step) (ap (λ (x : Context). first_done x.flight) h.context ∙ c.requires.done) in
     c.entry_at-oldest.ensures ∙ ap (λ (x : Context). entry_at x 0) h.context
+
+pub overflow_sub-result : goal.overflow_sub-result
+overflow_sub-result g c =
+    let h = at_context c.self.inside c.args.self.now c.args.context c.index.result c.index_mut-track.result.now c.self.view_is c.self.invariant (omega (arith, c.index.ensures)) c.index.ensures.value c.index_mut-track.ensures.value in
+    let d = is_first_done c.index_mut-track.result.now.context.flight (Goes c.args.step) (ap (λ (x : Context). first_done x.flight) h.context ∙ c.requires.done) in
+    let old : length c.index_mut-track.result.now.context.flight ≡ length (context_at c.args.self.now c.args.context).flight = ap (λ (x : Context). length x.flight) h.context in
+    let new : length c.retire.new.track.context.flight ≡ length (retire_event (context_at c.args.self.now c.args.context) c.args.step).flight =
+    ap (λ (t : Track). length t.context.flight) c.retire.ensures.track ∙ ap (λ (x : Context). length (retire_event x c.args.step).flight) h.context in
+    let fewer : length (retire_event (context_at c.args.self.now c.args.context) c.args.step).flight + 1 ≤ length (context_at c.args.self.now c.args.context).flight =
+    retire_fewer (context_at c.args.self.now c.args.context) c.args.step (omega (arith, d.some, old)) in
+    omega (arith, c.len-before.ensures.value, c.len.ensures.value, old, new, fewer)
+
+pub overflow_sub-result-2 : goal.overflow_sub-result-2
+overflow_sub-result-2 g c =
+    let h = at_context c.self.inside c.args.self.now c.args.context c.index.result c.index_mut-track.result.now c.self.view_is c.self.invariant (omega (arith, c.index.ensures)) c.index.ensures.value c.index_mut-track.ensures.value in
+    let d = is_first_done c.index_mut-track.result.now.context.flight (Goes c.args.step) (ap (λ (x : Context). first_done x.flight) h.context ∙ c.requires.done) in
+    let old : length c.index_mut-track.result.now.context.flight ≡ length (context_at c.args.self.now c.args.context).flight = ap (λ (x : Context). length x.flight) h.context in
+    let new : length c.retire.new.track.context.flight ≡ length (retire_event (context_at c.args.self.now c.args.context) c.args.step).flight =
+    ap (λ (t : Track). length t.context.flight) c.retire.ensures.track ∙ ap (λ (x : Context). length (retire_event x c.args.step).flight) h.context in
+    let fewer : length (retire_event (context_at c.args.self.now c.args.context) c.args.step).flight + 1 ≤ length (context_at c.args.self.now c.args.context).flight =
+    retire_fewer (context_at c.args.self.now c.args.context) c.args.step (omega (arith, d.some, old)) in
+    omega (arith, c.len-before.ensures.value, c.len.ensures.value, old, new, fewer)
+
+pub returns-clause-dropped : goal.returns-clause-dropped
+returns-clause-dropped g c =
+    let h = at_context c.self.inside c.args.self.now c.args.context c.index.result c.index_mut-track.result.now c.self.view_is c.self.invariant (omega (arith, c.index.ensures)) c.index.ensures.value c.index_mut-track.ensures.value in
+    let d = is_first_done c.index_mut-track.result.now.context.flight (Goes c.args.step) (ap (λ (x : Context). first_done x.flight) h.context ∙ c.requires.done) in
+    let old : length c.index_mut-track.result.now.context.flight ≡ length (context_at c.args.self.now c.args.context).flight = ap (λ (x : Context). length x.flight) h.context in
+    let new : length c.retire.new.track.context.flight ≡ length (retire_event (context_at c.args.self.now c.args.context) c.args.step).flight =
+    ap (λ (t : Track). length t.context.flight) c.retire.ensures.track ∙ ap (λ (x : Context). length (retire_event x c.args.step).flight) h.context in
+    let fewer : length (retire_event (context_at c.args.self.now c.args.context) c.args.step).flight + 1 ≤ length (context_at c.args.self.now c.args.context).flight =
+    retire_fewer (context_at c.args.self.now c.args.context) c.args.step (omega (arith, d.some, old)) in
+    in_flight_after c.self.inside c.args.self.now _ c.args.context (retire_event (context_at c.args.self.now c.args.context) c.args.step) _ c.self.view_is h.in_tracks (returns-clause-retired g c)
+    (omega (arith, c.len-before.ensures.value, c.len.ensures.value, old, new, fewer))
+
+pub returns-clause-bound : goal.returns-clause-bound
+returns-clause-bound g c =
+    let h = at_context c.self.inside c.args.self.now c.args.context c.index.result c.index_mut-track.result.now c.self.view_is c.self.invariant (omega (arith, c.index.ensures)) c.index.ensures.value c.index_mut-track.ensures.value in
+    omega (arith, c.len-before.ensures.bound, h.core.capacity, c.self.invariant.bounded)

@@ -1,4 +1,4 @@
-use Rattle.std.proofs.Common.{refl, ap, ◌∙◌, arith}
+use Rattle.std.proofs.Common.{length, refl, ap, ◌∙◌, arith}
 use Rattle.core_view.specs.declared.outcome.Outcome.TheVariants.{Stops}
 use Rattle.core_view.specs.View.{Context}
 use Rattle.core_view.specs.Events.{stop_event}
@@ -7,9 +7,10 @@ use Rattle.std.specs.Arc.{arc_value}
 use Rattle.origin_set.specs.Start.{start}
 use Rattle.data_flow.specs.Flow.{cut_flow}
 use Rattle.core_back.specs.Track.{Track}
-use Rattle.core_back.specs.Machine.{first_done}
+use Rattle.core_back.specs.Machine.{context_at, first_done}
 use Rattle.core_back.proofs.Others.{cut_flow_left, count-cut_flow}
 use Rattle.core_back.proofs.Retires.{is_first_done, stop_core}
+use Rattle.core_back.proofs.InFlight.{in_flight_after}
 use Rattle.core_back.proofs.Machines.{at_context, idle_core, machine_after, shown_after}
 use Rattle.core_back.proofs.machine.Machine.stop.Goals as goal
 
@@ -23,7 +24,18 @@ invariant_of-self g c =
     core (λ e other. cut_flow_left c.self.inside.flow c.args.context e 0 other) (count-cut_flow c.self.inside.flow c.args.context 0)
     c.index.ensures.value refl c.stop.ensures.flow (ap (set c.self.inside.tracks.items c.index.result) c.stop.ensures.track) refl refl refl refl refl
 
-pub returns : goal.returns
-returns g c =
+pub returns-clause-stopped : goal.returns-clause-stopped
+returns-clause-stopped g c =
     let h = at_context c.self.inside c.args.self.now c.args.context c.index.result c.index_mut-track.result.now c.self.view_is c.self.invariant (omega (arith, c.index.ensures)) c.index.ensures.value c.index_mut-track.ensures.value in
     shown_after c.self.inside c.args.self.now c.args.context c.index.result c.stop.new.track _ c.self.view_is c.index.ensures.value (ap (λ (t : Track). t.context) c.stop.ensures.track ∙ ap (λ (x : Context). stop_event x c.args.why) h.context)
+
+pub returns-clause-dropped : goal.returns-clause-dropped
+returns-clause-dropped g c =
+    let h = at_context c.self.inside c.args.self.now c.args.context c.index.result c.index_mut-track.result.now c.self.view_is c.self.invariant (omega (arith, c.index.ensures)) c.index.ensures.value c.index_mut-track.ensures.value in
+    in_flight_after c.self.inside c.args.self.now _ c.args.context (stop_event (context_at c.args.self.now c.args.context) c.args.why) c.len-dropped.result c.self.view_is h.in_tracks (returns-clause-stopped g c)
+    (omega (arith, c.len-dropped.ensures.value, ap (λ (x : Context). length x.flight) h.context))
+
+pub returns-clause-bound : goal.returns-clause-bound
+returns-clause-bound g c =
+    let h = at_context c.self.inside c.args.self.now c.args.context c.index.result c.index_mut-track.result.now c.self.view_is c.self.invariant (omega (arith, c.index.ensures)) c.index.ensures.value c.index_mut-track.ensures.value in
+    omega (arith, c.len-dropped.ensures.bound, h.core.capacity, c.self.invariant.bounded)

@@ -7,6 +7,7 @@ use Rattle.core_back.specs.Steps.{renamed_flow}
 use Rattle.core_back.specs.Machine.{Machine, context_at}
 use Rattle.core_back.proofs.Renames.{nodes_older, first_idle, first_fetched, rename_core, renamed_flow_left, count-renamed_flow}
 use Rattle.core_back.proofs.Turns.{alike_with}
+use Rattle.core_back.proofs.InFlight.{in_flight_renamed}
 use Rattle.core_back.proofs.Machines.{at_context, idle_core, machine_after, shown_after}
 use Rattle.core_back.proofs.machine.Machine.try_rename.Goals as goal
 
@@ -64,3 +65,6 @@ returns-clause-alike g c =
     let t = c.index_mut-track.result.now in
     alike_with c.args.self.now _ c.args.context (rename_event c.args.self.now.view.cycle (context_at c.args.self.now c.args.context) t.renamed) (shown_after c.self.inside c.args.self.now c.args.context c.index.result c.rename.new.track _ c.self.view_is c.index.ensures.value
     (ap (λ (u : Track). u.context) c.rename.ensures.track ∙ ap (λ (x : Context). rename_event c.self.inside.cycle x t.renamed) h.context ∙ ap (λ (v : Machine). rename_event v.view.cycle (context_at c.args.self.now c.args.context) t.renamed) c.self.view_is)) refl
+
+pub returns-clause-flights : goal.returns-clause-flights
+returns-clause-flights g c = in_flight_renamed c.args.self.now _ c.args.context c.in_ok-stamp.stamp (returns-clause-renamed g c)

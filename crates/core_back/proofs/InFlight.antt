@@ -1,0 +1,82 @@
+-- How many entries are in flight after an event of one context.
+use Rattle.std.proofs.Common.{◌≡◌, ℕ, zero, suc, ◌+◌, ◌<◌, ◌≤◌, Bool, true, false, List, [], ◌∷◌, length, get_or, refl, sym, ap, subst, ◌∙◌, arith}
+use Rattle.std.specs.Prelude.{◌==◌, set, sum_by}
+use Rattle.std.proofs.lemmas.List.{length-drop, length-map, length-set, length_push}
+use Rattle.std.proofs.lemmas.List.Sums.{sum_by-cons, sum_by-set}
+use Rattle.core_view.specs.declared.outcome.Step.{Step}
+use Rattle.core_view.specs.Events.{retire_event, issue_event, rename_event, fetch_event, fetched_entry}
+use Rattle.core_view.specs.declared.note.Issue.{Issue}
+use Rattle.core_view.specs.declared.status.Status.TheVariants.{Running}
+use Rattle.rv64_decode.specs.declared.insn.Insn.{Insn}
+use Rattle.core_view.specs.Flight.{pc_past}
+use Rattle.core_view.specs.Operations.{operation_at}
+use Rattle.core_view.specs.View.{Context}
+use Rattle.core_back.specs.declared.machine.Machine.TheInside.{Inside}
+use Rattle.core_back.specs.Machine.{Machine, context_at, in_flight, no_context, with_context}
+use Rattle.core_back.specs.Shown.{machine_of}
+use Rattle.core_back.specs.Track.{Track}
+use Rattle.core_back.specs.Issued.{IsIssued}
+use Rattle.core_back.specs.Fetched.{IsRenamed, IsFetched}
+use Rattle.core_back.specs.declared.fetching.Fetch.{Fetch}
+
+-- as many fewer are in flight as the flight of the context lost
+pub in_flight-with_context : (m n : Machine) (c : ℕ) (x : Context) (lost : ℕ) → n ≡ with_context m c x → c < length m.view.contexts → lost + length x.flight ≡ length (context_at m c).flight → lost + in_flight n ≡ in_flight m
+unfolding in_flight
+in_flight-with_context m n c x lost e lt fewer =
+    let total = sum_by-set (λ (y : Context). length y.flight) m.view.contexts c x no_context lt in
+    subst (λ (q : Machine). lost + in_flight q ≡ in_flight m) (sym e) (omega (arith, total, fewer))
+
+-- the same of the machine in memory
+pub in_flight_after : {A : Type 0} (m : Inside A) (now v : Machine) (c : ℕ) (x : Context) (lost : ℕ) → machine_of m ≡ now → c < length m.tracks.items → v ≡ with_context now c x → lost + length x.flight ≡ length (context_at now c).flight → lost + in_flight v ≡ in_flight now
+in_flight_after m now v c x lost shows lt e fewer =
+    let contexts : length (machine_of m).view.contexts ≡ length now.view.contexts = ap (λ (u : Machine). length u.view.contexts) shows in
+    in_flight-with_context now v c x lost e (omega (arith, lt, contexts, length-map m.tracks.items (λ (t : Track). t.context))) fewer
+
+-- a retirement takes one entry out of its flight, or all
+pub retire_fewer : (x : Context) (step : Step) → 0 < length x.flight → length (retire_event x step).flight + 1 ≤ length x.flight
+retire_fewer x step some = by (x.count + 1 == x.target) refl
+  where
+    by : (b : Bool) → (x.count + 1 == x.target) ≡ b → length (retire_event x step).flight + 1 ≤ length x.flight
+    by true q = rw q (omega (arith, some))
+    by false q = rw q (omega (arith, some, length-drop 1 x.flight))
+
+-- ---- issue, rename, fetch
+
+pub in_flight_same : (m n : Machine) → n.view.contexts ≡ m.view.contexts → in_flight n ≡ in_flight m
+unfolding in_flight
+in_flight_same m n e = ap (λ (xs : List Context). sum_by (λ (y : Context). length y.flight) xs) e
+
+set_same : (xs : List Context) (c : ℕ) (x : Context) → length x.flight ≡ length (get_or xs c no_context).flight → sum_by (λ (y : Context). length y.flight) (set xs c x) ≡ sum_by (λ (y : Context). length y.flight) xs
+set_same [] c x e = refl
+set_same (y ∷ ys) zero x e = let new = sum_by-cons (λ (z : Context). length z.flight) x ys in let old = sum_by-cons (λ (z : Context). length z.flight) y ys in omega (arith, new, old, e)
+set_same (y ∷ ys) (suc c) x e =
+    let new = sum_by-cons (λ (z : Context). length z.flight) y (set ys c x) in
+    let old = sum_by-cons (λ (z : Context). length z.flight) y ys in
+    omega (arith, new, old, set_same ys c x e)
+
+-- one context is another, with as many entries in flight
+in_flight-set_same : (m n : Machine) (c : ℕ) (x : Context) → n.view.contexts ≡ set m.view.contexts c x → length x.flight ≡ length (context_at m c).flight → in_flight n ≡ in_flight m
+unfolding in_flight
+in_flight-set_same m n c x e same = ap (λ (xs : List Context). sum_by (λ (y : Context). length y.flight) xs) e ∙ set_same m.view.contexts c x same
+
+pub in_flight_issued : (m n : Machine) (i : Issue) → IsIssued m n i → in_flight n ≡ in_flight m
+in_flight_issued m n i is =
+    in_flight-set_same m n i.entry.context (issue_event (context_at m i.entry.context) is.place is.execution) (ap (λ (k : Machine). k.view.contexts) is.after) (length-set (context_at m i.entry.context).flight is.place _)
+
+pub in_flight_renamed : (m n : Machine) (c stamp : ℕ) → IsRenamed m n c stamp → in_flight n ≡ in_flight m
+in_flight_renamed m n c stamp is =
+    in_flight-set_same m n c (rename_event m.view.cycle (context_at m c) is.place) (ap (λ (k : Machine). k.view.contexts) is.after) (length-set (context_at m c).flight is.place _)
+
+running_there : (xs : List Context) (c : ℕ) → (get_or xs c no_context).status ≡ Running → c < length xs
+running_there [] c h = absurd cc
+running_there (x ∷ xs) zero h = omega arith
+running_there (x ∷ xs) (suc c) h = omega (arith, running_there xs c h)
+
+pub in_flight_fetched : (may_answer : ℕ → ℕ → Insn → ℕ → Bool) (m n : Machine) (c : ℕ) (f : Fetch) → IsFetched may_answer m n c f → in_flight n ≡ in_flight m + 1
+unfolding in_flight
+in_flight_fetched may_answer m n c f is =
+    let x = fetch_event m.view.stamp m.view.cycle is.followed (context_at m c) in
+    let total = sum_by-set (λ (y : Context). length y.flight) m.view.contexts c x no_context (running_there m.view.contexts c is.running) in
+    let pc = pc_past (context_at m c).state.pc (context_at m c).flight in
+    let more = length_push (context_at m c).flight (fetched_entry m.view.stamp m.view.cycle pc (operation_at (context_at m c).state.memory pc) is.followed) in
+    ap (λ (k : Machine). sum_by (λ (y : Context). length y.flight) k.view.contexts) is.after ∙ omega (arith, total, more)
