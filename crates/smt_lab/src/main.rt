@@ -1,141 +1,95 @@
-//! The program `smt-lab`: its words are read by `run::words`, and each command is an engine of
-//! `run`, which is given the real files and standard output.
+//! The program `smt-lab`: it reads its words, makes the devices that they name, has
+//! `lab_commands::run` serve the request, and ends with its line and status.
 #![tactic(auto)]
 
-mod context_block;
-pub mod device;
 mod lazy_file;
-pub mod run;
 
-ghost use Rattle.std.specs.Prelude.{◌≡◌, ◌≢◌, ◌≤◌, IfOk, OnOk, OnErr, false};
-ghost use Rattle.std.specs.Process.{exit_status};
-ghost use Rattle.clap.specs.Values.{kind_of};
-ghost use Rattle.smt_lab.specs.CommandLine.{IsBounded};
-ghost use Rattle.smt_lab.specs.Watched.{fails};
+ghost use Rattle.std.specs.Prelude.{◌≡◌, IfErr, IfOk, codes, false};
+ghost use Rattle.lab_commands.specs.CommandLine.{IsBounded, file_of};
+ghost use Rattle.lab_commands.specs.Commands.{NamesItsDevice};
+ghost use Rattle.lab_commands.specs.Watched.{fails, name_text};
 
-use clap::error::ErrorKind;
-use device::Watched;
+use lab_commands::device::{Sink, Watched};
+use lab_commands::run;
+use lab_commands::run::{Failure, Refusal, Request, explain, serve, status, tell};
 use lazy_file::LazyFile;
-use run::{Refusal, Request};
-use std::alloc::{AllocError, Allocator, Global};
+use std::alloc::{AllocError, Global};
 use std::io::Printer;
 use std::process::ExitCode;
 use std::rt::{Env, Files};
 use std::{env, io};
 
-/// What a refusal calls standard output.
-const STANDARD_OUTPUT: &str = "-";
-
-/// Prints a refusal.
-fn refuse<A: Allocator>(rt: &impl Eprint, refusal: Refusal<A>) -> ExitCode
-    ensures { exit_status result ≡ 1 }
-{
-    let _ = eprintln!(rt; "{refusal}");
-    ExitCode::from(1)
-}
-
-/// Prints what is wrong with the words, or the help that they ask for.
-fn explain<R: Print + Eprint>(rt: &R, error: clap::Error) -> ExitCode
-    ensures memory { kind_of error ≡ ErrorKind.OutOfMemory → exit_status result ≡ 1 }
-    ensures mistake { kind_of error ≢ ErrorKind.OutOfMemory → kind_of error ≢ ErrorKind.DisplayHelp
-        → kind_of error ≢ ErrorKind.DisplayVersion → exit_status result ≡ 2 }
-    ensures help { kind_of error ≡ ErrorKind.DisplayHelp → exit_status result ≤ 1 }
-{
-    if error.kind() == ErrorKind::OutOfMemory {
-        return refuse(rt, Refusal::OutOfMemory::<Global>);
-    }
-    let printed = error.print(rt);
-    if error.use_stderr() {
-        return ExitCode::from(2);
-    }
-    if printed.is_err() {
-        let _ = eprintln!(rt; "refused S2 {STANDARD_OUTPUT}");
-        return ExitCode::from(1);
-    }
-    ExitCode::SUCCESS
-}
-
-/// The words of the command line after the program's name. Where they can't be had, what the
-/// program ends with.
-fn arguments<R: Env + AllocGlobal + Eprint>(
+/// The words of the command line after the program's name.
+fn arguments<'a, R: Env + AllocGlobal>(
     rt: &R,
-    alloc: Global,
-) -> Result<Vec<String>, ExitCode> {
-    let words = match env::args(rt) {
-        Ok(words) => words.skip(1).collect(alloc),
-        Err(error) if error.kind() == io::ErrorKind::OutOfMemory => Err(AllocError),
-        Err(_) => {
-            let _ = eprintln!(rt; "error: invalid UTF-8 was detected in one or more arguments");
-            return Err(ExitCode::from(2));
+    alloc: &'a Global,
+) -> Result<Vec<String>, Failure<&'a Global>> {
+    match env::args(rt) {
+        Ok(words) => Ok(words.skip(1).collect(*alloc)?),
+        Err(error) if error.kind() == io::ErrorKind::OutOfMemory => {
+            Err(Failure::Refused(Refusal::OutOfMemory))
         }
-    };
-    words.map_err(|_| refuse(rt, Refusal::OutOfMemory::<Global>))
+        Err(_) => Err(Failure::NotUnicode),
+    }
 }
 
-/// The file at a path, not opened yet.
+/// The file at a path, not opened yet, under its path as its name.
 fn source<'a, 'b, R: Files>(
     rt: &'b R,
     alloc: &'a Global,
     path: &'b str,
 ) -> Result<Watched<LazyFile<'b, R>, &'a Global>, AllocError>
-    ensures { IfOk result (λ file. fails file ≡ false) }
+    ensures works { IfOk result (λ file. fails file ≡ false) }
+    ensures name { IfOk result (λ file. name_text file ≡ path.now) }
 {
     let name = String::from_str(alloc, path)?;
     Ok(Watched::new(LazyFile::new(rt, path), name))
 }
 
-/// Standard output.
+/// Standard output, under the name `-`.
 fn standard_output<'a, 'b, R: Print>(
     rt: &'b R,
     alloc: &'a Global,
 ) -> Result<Watched<Printer<'b, R>, &'a Global>, AllocError>
-    ensures { IfOk result (λ output. fails output ≡ false) }
+    ensures works { IfOk result (λ output. fails output ≡ false) }
+    ensures name { IfOk result (λ output. name_text output ≡ codes "-") }
 {
-    let name = String::from_str(alloc, STANDARD_OUTPUT)?;
+    let name = String::from_str(alloc, "-")?;
     Ok(Watched::new(io::writer(rt), name))
 }
 
-/// Runs what the words ask for, over real files and standard output.
-fn answer<'a, 'b, R: Files + Print>(
-    rt: &'b R,
+/// Serves a request over the real file and standard output.
+fn answer<'a, R: Files + Print>(
+    rt: &R,
     alloc: &'a Global,
-    request: Request<'b>,
+    request: Request<'_>,
 ) -> Result<(), Refusal<&'a Global>>
     requires { IsBounded request }
+    ensures { IfErr result (NamesItsDevice (file_of request.entry) (codes "-")) }
 {
+    let mut input = source(rt, alloc, request.file())?;
     let mut output = standard_output(rt, alloc)?;
-    match request {
-        Request::Asm { file } => {
-            let mut input = source(rt, alloc, file)?;
-            run::asm(alloc, &mut input, &mut output)
-        }
-        Request::Step { file, count, with } => {
-            let mut input = source(rt, alloc, file)?;
-            run::step(alloc, &mut input, count, with, &mut output)
-        }
-    }
+    serve(alloc, request, &mut input, &mut output)
 }
 
-/// The status of a command that was run. A refusal is printed.
-fn status_of<A: Allocator>(rt: &impl Eprint, outcome: Result<(), Refusal<A>>) -> ExitCode
-    ensures ok { OnOk outcome (exit_status result ≡ 0) }
-    ensures err { OnErr outcome (exit_status result ≡ 1) }
-{
-    match outcome {
-        Ok(()) => ExitCode::SUCCESS,
-        Err(refusal) => refuse(rt, refusal),
+/// Does what the words of the command line ask for.
+fn obey<'a, R: Env + AllocGlobal + Files + Print>(
+    rt: &R,
+    alloc: &'a Global,
+) -> Result<(), Failure<&'a Global>> {
+    let words = arguments(rt, alloc)?;
+    match run::words(*alloc, words.as_slice()) {
+        Ok(request) => Ok(answer(rt, alloc, request)?),
+        Err(error) => {
+            let mut output = standard_output(rt, alloc)?;
+            explain(alloc, error, &mut output)
+        }
     }
 }
 
 fn main(rt: HostRuntime) -> ExitCode {
     let alloc = rt.alloc();
-    let words = match arguments(&rt, alloc) {
-        Ok(words) => words,
-        Err(code) => return code,
-    };
-    let request = match run::words(alloc, words.as_slice()) {
-        Ok(request) => request,
-        Err(error) => return explain(&rt, error),
-    };
-    status_of(&rt, answer(&rt, &alloc, request))
+    let outcome = obey(&rt, &alloc);
+    let _ = tell(&outcome, &mut rt.stderr());
+    status(&outcome)
 }

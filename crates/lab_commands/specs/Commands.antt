@@ -1,0 +1,90 @@
+-- What each command writes for the bytes of its FILE, and why it refuses.
+use Rattle.std.specs.Prelude.{◌≡◌, ◌⊎◌, ◌<◌, ◌≤◌, ℕ, Bool, true, false, List, length, Option, IfSome, string_bytes, ⊤}
+use Rattle.std.specs.Io.KnownBytes.{Appends}
+use Rattle.std.specs.Str.{IsUtf8}
+use Rattle.std.specs.Str.Lines.{lines}
+use Rattle.rv64_asm.specs.Assembled as assembled
+use Rattle.checkpoint.specs.declared.fault.MarkFault.TheVariants as marks
+use Rattle.lab_commands.specs.Devices.{AppendsBeginning}
+use Rattle.lab_commands.specs.Limits.{file_limit}
+use Rattle.lab_commands.specs.Listing.{IsListing}
+use Rattle.lab_commands.specs.Refusals.{printed_name}
+use Rattle.lab_commands.specs.Steps.{IsStepBlock}
+use Rattle.lab_commands.specs.declared.run.command_line.Request.{Request}
+use Rattle.lab_commands.specs.declared.run.command_line.Request.TheVariants.{Asm, Step}
+use Rattle.lab_commands.specs.declared.run.refusal.Refusal.{Refusal}
+use Rattle.lab_commands.specs.declared.run.refusal.Refusal.TheVariants.{Assembly, Mark, OutOfMemory, Unread, Unwritten}
+
+-- what a command writes for a text
+abbrev pub IsOutput : Request → List ℕ → List ℕ → Type 0
+IsOutput (Asm _) text output = IsListing text output
+IsOutput (Step _ count with) text output = IsStepBlock text count with output
+
+-- the bytes are a text, not too long, and what the command writes for it was appended
+pub record Writes (request : Request) (bytes : List ℕ) (old new : Option (List ℕ)) : Type 0 where
+  pub short : length bytes ≤ file_limit
+  pub utf8 : IsUtf8 bytes
+  pub output : List ℕ
+  pub is_output : IsOutput request bytes output
+  pub appended : Appends old new output
+
+-- nothing was written, or a beginning of what the command writes
+abbrev pub WritesBeginning : Request → List ℕ → Option (List ℕ) → Option (List ℕ) → Type 0
+WritesBeginning request bytes old new =
+    (new ≡ old) ⊎ ((output : List ℕ) × IsOutput request bytes output × AppendsBeginning old new output)
+
+-- why a text has no listing: its own fault, or memory was wanted
+abbrev pub IsListingRefusal : {A : Type 0} → List ℕ → Refusal A → Type 0
+IsListingRefusal text (Assembly fault) = assembled.IsRefusal (lines text) fault
+IsListingRefusal text OutOfMemory = ⊤
+IsListingRefusal text _ = ⊥
+
+-- why a text has no block: its own fault, or memory was wanted, for a mark or else
+abbrev pub IsStepRefusal : {A : Type 0} → List ℕ → Refusal A → Type 0
+IsStepRefusal text (Assembly fault) = assembled.IsRefusal (lines text) fault
+IsStepRefusal text (Mark fault) = fault ≡ marks.OutOfMemory
+IsStepRefusal text OutOfMemory = ⊤
+IsStepRefusal text _ = ⊥
+
+-- why a command has nothing to write for a text
+abbrev pub IsTextRefusal : {A : Type 0} → Request → List ℕ → Refusal A → Type 0
+IsTextRefusal (Asm _) text refusal = IsListingRefusal text refusal
+IsTextRefusal (Step _ _ _) text refusal = IsStepRefusal text refusal
+
+-- why a source with these bytes left has no text: memory was wanted, or the source has failed, or the bytes are too many
+-- or no text
+abbrev pub IsUnreadable : {A : Type 0} → Bool → Option (List ℕ) → List ℕ → Refusal A → Type 0
+IsUnreadable failed left name OutOfMemory = ⊤
+IsUnreadable failed left name (Unread text) =
+    (string_bytes text ≡ printed_name name)
+    × ((failed ≡ true) ⊎ IfSome left (λ bytes. (file_limit < length bytes) ⊎ (IsUtf8 bytes → ⊥)))
+IsUnreadable failed left name _ = ⊥
+
+-- what holds of the devices at the end, and what is known of them
+pub record DevicesAfter : Type 0 where
+  pub input : Option (List ℕ)
+  pub input_name : List ℕ
+  pub input_failed : Bool
+  pub output_name : List ℕ
+  pub output_failed : Bool
+
+-- the bytes are a text, not too long, for which the command has nothing to write
+abbrev pub IsRefusedText : {A : Type 0} → Request → Refusal A → List ℕ → Type 0
+IsRefusedText request refusal bytes = (length bytes ≤ file_limit) × IsUtf8 bytes × IsTextRefusal request bytes refusal
+
+-- why a command refuses: memory was wanted, or its source has no text, or its sink has failed, or no device has failed
+-- and it is the text
+abbrev pub IsRefusal : {A : Type 0} → Request → DevicesAfter → Refusal A → Type 0
+IsRefusal request d OutOfMemory = ⊤
+IsRefusal request d (Unread name) =
+    (d.output_failed ≡ false) × IsUnreadable d.input_failed d.input d.input_name (Unread name)
+IsRefusal request d (Unwritten name) =
+    (string_bytes name ≡ printed_name d.output_name) × (d.input_failed ≡ false) × (d.output_failed ≡ true)
+IsRefusal request d refusal =
+    (d.input_failed ≡ false) × (d.output_failed ≡ false) × IfSome d.input (IsRefusedText request refusal)
+
+-- the FILE that a refusal prints is that of its device
+abbrev pub NamesItsDevice : {A : Type 0} → List ℕ → List ℕ → Refusal A → Type 0
+NamesItsDevice input output (Unread name) = string_bytes name ≡ printed_name input
+NamesItsDevice input output (Unwritten name) = string_bytes name ≡ printed_name output
+NamesItsDevice input output _ = ⊤

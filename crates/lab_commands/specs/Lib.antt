@@ -1,0 +1,11 @@
+pub mod Blocks
+pub mod CommandLine
+pub mod Commands
+pub mod Devices
+pub mod Endings
+pub mod Limits
+pub mod Listing
+pub mod Programs
+pub mod Refusals
+pub mod Steps
+pub mod Watched

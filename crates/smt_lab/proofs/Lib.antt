@@ -1,6 +1,0 @@
-pub mod CommandWords
-pub mod GoodRows
-pub mod ProgramSizes
-pub mod Puts
-pub mod StepBlocks
-pub mod Subcommands

@@ -1,7 +1,0 @@
-use Rattle.std.proofs.Common.{◌≡◌, ◌++◌, drop, string_bytes}
-use Rattle.smt_lab.specs.Blocks.{register_lines}
-use Rattle.smt_lab.proofs.context_block.register_lines.Given as goal
-
--- the lines so far and those of the rest are all
-abbrev pub invariant-loop-number : goal.invariant-loop-number
-invariant-loop-number g l = string_bytes l.text ++ register_lines l.number (drop l.number l.registers) ≡ register_lines 1 (drop 1 l.registers)

@@ -1,5 +1,0 @@
-use Rattle.checkpoint.proofs.FurthestLemmas.{IsFurthest-advanced}
-use Rattle.smt_lab.proofs.run.mark_after.Goals as goal
-
-pub returns-clause-ok : goal.returns-clause-ok
-returns-clause-ok g c = IsFurthest-advanced _ _ _ _ _ _ (rw c.in_ok-mark.ensures.ok at c.in_ok-advance.ensures.ok)

@@ -1,0 +1,123 @@
+#!/usr/bin/env python3
+"""Runs the program `smt-lab` with words and files of each kind, and compares its streams and its status.
+
+usage: tools/try_program.py PROGRAM
+
+No contract says what reaches a real stream or what a real file holds: this is where `main` is tried. It prints a line
+for each case that differs; the status is 0 where none does.
+"""
+
+import os
+import subprocess
+import sys
+import tempfile
+from typing import List, NamedTuple, Sequence, Tuple, Union
+
+Word = Union[str, bytes]
+
+COUNTDOWN = b".word 0x00A00293\n.word 0xFFF28293\n.word 0xFE029EE3\n.word 0x00000073\n"
+
+LISTING = """0000000000010000 00a00293 addi x5, x0, 10
+0000000000010004 fff28293 addi x5, x5, -1
+0000000000010008 fe029ee3 bne x5, x0, 0x10004
+000000000001000c 00000073 ecall
+data 0
+"""
+
+BLOCK = """context 0 count 7 running pc 0000000000010004
+x5 0000000000000007
+memory 02f5d09ff1621d14855098874649f25006641c873b3f01d89c6bef590e7890ad
+"""
+
+FILES: List[Tuple[Word, bytes]] = [
+    ("countdown.s", COUNTDOWN),
+    ("halt.s", b".word 0\nhalt\n"),
+    ("latin.s", b".word 0 # \xff\n"),
+    ("a\nb.s", b"\xc3"),
+]
+
+
+class Case(NamedTuple):
+    """What the program is given, and what it has to write and end with; a text that ends in `..` is a beginning."""
+
+    words: Sequence[Word]
+    status: int
+    out: str = ""
+    err: str = ""
+    out_is_full: bool = False
+
+
+CASES = [
+    Case(["asm", "countdown.s"], 0, LISTING),
+    Case(["step", "countdown.s", "--count", "7"], 0, BLOCK),
+    Case(["step", "countdown.s", "--count", "7", "--with", "4"], 0, BLOCK),
+    Case(["step", "countdown.s", "--count", "4", "--with", "7"], 0, BLOCK),
+    Case(["asm", "halt.s"], 1, err="refused A1 line 2\n"),
+    Case(["step", "halt.s", "--count", "0"], 1, err="refused A1 line 2\n"),
+    Case(["asm", "none.s"], 1, err="refused S1 none.s\n"),
+    Case(["step", "none.s", "--count", "0"], 1, err="refused S1 none.s\n"),
+    Case(["asm", "."], 1, err="refused S1 .\n"),
+    Case(["asm", "latin.s"], 1, err="refused S1 latin.s\n"),
+    Case(["asm", "a\nb.s"], 1, err="refused S1 a?b.s\n"),
+    Case(["asm", "long.s"], 1, err="refused S1 long.s\n"),
+    Case(["asm", "countdown.s"], 1, err="refused S2 -\n", out_is_full=True),
+    Case(["step", "countdown.s", "--count", "7"], 1, err="refused S2 -\n", out_is_full=True),
+    Case(["--help"], 0, "Runs RV64I programs and merges their checkpoints\n.."),
+    Case(["step", "--help"], 0, "Steps a program and prints its context\n.."),
+    Case(["--help"], 1, err="refused S2 -\n", out_is_full=True),
+    Case([], 2, err="error: .."),
+    Case(["halt"], 2, err="error: unrecognized subcommand 'halt'\n.."),
+    Case(["step", "countdown.s"], 2, err="error: .."),
+    Case(["step", "countdown.s", "--count", "1099511627777"], 2, err="error: .."),
+    Case(["asm", b"\xff.s"], 2, err="error: invalid UTF-8 was detected in one or more arguments\n"),
+]
+
+
+def is_text(wanted: str, given: str) -> bool:
+    """Whether a stream holds what it has to."""
+    return given.startswith(wanted[:-2]) if wanted.endswith("..") else given == wanted
+
+
+def differences(program: str, folder: str, case: Case) -> List[str]:
+    """What differs in a case."""
+    out = open("/dev/full", "wb") if case.out_is_full else subprocess.PIPE
+    ran = subprocess.run([program, *case.words], cwd=folder, stdin=subprocess.DEVNULL, stdout=out,
+                         stderr=subprocess.PIPE, check=False)
+    if not isinstance(out, int):
+        out.close()
+    written = (ran.stdout or b"").decode(errors="replace")
+    told = ran.stderr.decode(errors="replace")
+    found = []
+    if ran.returncode != case.status:
+        found.append(f"status {ran.returncode} and not {case.status}")
+    if not is_text(case.out, written):
+        found.append(f"standard output {written!r} and not {case.out!r}")
+    if not is_text(case.err, told):
+        found.append(f"standard error {told!r} and not {case.err!r}")
+    return found
+
+
+def main(words: List[str]) -> int:
+    """Tries all cases in a folder with their files."""
+    if len(words) != 1:
+        print(__doc__, end="", file=sys.stderr)
+        return 2
+    program = os.path.abspath(words[0])
+    failed = 0
+    with tempfile.TemporaryDirectory(prefix="try-") as folder:
+        for name, content in FILES:
+            with open(os.path.join(folder, os.fsdecode(name)), "wb") as file:
+                file.write(content)
+        with open(f"{folder}/long.s", "wb") as file:
+            file.truncate(64 * 1024 * 1024 + 1)
+        for case in CASES:
+            found = differences(program, folder, case)
+            failed += bool(found)
+            for line in found:
+                print(f"smt-lab {' '.join(map(repr, case.words))}: {line}")
+    print(f"{len(CASES) - failed} passed, {failed} failed")
+    return 1 if failed else 0
+
+
+if __name__ == "__main__":
+    sys.exit(main(sys.argv[1:]))
