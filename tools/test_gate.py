@@ -260,21 +260,40 @@ class RoundsTest(unittest.TestCase):
     def test_refused_only_through_a_call(self) -> None:
         said = REFUSED_ANSWER + BARE.format(BELOW) + BY_A_CALL.format(CUT) + NOT_PROVED
         proved = PROVED.format(BELOW) + PROVED.format(CUT) + NOT_PROVED
-        made, tried = self.trial([said, proved, "logic=proved\n"], {"below": self.BELOW_EDIT, "cut": self.CUT_EDIT})
+        answers = [said, proved, "logic=proved\n", "logic=proved\n"]
+        made, tried = self.trial(answers, {"below": self.BELOW_EDIT, "cut": self.CUT_EDIT})
         self.assertEqual(self.refused(tried), {"reorder_buffer/below.edit": True, "reorder_buffer/cut.edit": False})
         self.assertEqual(made.tried, ["cut.edit", "cut.edit from nothing"])
 
     def test_proved(self) -> None:
         said = PROVED.format(LEN) + NOT_PROVED
-        made, tried = self.trial([said, said, "logic=proved\n"], {"len": self.LEN_EDIT})
+        made, tried = self.trial([said, said, "logic=proved\n", "logic=proved\n"], {"len": self.LEN_EDIT})
         self.assertEqual([it.refused for it in tried.results], [False])
         self.assertIn("NOT REFUSED", tried.results[0].said)
 
-    def test_an_unreadable_one_sends_all_to_the_toolchain(self) -> None:
+    def test_an_unreadable_one_sends_all_to_be_tried_alone(self) -> None:
         said = UNREADABLE + NOTE.format(5) + BY_ITSELF.format(LEN) + REFUSED_ANSWER + BARE.format(BELOW) + NOT_PROVED
-        made, tried = self.trial([said, "logic=proved\n"], {"len": self.LEN_EDIT, "below": self.BELOW_EDIT}, len=True)
+        alone = NOTE.format(5) + BY_ITSELF.format(LEN) + "only=1 proved=0\n"
+        made, tried = self.trial([said, alone, UNREADABLE + NOT_PROVED, "logic=proved\n"],
+                                 {"len": self.LEN_EDIT, "below": self.BELOW_EDIT})
         self.assertEqual(self.refused(tried), {"reorder_buffer/len.edit": True, "reorder_buffer/below.edit": False})
-        self.assertEqual(made.tried, ["len.edit", "below.edit", "below.edit from nothing"])
+        self.assertEqual(made.only[1:], [[LEN], [BELOW], []])
+        self.assertEqual(made.tried, ["below.edit", "below.edit from nothing"])
+
+    def test_alone_any_function_counts(self) -> None:
+        other = BARE.format(BELOW) + BY_A_CALL.format(CUT) + "only=1 proved=0\n"
+        said = REFUSED_ANSWER + BARE.format(BELOW) + BY_A_CALL.format(CUT) + NOT_PROVED
+        made, tried = self.trial([said, PROVED.format(CUT) + NOT_PROVED, other, "logic=proved\n"],
+                                 {"below": self.BELOW_EDIT, "cut": self.CUT_EDIT})
+        self.assertEqual([it.refused for it in tried.results], [True, True])
+        self.assertEqual((made.only[2:], made.texts[3], made.tried), ([[CUT], [CUT]], {}, []))
+
+    def test_alone_a_line_that_is_not_known(self) -> None:
+        said = PROVED.format(LEN) + NOT_PROVED
+        alone = "fn {0}: could not tell\n".format(LEN) + "only=1 proved=0\n"
+        made, tried = self.trial([said, said, alone, "logic=proved\n"], {"len": self.LEN_EDIT})
+        self.assertEqual([it.refused for it in tried.results], [False])
+        self.assertEqual(made.tried, ["len.edit", "len.edit from nothing"])
 
     def test_an_edit_that_does_not_apply(self) -> None:
         _, tried = self.trial([], {"gone": ("self.buffer.gone()", "1")})
@@ -282,12 +301,20 @@ class RoundsTest(unittest.TestCase):
         self.assertIn("BAD EDIT", tried.results[0].said)
 
     def test_outside_a_body_goes_alone(self) -> None:
-        made, tried = self.trial(["logic=proved\n"], {"clause": ("length self.now", "0")}, clause=True)
+        said = NOTE.format(5) + BY_ITSELF.format(LEN) + "only=3 proved=2\n"
+        made, tried = self.trial([said, "logic=proved\n"], {"clause": ("length self.now", "0")})
         self.assertEqual([it.refused for it in tried.results], [True])
-        self.assertEqual(made.tried, ["clause.edit"])
+        self.assertEqual(made.only, [sorted(KNOWN), sorted(KNOWN)])
+        self.assertEqual(made.tried, [])
+
+    def test_outside_a_body_and_its_file(self) -> None:
+        made, tried = self.trial(["logic=proved\n", "logic=proved\n"], {"clause": ("length self.now", "0")}, clause=True)
+        self.assertEqual([it.refused for it in tried.results], [True])
+        self.assertEqual((made.only[1], made.tried), ([], ["clause.edit"]))
 
     def test_a_cycle_goes_alone(self) -> None:
-        made = FakeKit(self.top, [REFUSED_ANSWER + BARE.format(BELOW) + NOT_PROVED, "logic=proved\n"], {"below": True})
+        said = REFUSED_ANSWER + BARE.format(BELOW) + NOT_PROVED
+        made = FakeKit(self.top, [said, "logic=proved\n", "logic=proved\n"], {"below": True})
         made.kept_module = "Rattle-reorder_buffer-proofs.ring.Ring.+count_below.Goals.oantt"
         good = [made.edit("below", *self.BELOW_EDIT)]
         tried = rounds.try_crate(made, "reorder_buffer", good, [], KNOWN, False, lambda _text: None)
@@ -331,7 +358,7 @@ esac
 class WholeTest(unittest.TestCase):
     """The gate under a toolchain that isn't the one named: plain `rt ci`, on a copy that has the edits."""
 
-    def run_gate(self, says: str, status: int) -> "subprocess.CompletedProcess[str]":
+    def run_gate(self, says: str, status: int, program: int = 0) -> "subprocess.CompletedProcess[str]":
         here = os.path.dirname(os.path.abspath(__file__))
         with tempfile.TemporaryDirectory() as room:
             os.makedirs(f"{room}/bin")
@@ -341,7 +368,8 @@ class WholeTest(unittest.TestCase):
             shutil.copy(f"{here}/gate", f"{room}/top/tools/gate")
             shutil.copytree(f"{here}/gate_lib", f"{room}/top/tools/gate_lib")
             for file, text in (("bin/rt", FAKE_RT), ("top/crates/low/says", says),
-                               ("top/crates/low/status", str(status))):
+                               ("top/crates/low/status", str(status)),
+                               ("top/tools/try_program.py", f"raise SystemExit({program})\n")):
                 with open(f"{room}/{file}", "w", encoding="utf-8") as it:
                     it.write(text)
             os.chmod(f"{room}/bin/rt", 0o755)
@@ -351,7 +379,7 @@ class WholeTest(unittest.TestCase):
 
     def test_passed(self) -> None:
         ran = self.run_gate("3 passed, 0 failed\n", 0)
-        self.assertEqual((ran.returncode, ran.stdout.splitlines()[-1]), (0, "3 passed, 0 failed"))
+        self.assertEqual((ran.returncode, ran.stdout.splitlines()[-1]), (0, "4 passed, 0 failed"))
         self.assertIn("must-fail\n", ran.stdout)
         self.assertNotIn("out\n", ran.stdout)
         self.assertIn("another kit", ran.stderr)
@@ -360,6 +388,11 @@ class WholeTest(unittest.TestCase):
         ran = self.run_gate("rt: FAILED: low/edit\n3 passed, 1 failed\n", 1)
         self.assertEqual((ran.returncode, ran.stdout.splitlines()[-2:]),
                          (1, ["FAILED: low/edit", "3 passed, 1 failed"]))
+
+    def test_the_program_fails(self) -> None:
+        ran = self.run_gate("3 passed, 0 failed\n", 0, program=1)
+        self.assertEqual((ran.returncode, ran.stdout.splitlines()[-2:]),
+                         (1, ["FAILED: tools/try_program.py", "3 passed, 1 failed"]))
 
     def test_failed_without_a_name(self) -> None:
         for says, status, last in (("3 passed, 0 failed\n", 1, "3 passed, 1 failed"),

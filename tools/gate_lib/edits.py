@@ -53,6 +53,15 @@ def in_one_function(crate: str, folder: str, file: str, label: str, texts: Dict[
     return None
 
 
+def functions_of_files(crate: str, texts: Dict[str, str], known: Sequence[str]) -> List[str]:
+    """The functions, among those that the prover printed, of the modules that these source files are; none where a file
+    is no source file."""
+    modules = ["::".join([crate, *source.module_of(path), ""]) for path in texts if path.startswith("src/")]
+    if len(modules) != len(texts):
+        return []
+    return sorted(name for name in known if "++" not in name and name.startswith(tuple(modules)))
+
+
 def changed(before: str, after: str) -> Tuple[int, int]:
     """The part of the first text in which the two differ."""
     start = len(os.path.commonprefix([before, after]))

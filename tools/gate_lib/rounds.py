@@ -2,8 +2,10 @@
 
 A round's check has at most one edit of each function. An edit is refused there where its own function isn't proved for
 a reason of its own: what a function calls is cited by its contract, which an edit of a body leaves as it is. What isn't
-certified so is tried in another round, and at last alone, in the toolchain's own way; so is each edit that isn't one of
-a single function's body, and each of a function in a cycle of calls, whose proofs are one.
+certified so is tried in another round, and at last alone; so is each edit that isn't one of a single function's body,
+and each of a function in a cycle of calls, whose proofs are one. Alone, an edit is refused where anything isn't proved:
+first its function, or the functions of its file, are checked, and where these are proved the whole crate is, in the
+toolchain's own way.
 """
 
 import os
@@ -55,8 +57,11 @@ class Trial:
         # Each edit's name by its file.
         self.labels: Dict[str, str] = {}
         self.tries: Dict[str, int] = {}
-        # Functions whose certificate rests on what earlier rounds kept.
+        # The functions that an edit is tried on when it is alone, by its file.
+        self.near: Dict[str, List[str]] = {}
+        # Functions whose certificate rests on what earlier checks kept, and whether the whole crate's does.
         self.over_kept: Set[str] = set()
+        self.was_whole = False
         self.plant: Optional[Edit] = None
         self.was_beside = False
         self.plant_found = False
@@ -72,8 +77,10 @@ class Trial:
             edit = edits_of_text.in_one_function(self.crate, self.folder, file, label, texts, known)
             if edit:
                 self.together.append(edit)
+                self.near[file] = [edit.function]
             else:
                 self.alone.append(file)
+                self.near[file] = edits_of_text.functions_of_files(self.crate, texts, known)
 
     def put_plant(self, room: str, known: Sequence[str]) -> bool:
         """Puts an edit that changes nothing before the others; tells whether the crate has a place for one."""
@@ -139,8 +146,11 @@ class Trial:
             self.alone.append(edit.file)
 
     def try_alone(self, file: str) -> None:
-        """Tries an edit in the toolchain's own way, and again from nothing where it isn't refused."""
+        """Tries an edit alone: its functions, then the whole crate, and again from nothing where it isn't refused."""
         is_plant = self.plant is not None and file == self.plant.file
+        if not is_plant and self.is_refused_near(file):
+            return
+        self.was_whole = True
         refused, said = self.kit.must_fail(self.crate, file, self.kept)
         if is_plant:
             self.plant_found = not refused and ": NOT REFUSED" in said
@@ -150,10 +160,27 @@ class Trial:
         self.results.append(Result(self.labels[file], refused, said.partition(": ")[2]))
         self.tell(f"alone: {said[:150]}")
 
+    def is_refused_near(self, file: str) -> bool:
+        """Counts an edit as refused where a check of its functions alone, with no other edit, proves not all of them."""
+        texts, _ = self.kit.read_edit(file, self.folder)
+        if not texts or not self.near.get(file):
+            return False
+        ran = self.kit.checked(self.crate, texts, self.near[file], self.kept)
+        if not output.is_judged(ran.text, ran.status) or self.kit.is_unread(ran, texts):
+            return False
+        for name, it in output.read(ran.text).items():
+            if output.OWN.fullmatch(it.line):
+                self.over_kept |= set(self.near[file])
+                said = f"refused, as it must be: alone: {name}: {it.line}"
+                self.results.append(Result(self.labels[file], True, said))
+                self.tell(f"{self.labels[file]}: {said[:150]}")
+                return True
+        return False
+
     def is_sound(self) -> bool:
         """Whether what was refused over kept work is proved over it without edits."""
-        functions = [] if self.alone else sorted(self.over_kept)
-        if not self.alone and not functions:
+        functions = [] if self.was_whole else sorted(self.over_kept)
+        if not self.was_whole and not functions:
             return True
         return self.kit.checked(self.crate, {}, functions, self.kept).status == 0
 
