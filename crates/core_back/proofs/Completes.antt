@@ -10,12 +10,10 @@ use Rattle.core_view.specs.declared.entry.Stage.TheVariants.{Issued}
 use Rattle.core_view.specs.declared.entry.Entry.{Entry}
 use Rattle.core_view.specs.Operations.{destination_of}
 use Rattle.core_view.specs.Flight.{result_of, result_in, IsGrowing}
-use Rattle.core_view.specs.Loads.{IsPatient}
 use Rattle.core_view.specs.Queues.{is_renamed, AllRenamed}
 use Rattle.core_view.specs.View.{entry_at, no_entry}
 use Rattle.core_view.specs.Events.{completed_entry, complete_in}
 use Rattle.core_view.proofs.RingForm.{complete_take}
-use Rattle.core_view.proofs.Patient.{patient_complete}
 use Rattle.core_view.proofs.Live.{complete_live}
 use Rattle.data_flow.specs.Flow.{Node, Lane, Flow, no_node, node_at, lane, with_result, result_for, cut_from, cut_flow, waits_in}
 use Rattle.core_back.specs.Track.{Track, left_by, completed}
@@ -23,7 +21,7 @@ use Rattle.core_back.specs.Queued.{is_queued, queued_at}
 use Rattle.core_back.specs.Steps.{cut_if, finished_flow, completed_flow}
 use Rattle.core_back.specs.Cores.{operands_of, node_of_entry, AllFetched, IsCore}
 use Rattle.core_back.proofs.Waiting.{or_none, growing_at, growing_set, none_below, below-take, below-nodes, queued-below, queued-same, waits-cut}
-use Rattle.core_back.proofs.Others.{lane-with_same, lane-cut_same, count-finished_flow, IsFlightCore, core_from}
+use Rattle.core_back.proofs.Others.{lane-with_same, lane-cut_same, sizes-finished_flow, IsFlightCore, core_from}
 use Rattle.core_back.proofs.Flights.{growing_take}
 use Rattle.core_back.proofs.Stages.{renamed_place, renamed_set, renamed_take, fetched_drop_take}
 
@@ -149,7 +147,7 @@ module _ (start : State) (stamp reorder : ℕ) (f : Flow) (c : ℕ) (t : Track) 
       let first : (get_or done_flight n no_entry).stamp ≡ s = ap (λ (y : Entry). y.stamp) (get_or-set_other t.context.flight i n e no_entry (λ same. omega (arith, past, same))) in
       let grows : IsGrowing 0 done_flight = growing_set 0 t.context.flight i e lt refl core.live.flight.growing in
       let there : n < length done_flight = omega (arith, inside, length-set t.context.flight i e) in
-      let here : lane (cut_flow done_flow c s) c ≡ cut_from (lane done_flow c) s = lane-cut_same done_flow c s (omega (arith, within, count-finished_flow f c i (result_in x.outcome))) in
+      let here : lane (cut_flow done_flow c s) c ≡ cut_from (lane done_flow c) s = lane-cut_same done_flow c s (omega (arith, within, (sizes-finished_flow f c i (result_in x.outcome)).lanes)) in
       let kept = done_lane (result_in x.outcome) within in
       record {
         nodes = ap (λ (l : Lane). l.nodes) here ∙ ap (λ (ns : List Node). filter (λ m. nat_lt m.operands.stamp s) ns) (done_nodes within core lt stage) ∙ below-nodes s (take t.renamed done_flight)
@@ -174,9 +172,9 @@ module _ (start : State) (stamp reorder : ℕ) (f : Flow) (c : ℕ) (t : Track) 
 
   -- ---- the context
 
-  cut_flight : (n : ℕ) (g : Flow) → IsCut g n → i < n → IsPatient (take n done_flight) → IsCore start stamp reorder f [] c t → i < length t.context.flight → (entry_at t.context i).stage ≡ Issued x
+  cut_flight : (n : ℕ) (g : Flow) → IsCut g n → i < n → IsCore start stamp reorder f [] c t → i < length t.context.flight → (entry_at t.context i).stage ≡ Issued x
       → IsFlightCore reorder g [] c (min t.renamed n) (take n done_flight)
-  cut_flight n g cut past patient core lt stage =
+  cut_flight n g cut past core lt stage =
       let e : Entry = completed_entry (entry_at t.context i) x in
       let first = issued_renamed core lt stage in
       let len : length (take n done_flight) ≡ min n (length t.context.flight) = length-take n done_flight ∙ ap (min n) (length-set t.context.flight i e) in
@@ -190,7 +188,6 @@ module _ (start : State) (stamp reorder : ℕ) (f : Flow) (c : ℕ) (t : Track) 
         are_renamed = subst AllRenamed (sym front) (renamed_take t.renamed n done_flight (renamed_set t.renamed t.context.flight i e refl core.are_renamed));
         are_fetched = fetched_left t.renamed n done_flight (subst AllFetched (sym (drop-set-lt t.renamed t.context.flight i e first)) core.are_fetched);
         waiting = λ k. or_none (waits_in g c k) ∙ cut.waits k;
-        patient = patient;
       }
 
   -- the entry at a place completes
@@ -200,6 +197,5 @@ module _ (start : State) (stamp reorder : ℕ) (f : Flow) (c : ℕ) (t : Track) 
       let n : ℕ = left_by t.context i x in
       let cut : IsCut (completed_flow f c i x t.context) n = is_cut within core lt stage in
       let cuts : complete_in t.context.flight i x ≡ take n done_flight = complete_take t.context.flight i x no_entry lt in
-      let patient : IsPatient (take n done_flight) = subst IsPatient cuts (patient_complete t.context.flight i x no_entry lt stage core.patient) in
       core_from start stamp reorder (completed_flow f c i x t.context) [] c (completed t i x) (min t.renamed n) (take n done_flight) refl cuts
-      (complete_live start stamp t.context i x lt stage core.live) (cut.registers ∙ core.registers) core.capacity (cut_flight n (completed_flow f c i x t.context) cut (omega arith) patient core lt stage)
+      (complete_live start stamp t.context i x lt stage core.live) (cut.registers ∙ core.registers) core.capacity (cut_flight n (completed_flow f c i x t.context) cut (omega arith) core lt stage)

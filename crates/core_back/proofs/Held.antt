@@ -18,11 +18,11 @@ use Rattle.core_view.specs.Operations.{is_load}
 use Rattle.core_view.specs.Outcomes.{image_of}
 use Rattle.core_view.specs.Flight.{seen_of, IsGrowing}
 use Rattle.core_view.specs.Events.{with_stage}
-use Rattle.core_view.specs.Loads.{newest, newest_sharing, is_pending_store, waits, is_clear_waiting, may_issue_waiting}
-use Rattle.core_view.specs.Queues.{stores_of, sharing_in, is_pending_in}
+use Rattle.core_view.specs.Loads.{newest, newest_sharing, is_clear, may_issue}
+use Rattle.core_view.specs.Queues.{stores_of, sharing_in}
 use Rattle.core_view.specs.View.{Context, entry_at, no_entry}
 use Rattle.core_view.proofs.Accesses.{is_load_effect, effect_loads}
-use Rattle.core_view.proofs.Queues.{queue_pending, queue_sharing}
+use Rattle.core_view.proofs.Queues.{queue_sharing}
 use Rattle.data_flow.specs.Flow.{Flow, Waiter, lane, sources_at, waits_in, is_waiter, with_held}
 use Rattle.core_back.specs.Issuable.{IsAnswered, may_perform, may_issue_at, IsHeld, AreHeld, IsClear}
 use Rattle.core_back.specs.Steps.{IsRemarked}
@@ -96,7 +96,7 @@ held_other f g c k flag entry d j stamp is other before = rw (is, stamp) (All-ma
 
 -- ---- entries that may issue
 
-effect_may : (es : List Entry) (e : Effect) → is_load_effect e ≡ false → may_issue_waiting es e ≡ true
+effect_may : (es : List Entry) (e : Effect) → is_load_effect e ≡ false → may_issue es e ≡ true
 effect_may es (effect.Loads kind address) h = absurd cc
 effect_may es e h = refl
 
@@ -105,10 +105,10 @@ pub plain_may : (es : List Entry) (o : Operation) (pc a b : ℕ) → is_load o �
 plain_may es (Performs insn) pc a b h = effect_may es (effect_of insn pc a b) (effect_loads insn pc a b ∙ h)
 plain_may es (Stops why) pc a b h = refl
 
-clear_may : (es : List Entry) (o : Operation) (pc a b : ℕ) → ((s : Span) → is_clear_waiting es s ≡ true) → may_perform es o pc a b ≡ true
+clear_may : (es : List Entry) (o : Operation) (pc a b : ℕ) → ((s : Span) → is_clear es s ≡ true) → may_perform es o pc a b ≡ true
 clear_may es (Performs insn) pc a b clear = by_effect (effect_of insn pc a b)
   where
-    by_effect : (e : Effect) → may_issue_waiting es e ≡ true
+    by_effect : (e : Effect) → may_issue es e ≡ true
     by_effect (effect.Loads kind address) = clear _
     by_effect e = refl
 clear_may es (Stops why) pc a b clear = refl
@@ -117,14 +117,11 @@ clear_may es (Stops why) pc a b clear = refl
 pub none_stored_may : (x : Context) (i a b : ℕ) → i < length x.flight → IsAnswered x i → stores_of x.flight ≡ [] → may_issue_at x i a b ≡ true
 none_stored_may x i a b lt h none = clear_may (take i x.flight) (entry_at x i).operation (entry_at x i).pc a b clear
   where
-    pending : waits (take i x.flight) ≡ false
-    pending = sym (queue_pending 0 x.flight i no_entry lt h.growing h.renamed) ∙ ap (λ qs. is_pending_in qs (entry_at x i).stamp) none
-
     sharing : (s : Span) → newest_sharing (take i x.flight) s ≡ None
     sharing s = sym (queue_sharing (image_of x.state) (seen_of x.state) x.state.pc 0 x.flight i no_entry s lt h.growing h.sound) ∙ ap (λ qs. sharing_in qs (entry_at x i).stamp s) none
 
-    clear : (s : Span) → is_clear_waiting (take i x.flight) s ≡ true
-    clear s = rw (pending, sharing s) refl
+    clear : (s : Span) → is_clear (take i x.flight) s ≡ true
+    clear s = rw (sharing s) refl
 
 -- a queued entry is in the flight
 pub queued_within : (es : List Entry) (i : ℕ) → (get_or es i no_entry).stage ≡ Queued → i < length es
@@ -182,12 +179,6 @@ held_kept f g c t marks keeps held i a b lt stage sources waits =
 
 -- ---- an entry that issues
 
-issued_waits : (j : ℕ) (es : List Entry) (i : ℕ) (x : Execution) → (get_or es i no_entry).stage ≡ Queued → waits (take j (set es i (with_stage (get_or es i no_entry) (Issued x)))) ≡ waits (take j es)
-issued_waits zero es i x stage = refl
-issued_waits (suc j) [] i x stage = refl
-issued_waits (suc j) (e ∷ es) zero x stage = rw stage refl
-issued_waits (suc j) (e ∷ es) (suc i) x stage = ap (λ b. is_pending_store e || b) (issued_waits j es i x stage)
-
 issued_newest : (test : Bytes → Bool) (j : ℕ) (es : List Entry) (i : ℕ) (x : Execution) → (get_or es i no_entry).stage ≡ Queued → newest test (take j (set es i (with_stage (get_or es i no_entry) (Issued x)))) ≡ newest test (take j es)
 issued_newest test zero es i x stage = refl
 issued_newest test (suc j) [] i x stage = refl
@@ -202,10 +193,10 @@ issued_entry (e ∷ es) zero (suc j) x = refl
 issued_entry (e ∷ es) (suc i) zero x = refl
 issued_entry (e ∷ es) (suc i) (suc j) x = issued_entry es i j x
 
-same_may : (es fs : List Entry) (o : Operation) (pc a b : ℕ) → ((s : Span) → is_clear_waiting es s ≡ is_clear_waiting fs s) → may_perform es o pc a b ≡ may_perform fs o pc a b
+same_may : (es fs : List Entry) (o : Operation) (pc a b : ℕ) → ((s : Span) → is_clear es s ≡ is_clear fs s) → may_perform es o pc a b ≡ may_perform fs o pc a b
 same_may es fs (Performs insn) pc a b same = by_effect (effect_of insn pc a b)
   where
-    by_effect : (e : Effect) → may_issue_waiting es e ≡ may_issue_waiting fs e
+    by_effect : (e : Effect) → may_issue es e ≡ may_issue fs e
     by_effect (effect.Loads kind address) = same _
     by_effect e = refl
 same_may es fs (Stops why) pc a b same = refl
@@ -218,8 +209,8 @@ issued_may t i j x a b stage =
     same_may (take j (issued t i x).context.flight) (take j t.context.flight) e.operation e.pc a b clear
     ∙ ap (λ (n : Entry). may_perform (take j t.context.flight) n.operation n.pc a b) same
   where
-    clear : (s : Span) → is_clear_waiting (take j (issued t i x).context.flight) s ≡ is_clear_waiting (take j t.context.flight) s
-    clear s = rw (issued_waits j t.context.flight i x stage, issued_newest _ j t.context.flight i x stage) refl
+    clear : (s : Span) → is_clear (take j (issued t i x).context.flight) s ≡ is_clear (take j t.context.flight) s
+    clear s = rw (issued_newest _ j t.context.flight i x stage) refl
 
 -- so the names of the others are clear still
 pub issued_clear : (f : Flow) (c k : ℕ) (t : Track) (i : ℕ) (x : Execution) → (entry_at t.context i).stage ≡ Queued → IsClear f c t k → IsClear f c (issued t i x) k

@@ -18,10 +18,8 @@ use Rattle.core_view.specs.Operations.{stops_at_fetch, first_source_of, second_s
 use Rattle.core_view.specs.Outcomes.{Image, image_of, outcome_in}
 use Rattle.core_view.specs.Flight.{seen_of, source_value, IsOutcome, HasOutcome}
 use Rattle.core_view.specs.Events.{with_stage}
-use Rattle.core_view.specs.Loads.{IsPatient}
 use Rattle.core_view.specs.Queues.{AllRenamed}
 use Rattle.core_view.specs.View.{entry_at, no_entry, seen_at as flight_seen_at}
-use Rattle.core_view.proofs.Patient.{patient_issue}
 use Rattle.core_view.proofs.Sound.{sound_at}
 use Rattle.core_view.proofs.Live.{issue_live}
 use Rattle.data_flow.specs.Flow.{Flow, lane, no_node, waits_in, both, sources_at}
@@ -121,24 +119,6 @@ left_over false t w s same none = rw same (sym (kept (w || s)))
     kept true = refl
     kept false = refl
 
--- issue keeps a flight patient: a load that may issue doesn't wait
-issue_patient : {start : State} {stamp reorder c : ℕ} {f : Flow} {names : List EntryId} {t : Track} → IsCore start stamp reorder f names c t → (i : ℕ) (x : Execution) (a b : ℕ) → i < length t.context.flight → (entry_at t.context i).stage ≡ Queued
-    → may_issue_at t.context i a b ≡ true → IsPatient (set t.context.flight i (with_stage (entry_at t.context i) (Issued x)))
-issue_patient {t = t} core i x a b lt stage may = by_operation (entry_at t.context i).operation refl may
-  where
-    e : Entry
-    e = entry_at t.context i
-
-    image : Image
-    image = image_of t.context.state
-
-    by_operation : (o : Operation) → e.operation ≡ o → may_perform (take i t.context.flight) o e.pc a b ≡ true → IsPatient (set t.context.flight i (with_stage e (Issued x)))
-    by_operation (operation.Performs insn) is clear = patient_issue t.context.flight i no_entry x insn e.pc a b lt is stage clear core.patient
-    by_operation (operation.Stops why) is clear =
-        let sound = sound_at image (seen_of t.context.state) t.context.state.pc t.context.flight i no_entry lt core.live.flight.sound in
-        let performs : stops_at_fetch e.operation ≡ false = subst (λ s. HasOutcome image (flight_seen_at t.context i) e.operation e.pc s) stage sound.outcome in
-        absurd (let bad : true ≡ false = ap stops_at_fetch (sym is) ∙ performs in cc)
-
 pub issue_core : {start : State} {stamp reorder c k : ℕ} {f : Flow} {names : List EntryId} {t : Track} → IsCore start stamp reorder f (record { context = c; stamp = k } ∷ names) c t → (i : ℕ) (x : Execution) (a b : ℕ)
     → is_selected names c k ≡ false → waits_in f c k ≡ false → i < length t.context.flight → (entry_at t.context i).stamp ≡ k → (entry_at t.context i).stage ≡ Queued → sources_at (lane f c) i ≡ Some (a, b)
     → may_issue_at t.context i a b ≡ true → x.outcome ≡ outcome_in (image_of t.context.state) (flight_seen_at t.context i).bytes (entry_at t.context i).operation (entry_at t.context i).pc a b
@@ -160,7 +140,6 @@ issue_core {start = start} {stamp = stamp} {c = c} {k = k} {f = f} {names = name
       are_renamed = rw front (renamed-set (take t.renamed t.context.flight) i n refl core.are_renamed);
       are_fetched = rw (drop-set-lt t.renamed t.context.flight i n below) core.are_fetched;
       waiting = waiting;
-      patient = issue_patient core i x a b lt stage may;
     }
   where
     issued_nodes : i < t.renamed → map node_of_entry (set (take t.renamed t.context.flight) i (with_stage (entry_at t.context i) (Issued x))) ≡ map node_of_entry (take t.renamed t.context.flight)

@@ -23,7 +23,7 @@ use Rattle.core_back.specs.Machine.{Machine, context_at, with_context, no_track}
 use Rattle.core_back.specs.Shown.{machine_of, IsMachine, AreApart, IsSuppliedIn}
 use Rattle.core_back.proofs.Held.{remarked_twice, remarked_lane, held_kept, issued_clear}
 use Rattle.core_back.proofs.Issues.{issue_core, issue_other}
-use Rattle.core_back.proofs.Machines.{At, at_context, idle_names}
+use Rattle.core_back.proofs.Machines.{At, at_context, idle_names, room_after}
 use Rattle.core_back.proofs.Remarks.{remark_none}
 use Rattle.core_back.proofs.Selections.{first_apart, rest_apart, ready_place, name_selected, remarked_core, select_core, select_apart, select_supplied, select_free, select_clear, select_idle}
 use Rattle.core_back.proofs.Seen.{node_count}
@@ -70,7 +70,7 @@ module _ {A : Type 0} where
   pub record IsFirstName (m : Inside A) (now : Machine) (n : EntryId) (rest : List EntryId) (t : Track) : Type 0 where
     pub names : m.selected.items ≡ n ∷ rest
     pub shown : At m now n.context t
-    pub core : IsCore (start (arc_value m.origins.c0) n.context) m.stamp m.reorder m.flow (n ∷ rest) n.context t
+    pub core : IsCore (start (arc_value m.origins.c0) n.context) m.stamp m.profile.reorder_buffer m.flow (n ∷ rest) n.context t
     pub selected : is_selected (n ∷ rest) n.context n.stamp ≡ true
     pub other : is_selected rest n.context n.stamp ≡ false
     pub idle : waits_in m.flow n.context n.stamp ≡ false
@@ -86,7 +86,7 @@ module _ {A : Type 0} where
       record {
         names = names;
         shown = h;
-        core = subst (λ ns. IsCore (start (arc_value m.origins.c0) n.context) m.stamp m.reorder m.flow ns n.context t) names h.core;
+        core = subst (λ ns. IsCore (start (arc_value m.origins.c0) n.context) m.stamp m.profile.reorder_buffer m.flow ns n.context t) names h.core;
         selected = name_selected (n ∷ rest) 0 n (omega arith);
         other = first_apart n rest (subst (AllPairs AreApart) names ok.apart);
         idle = (subst (All (λ s. waits_in m.flow s.context s.stamp ≡ false)) names ok.left) 0 n (omega arith);
@@ -103,35 +103,35 @@ module _ {A : Type 0} where
   pub issued_core : (m : Inside A) (now : Machine) (n : EntryId) (rest : List EntryId) (t : Track) → IsFirstName m now n rest t → (i : ℕ) (x : Execution) (values : ℕ × ℕ) (sources : Option (ℕ × ℕ))
       → i < length t.context.flight → (entry_at t.context i).stamp ≡ n.stamp → sources ≡ sources_at (lane m.flow n.context) i → sources ≡ Some values
       → x.outcome ≡ outcome_in (image_of t.context.state) (seen_at t.context i).bytes (entry_at t.context i).operation (entry_at t.context i).pc values.0 values.1
-      → IsCore (start (arc_value m.origins.c0) n.context) m.stamp m.reorder m.flow rest n.context (issued t i x)
+      → IsCore (start (arc_value m.origins.c0) n.context) m.stamp m.profile.reorder_buffer m.flow rest n.context (issued t i x)
   issued_core m now n rest t h i x values sources lt is read some outcome =
       let place = ready_place h.core n.stamp i h.selected h.supplied lt is in
       issue_core h.core i x values.0 values.1 h.other h.idle lt is place.stage (sym read ∙ some) (first_clear m now n rest t h i values sources lt is read some) outcome
 
   -- after the entry of a name has issued, each context is a core
   issued_cores : (m : Inside A) (n : EntryId) (rest : List EntryId) (u : Track) → IsMachine m → m.selected.items ≡ n ∷ rest → n.context < 8
-      → IsCore (start (arc_value m.origins.c0) n.context) m.stamp m.reorder m.flow rest n.context u
-      → (d : ℕ) → d < 8 → IsCore (start (arc_value m.origins.c0) d) m.stamp m.reorder m.flow rest d (get_or (set m.tracks.items n.context u) d no_track)
+      → IsCore (start (arc_value m.origins.c0) n.context) m.stamp m.profile.reorder_buffer m.flow rest n.context u
+      → (d : ℕ) → d < 8 → IsCore (start (arc_value m.origins.c0) d) m.stamp m.profile.reorder_buffer m.flow rest d (get_or (set m.tracks.items n.context u) d no_track)
   issued_cores m n rest u ok names lt core d lt-d = by_context (d == n.context) refl
     where
       here : n.context < length m.tracks.items
       here = omega (arith, lt, ok.tracks)
 
-      by_context : (b : Bool) → (d == n.context) ≡ b → IsCore (start (arc_value m.origins.c0) d) m.stamp m.reorder m.flow rest d (get_or (set m.tracks.items n.context u) d no_track)
+      by_context : (b : Bool) → (d == n.context) ≡ b → IsCore (start (arc_value m.origins.c0) d) m.stamp m.profile.reorder_buffer m.flow rest d (get_or (set m.tracks.items n.context u) d no_track)
       by_context true is =
           let same : d ≡ n.context = grind (arith, nat_tests, is) in
           rw (same, get_or-set_same m.tracks.items n.context u no_track here) core
       by_context false is =
           let other : d ≢ n.context = λ same. absurd (grind (arith, nat_tests, is, same)) in
-          let before : IsCore (start (arc_value m.origins.c0) d) m.stamp m.reorder m.flow (n ∷ rest) d (get_or m.tracks.items d no_track) =
-          subst (λ ns. IsCore (start (arc_value m.origins.c0) d) m.stamp m.reorder m.flow ns d (get_or m.tracks.items d no_track)) names (ok.cores d lt-d) in
+          let before : IsCore (start (arc_value m.origins.c0) d) m.stamp m.profile.reorder_buffer m.flow (n ∷ rest) d (get_or m.tracks.items d no_track) =
+          subst (λ ns. IsCore (start (arc_value m.origins.c0) d) m.stamp m.profile.reorder_buffer m.flow ns d (get_or m.tracks.items d no_track)) names (ok.cores d lt-d) in
           rw (get_or-set_other m.tracks.items n.context d u no_track other) (issue_other before other)
 
   -- the machine after the entry of the first name has issued
   pub issued_machine : (m w : Inside A) (now : Machine) (n : EntryId) (k : ℕ) (rest : List EntryId) (t : Track) (i : ℕ) (x : Execution) → IsMachine m → IsFirstName m now n rest t → n.context < 8 → i < length t.context.flight → (entry_at t.context i).stamp ≡ n.stamp
-      → IsCore (start (arc_value m.origins.c0) n.context) m.stamp m.reorder m.flow rest n.context (issued t i x)
-      → k ≡ n.context → w.origins ≡ m.origins → w.flow ≡ m.flow → w.tracks.items ≡ set m.tracks.items k (issued t i x) → w.selected.items ≡ rest → w.cycle ≡ m.cycle → w.stamp ≡ m.stamp → w.fetch_room ≡ m.fetch_room → w.reorder ≡ m.reorder → IsMachine w
-  issued_machine m w now n k rest t i x ok h lt within is core same origins flow tracks_k selected cycle stamp room reorder =
+      → IsCore (start (arc_value m.origins.c0) n.context) m.stamp m.profile.reorder_buffer m.flow rest n.context (issued t i x)
+      → k ≡ n.context → w.origins ≡ m.origins → w.flow ≡ m.flow → w.tracks.items ≡ set m.tracks.items k (issued t i x) → w.selected.items ≡ rest → w.cycle ≡ m.cycle → w.stamp ≡ m.stamp → w.fetch_room ≡ m.fetch_room → w.profile ≡ m.profile → IsMachine w
+  issued_machine m w now n k rest t i x ok h lt within is core same origins flow tracks_k selected cycle stamp room profile =
       let names : m.selected.items ≡ n ∷ rest = h.names in
       let u : Track = issued t i x in
       let stage = (ready_place h.core n.stamp i h.selected h.supplied within is).stage in
@@ -140,7 +140,7 @@ module _ {A : Type 0} where
       let clear : All (IsClearIn m.flow m.tracks.items) (n ∷ rest) = subst (All (IsClearIn m.flow m.tracks.items)) names ok.clear in
       let left : All (λ s. waits_in m.flow s.context s.stamp ≡ false) (n ∷ rest) = subst (All (λ s. waits_in m.flow s.context s.stamp ≡ false)) names ok.left in
       record {
-        cores = rw (origins, flow, tracks, selected, stamp, reorder) (issued_cores m n rest u ok names lt core);
+        cores = rw (origins, flow, tracks, selected, stamp, profile) (issued_cores m n rest u ok names lt core);
         origins = rw origins ok.origins;
         tracks = rw tracks (length-set m.tracks.items n.context u ∙ ok.tracks);
         lanes = rw flow ok.lanes;
@@ -149,17 +149,17 @@ module _ {A : Type 0} where
         clear = rw (selected, flow, tracks) (λ j d below. issued_clear_in m.flow m.tracks.items n.context t i x (get_or rest j d) h.shown.in_tracks h.shown.track stage (clear (suc j) d (omega (arith, below))));
         left = rw (selected, flow) (λ i d below. left (suc i) d (omega (arith, below)));
         stamps = rw (stamp, room, cycle) ok.stamps;
-        bounded = rw reorder ok.bounded;
+        bounded = rw profile ok.bounded;
+        room = rw (profile, flow, tracks) (room_after m.profile m.flow m.flow m.tracks.items n.context u ok.room h.shown.in_tracks refl refl (ap (λ (s : Track). s.load_places) h.shown.track) (ap (λ (s : Track). s.store_places) h.shown.track));
       }
 
   -- and what it shows
   pub issued_shown : (m : Inside A) (now : Machine) (c k : ℕ) (rest : List EntryId) (u : Track) (x : Context) → machine_of m ≡ now → k ≡ c → u.context ≡ x
       → (let v : Machine = record {
         origin = arc_value m.origins.c0;
-        view = record { cycle = m.cycle; stamp = m.stamp; contexts = map (λ (t : Track). t.context) (set m.tracks.items k u) };
+        view = record { profile = m.profile; cycle = m.cycle; stamp = m.stamp; contexts = map (λ (t : Track). t.context) (set m.tracks.items k u) };
         names = rest;
         fetch_room = m.fetch_room;
-        reorder = m.reorder;
       } in v) ≡ record (with_context now c x) { names = rest }
   issued_shown m now c k rest u x shows same context = rw (same, map-set (λ (t : Track). t.context) m.tracks.items c u, context, ← shows) refl
 
@@ -168,10 +168,9 @@ module _ {A : Type 0} where
       → i < length t.context.flight → (entry_at t.context i).stamp ≡ n.stamp → u ≡ issued t i x → x.due ≡ m.cycle + latency → left ≡ rest
       → IsIssued now (record {
         origin = arc_value m.origins.c0;
-        view = record { cycle = m.cycle; stamp = m.stamp; contexts = map (λ (v : Track). v.context) (set m.tracks.items k u) };
+        view = record { profile = m.profile; cycle = m.cycle; stamp = m.stamp; contexts = map (λ (v : Track). v.context) (set m.tracks.items k u) };
         names = left;
         fetch_room = m.fetch_room;
-        reorder = m.reorder;
       }) (record { entry = n; latency = latency; miss = x.miss })
   is_issued m now n k rest t u i x latency left shows h same lt is new due names =
       let context : t.context ≡ context_at now n.context = h.shown.context in
@@ -220,11 +219,11 @@ module _ {A : Type 0} where
     pub cycle : h.cycle ≡ m.cycle
     pub stamp : h.stamp ≡ m.stamp
     pub room : h.fetch_room ≡ m.fetch_room
-    pub reorder : h.reorder ≡ m.reorder
+    pub profile : h.profile ≡ m.profile
     pub held : (c : ℕ) → c < n → AreHeld h.flow c (get_or m.tracks.items c no_track)
 
   pub held_to_none : (m : Inside A) → IsHeldTo m m 0
-  held_to_none m = record { origins = refl; flow = remark_none m.flow; tracks = refl; cycle = refl; stamp = refl; room = refl; reorder = refl; held = λ c lt. absurd (omega (arith, lt)) }
+  held_to_none m = record { origins = refl; flow = remark_none m.flow; tracks = refl; cycle = refl; stamp = refl; room = refl; profile = refl; held = λ c lt. absurd (omega (arith, lt)) }
 
   -- the next context
   pub context_next : (m h : Inside A) (now : Machine) (n k : ℕ) (t : Track) → machine_of m ≡ now → IsMachine m → IsHeldTo m h n → n < 8 → k ≡ n → t ≡ get_or h.tracks.items k t → At m now n t
@@ -235,15 +234,15 @@ module _ {A : Type 0} where
 
   pub held_to_next : (m h w : Inside A) (now : Machine) (n k c : ℕ) (t u : Track) → At m now n t → IsHeldTo m h n → k ≡ n → c ≡ n → t ≡ get_or h.tracks.items k t → u ≡ t
       → IsRemarked h.flow w.flow → AreHeld w.flow c t → ((d j : ℕ) → d ≢ c → IsHeld h.flow d j → IsHeld w.flow d j)
-      → w.origins ≡ h.origins → w.tracks.items ≡ set h.tracks.items k u → w.cycle ≡ h.cycle → w.stamp ≡ h.stamp → w.fetch_room ≡ h.fetch_room → w.reorder ≡ h.reorder → IsHeldTo m w (n + 1)
-  held_to_next m h w now n k c t u at_n so_far same context read kept marks here others origins tracks cycle stamp room reorder = record {
+      → w.origins ≡ h.origins → w.tracks.items ≡ set h.tracks.items k u → w.cycle ≡ h.cycle → w.stamp ≡ h.stamp → w.fetch_room ≡ h.fetch_room → w.profile ≡ h.profile → IsHeldTo m w (n + 1)
+  held_to_next m h w now n k c t u at_n so_far same context read kept marks here others origins tracks cycle stamp room profile = record {
     origins = origins ∙ so_far.origins;
     flow = remarked_twice m.flow h.flow w.flow so_far.flow marks;
     tracks = tracks ∙ ap (set h.tracks.items k) (kept ∙ read) ∙ set-get_or h.tracks.items k t ∙ so_far.tracks;
     cycle = cycle ∙ so_far.cycle;
     stamp = stamp ∙ so_far.stamp;
     room = room ∙ so_far.room;
-    reorder = reorder ∙ so_far.reorder;
+    profile = profile ∙ so_far.profile;
     held = λ d lt. elim (cases_lt d n) [
       | inl before ↦ held_kept h.flow w.flow d (get_or m.tracks.items d no_track) marks (λ j. others d j (λ is. absurd (omega (arith, before, is, context)))) (so_far.held d before)
       | inr from ↦ let last : d ≡ n = omega (arith, lt, from) in rw (last, ← at_n.track, ← context) here
@@ -253,14 +252,14 @@ module _ {A : Type 0} where
   -- the machine after a selection among what isn't held
   pub selected_machine : (m h w : Inside A) (now : Machine) (n : ℕ) {key : Waiting → ℕ} {width : ℕ} {names : List EntryId} → machine_of m ≡ now → IsMachine m → now.names ≡ [] → IsHeldTo m h n → 8 ≤ n
       → w.flow ≡ record h.flow { waiters = w.flow.waiters } → IsSelected key width (queued h.flow) (queued w.flow) names
-      → w.origins ≡ h.origins → w.tracks ≡ h.tracks → w.selected.items ≡ names → w.cycle ≡ h.cycle → w.stamp ≡ h.stamp → w.fetch_room ≡ h.fetch_room → w.reorder ≡ h.reorder → IsMachine w
-  selected_machine m h w now n {names = names} shows ok idle so_far all same s origins tracks selected cycle stamp room reorder =
+      → w.origins ≡ h.origins → w.tracks ≡ h.tracks → w.selected.items ≡ names → w.cycle ≡ h.cycle → w.stamp ≡ h.stamp → w.fetch_room ≡ h.fetch_room → w.profile ≡ h.profile → IsMachine w
+  selected_machine m h w now n {names = names} shows ok idle so_far all same s origins tracks selected cycle stamp room profile =
       let origins_m : w.origins ≡ m.origins = origins ∙ so_far.origins in
       let tracks_m : w.tracks.items ≡ m.tracks.items = ap (λ v. v.items) tracks ∙ so_far.tracks in
       let stamp_m : w.stamp ≡ m.stamp = stamp ∙ so_far.stamp in
-      let reorder_m : w.reorder ≡ m.reorder = reorder ∙ so_far.reorder in
+      let profile_m : w.profile ≡ m.profile = profile ∙ so_far.profile in
       record {
-        cores = rw (origins_m, stamp_m, reorder_m, selected, tracks_m) cores;
+        cores = rw (origins_m, stamp_m, profile_m, selected, tracks_m) cores;
         origins = rw origins_m ok.origins;
         tracks = rw tracks_m ok.tracks;
         lanes = ap (λ (f : Flow). length f.lanes) (same ∙ ap (λ (f : Flow). let r : Flow = record f { waiters = w.flow.waiters } in r) so_far.flow.flow) ∙ ok.lanes;
@@ -269,12 +268,18 @@ module _ {A : Type 0} where
         clear = rw (selected, tracks_m) clear;
         left = rw selected (select_idle h.flow w.flow s);
         stamps = rw (stamp_m, room ∙ so_far.room, cycle ∙ so_far.cycle) ok.stamps;
-        bounded = rw reorder_m ok.bounded;
+        bounded = rw profile_m ok.bounded;
+        room = rw (profile_m, tracks_m) (record {
+          registers = ap (λ (f : Flow). f.extra) same ∙ ap (λ (f : Flow). f.extra) so_far.flow.flow ∙ ok.room.registers;
+          waiters = ap (λ (f : Flow). f.places) same ∙ ap (λ (f : Flow). f.places) so_far.flow.flow ∙ ok.room.waiters;
+          loads = ok.room.loads;
+          stores = ok.room.stores;
+        });
       }
     where
-      cores : (c : ℕ) → c < 8 → IsCore (start (arc_value m.origins.c0) c) m.stamp m.reorder w.flow names c (get_or m.tracks.items c no_track)
+      cores : (c : ℕ) → c < 8 → IsCore (start (arc_value m.origins.c0) c) m.stamp m.profile.reorder_buffer w.flow names c (get_or m.tracks.items c no_track)
       cores c lt =
-          let before = subst (λ ns. IsCore (start (arc_value m.origins.c0) c) m.stamp m.reorder m.flow ns c (get_or m.tracks.items c no_track)) (idle_names m now shows idle) (ok.cores c lt) in
+          let before = subst (λ ns. IsCore (start (arc_value m.origins.c0) c) m.stamp m.profile.reorder_buffer m.flow ns c (get_or m.tracks.items c no_track)) (idle_names m now shows idle) (ok.cores c lt) in
           select_core (remarked_core before so_far.flow) same s
 
       clear : All (IsClearIn w.flow m.tracks.items) names
@@ -291,9 +296,8 @@ module _ {A : Type 0} where
   pub selected_shown : (m h : Inside A) (now : Machine) (n : ℕ) (names : List EntryId) → machine_of m ≡ now → IsHeldTo m h n
       → (let v : Machine = record {
         origin = arc_value h.origins.c0;
-        view = record { cycle = h.cycle; stamp = h.stamp; contexts = map (λ (t : Track). t.context) h.tracks.items };
+        view = record { profile = h.profile; cycle = h.cycle; stamp = h.stamp; contexts = map (λ (t : Track). t.context) h.tracks.items };
         names = names;
         fetch_room = h.fetch_room;
-        reorder = h.reorder;
       } in v) ≡ record now { names = names }
-  selected_shown m h now n names shows so_far = rw (so_far.origins, so_far.cycle, so_far.stamp, so_far.tracks, so_far.room, so_far.reorder, ← shows) refl
+  selected_shown m h now n names shows so_far = rw (so_far.origins, so_far.cycle, so_far.stamp, so_far.tracks, so_far.room, so_far.profile, ← shows) refl

@@ -1,18 +1,36 @@
 -- An event of one context, in the machine.
-use Rattle.std.proofs.Common.{◌≡◌, ◌≢◌, ℕ, ◌+◌, ◌-◌, ◌<◌, [], length, get_or, map, refl, sym, ap, subst, ◌∙◌, arith, Bool, true, false}
+use Rattle.std.proofs.Common.{◌≡◌, ◌≢◌, ℕ, ◌+◌, ◌-◌, ◌<◌, List, [], length, get_or, map, refl, sym, ap, subst, ◌∙◌, arith, inl, inr, Bool, true, false}
 use Rattle.std.specs.Prelude.{set, ◌==◌}
+use Rattle.std.proofs.lemmas.Bool.{cases_eq}
 use Rattle.std.proofs.lemmas.Bool.Decides.{nat_tests}
 use Rattle.std.specs.Arc.{arc_value}
 use Rattle.std.proofs.lemmas.List.{get_or-map, get_or_read, get_or_default, get_or-set_same, get_or-set_other, length-set, length-map, map-set}
 use Rattle.origin_set.specs.Start.{start}
+use Rattle.core_profile.specs.declared.profile.Profile.{Profile}
 use Rattle.core_view.specs.View.{Context, IsLive}
 use Rattle.core_back.specs.declared.machine.Machine.TheInside.{Inside}
 use Rattle.data_flow.specs.Flow.{Flow}
 use Rattle.core_back.specs.Track.{Track}
 use Rattle.core_back.specs.Cores.{IsCore}
 use Rattle.core_back.specs.Machine.{Machine, context_at, with_context, with_fetched, no_track, no_context}
-use Rattle.core_back.specs.Shown.{machine_of, IsMachine}
-use Rattle.core_back.proofs.Others.{IsLeft, left_core}
+use Rattle.core_back.specs.Shown.{machine_of, IsMachine, HasRoom}
+use Rattle.core_back.proofs.Others.{IsLeft, left_core, KeepsSizes}
+
+-- the room that there is stays
+pub room_after : (p : Profile) (f g : Flow) (ts : List Track) (c : ℕ) (u : Track) → HasRoom p f ts → c < length ts → g.extra ≡ f.extra → g.places ≡ f.places
+    → u.load_places ≡ (get_or ts c no_track).load_places → u.store_places ≡ (get_or ts c no_track).store_places → HasRoom p g (set ts c u)
+room_after p f g ts c u h lt extra places loads stores = record {
+  registers = extra ∙ h.registers;
+  waiters = places ∙ h.waiters;
+  loads = λ d below. at_place (λ (t : Track). t.load_places) loads d ∙ h.loads d below;
+  stores = λ d below. at_place (λ (t : Track). t.store_places) stores d ∙ h.stores d below;
+}
+  where
+    at_place : (field : Track → ℕ) → field u ≡ field (get_or ts c no_track) → (d : ℕ) → field (get_or (set ts c u) d no_track) ≡ field (get_or ts d no_track)
+    at_place field same d = elim (cases_eq d c) [
+      | inl is ↦ ap field (ap (λ i. get_or (set ts c u) i no_track) is ∙ get_or-set_same ts c u no_track lt) ∙ same ∙ ap (λ i. field (get_or ts i no_track)) (sym is)
+      | inr other ↦ ap field (get_or-set_other ts c d u no_track other)
+    ]
 
 module _ {A : Type 0} where
   -- the track and the lane of a context, as it is shown
@@ -20,7 +38,7 @@ module _ {A : Type 0} where
     pub in_lanes : c < length m.flow.lanes
     pub in_tracks : c < length m.tracks.items
     pub track : t ≡ get_or m.tracks.items c no_track
-    pub core : IsCore (start (arc_value m.origins.c0) c) m.stamp m.reorder m.flow m.selected.items c t
+    pub core : IsCore (start (arc_value m.origins.c0) c) m.stamp m.profile.reorder_buffer m.flow m.selected.items c t
     pub context : t.context ≡ context_at now c
 
   pub at_context : (m : Inside A) (now : Machine) (c k : ℕ) (t : Track) → machine_of m ≡ now → IsMachine m → c < 8 → k ≡ c → t ≡ get_or m.tracks.items k t → At m now c t
@@ -49,56 +67,57 @@ module _ {A : Type 0} where
   pub idle_names : (m : Inside A) (now : Machine) → machine_of m ≡ now → now.names ≡ [] → m.selected.items ≡ []
   idle_names m now shows idle = ap (λ (v : Machine). v.names) shows ∙ idle
 
-  pub idle_core : (m : Inside A) (now : Machine) (c : ℕ) (t : Track) → machine_of m ≡ now → now.names ≡ [] → At m now c t → IsCore (start (arc_value m.origins.c0) c) m.stamp m.reorder m.flow [] c t
-  idle_core m now c t shows idle at_c = subst (λ names. IsCore (start (arc_value m.origins.c0) c) m.stamp m.reorder m.flow names c t) (idle_names m now shows idle) at_c.core
+  pub idle_core : (m : Inside A) (now : Machine) (c : ℕ) (t : Track) → machine_of m ≡ now → now.names ≡ [] → At m now c t → IsCore (start (arc_value m.origins.c0) c) m.stamp m.profile.reorder_buffer m.flow [] c t
+  idle_core m now c t shows idle at_c = subst (λ names. IsCore (start (arc_value m.origins.c0) c) m.stamp m.profile.reorder_buffer m.flow names c t) (idle_names m now shows idle) at_c.core
 
   -- after an event of the context c, each context is a core
   pub cores_after : (m : Inside A) (now : Machine) (c : ℕ) (u : Track) (g : Flow) → machine_of m ≡ now → IsMachine m → now.names ≡ [] → c < 8
-      → IsCore (start (arc_value m.origins.c0) c) m.stamp m.reorder g [] c u → ((d : ℕ) → d ≢ c → IsLeft m.flow g d)
-      → (d : ℕ) → d < 8 → IsCore (start (arc_value m.origins.c0) d) m.stamp m.reorder g [] d (get_or (set m.tracks.items c u) d no_track)
+      → IsCore (start (arc_value m.origins.c0) c) m.stamp m.profile.reorder_buffer g [] c u → ((d : ℕ) → d ≢ c → IsLeft m.flow g d)
+      → (d : ℕ) → d < 8 → IsCore (start (arc_value m.origins.c0) d) m.stamp m.profile.reorder_buffer g [] d (get_or (set m.tracks.items c u) d no_track)
   cores_after m now c u g shows ok idle lt core left d lt-d = by_context (d == c) refl
     where
       here : c < length m.tracks.items
       here = omega (arith, lt, ok.tracks)
 
-      by_context : (b : Bool) → (d == c) ≡ b → IsCore (start (arc_value m.origins.c0) d) m.stamp m.reorder g [] d (get_or (set m.tracks.items c u) d no_track)
+      by_context : (b : Bool) → (d == c) ≡ b → IsCore (start (arc_value m.origins.c0) d) m.stamp m.profile.reorder_buffer g [] d (get_or (set m.tracks.items c u) d no_track)
       by_context true is =
           let same : d ≡ c = grind (arith, nat_tests, is) in
           rw (same, get_or-set_same m.tracks.items c u no_track here) core
       by_context false is =
           let other : d ≢ c = λ same. absurd (grind (arith, nat_tests, is, same)) in
-          let before : IsCore (start (arc_value m.origins.c0) d) m.stamp m.reorder m.flow [] d (get_or m.tracks.items d no_track) =
-          subst (λ names. IsCore (start (arc_value m.origins.c0) d) m.stamp m.reorder m.flow names d (get_or m.tracks.items d no_track)) (idle_names m now shows idle) (ok.cores d lt-d) in
-          rw (get_or-set_other m.tracks.items c d u no_track other) (left_core (start (arc_value m.origins.c0) d) m.stamp m.stamp m.reorder m.flow g [] d (get_or m.tracks.items d no_track) before (left d other) (omega arith))
+          let before : IsCore (start (arc_value m.origins.c0) d) m.stamp m.profile.reorder_buffer m.flow [] d (get_or m.tracks.items d no_track) =
+          subst (λ names. IsCore (start (arc_value m.origins.c0) d) m.stamp m.profile.reorder_buffer m.flow names d (get_or m.tracks.items d no_track)) (idle_names m now shows idle) (ok.cores d lt-d) in
+          rw (get_or-set_other m.tracks.items c d u no_track other) (left_core (start (arc_value m.origins.c0) d) m.stamp m.stamp m.profile.reorder_buffer m.flow g [] d (get_or m.tracks.items d no_track) before (left d other) (omega arith))
 
   -- the machine after an event of the context c
   pub machine_after : (m n : Inside A) (now : Machine) (c k : ℕ) (u : Track) (g : Flow) → machine_of m ≡ now → IsMachine m → now.names ≡ [] → c < 8
-      → IsCore (start (arc_value m.origins.c0) c) m.stamp m.reorder g [] c u → ((d : ℕ) → d ≢ c → IsLeft m.flow g d) → length g.lanes ≡ length m.flow.lanes
-      → k ≡ c → n.origins ≡ m.origins → n.flow ≡ g → n.tracks.items ≡ set m.tracks.items k u → n.selected ≡ m.selected → n.cycle ≡ m.cycle → n.stamp ≡ m.stamp → n.fetch_room ≡ m.fetch_room → n.reorder ≡ m.reorder → IsMachine n
-  machine_after m n now c k u g shows ok idle lt core left lanes same origins flow tracks_k names cycle stamp room reorder =
+      → IsCore (start (arc_value m.origins.c0) c) m.stamp m.profile.reorder_buffer g [] c u → ((d : ℕ) → d ≢ c → IsLeft m.flow g d) → KeepsSizes m.flow g
+      → u.load_places ≡ (get_or m.tracks.items c no_track).load_places → u.store_places ≡ (get_or m.tracks.items c no_track).store_places
+      → k ≡ c → n.origins ≡ m.origins → n.flow ≡ g → n.tracks.items ≡ set m.tracks.items k u → n.selected ≡ m.selected → n.cycle ≡ m.cycle → n.stamp ≡ m.stamp → n.fetch_room ≡ m.fetch_room → n.profile ≡ m.profile → IsMachine n
+  machine_after m n now c k u g shows ok idle lt core left sizes loads stores same origins flow tracks_k names cycle stamp room profile =
       let tracks : n.tracks.items ≡ set m.tracks.items c u = tracks_k ∙ ap (λ i. set m.tracks.items i u) same in
       let none = idle_names m now shows idle in
       record {
-        cores = rw (origins, flow, tracks, names, stamp, reorder, none) (cores_after m now c u g shows ok idle lt core left);
+        cores = rw (origins, flow, tracks, names, stamp, profile, none) (cores_after m now c u g shows ok idle lt core left);
         origins = rw origins ok.origins;
         tracks = rw tracks (length-set m.tracks.items c u ∙ ok.tracks);
-        lanes = rw flow (lanes ∙ ok.lanes);
+        lanes = rw flow (sizes.lanes ∙ ok.lanes);
         apart = rw (names, none) (λ i j d lt over. absurd (omega (arith, over)));
         supplied = rw (names, none) (λ k d over. absurd (omega (arith, over)));
         clear = rw (names, none) (λ k d over. absurd (omega (arith, over)));
         left = rw (names, none) (λ k d over. absurd (omega (arith, over)));
         stamps = rw (stamp, room, cycle) ok.stamps;
-        bounded = rw reorder ok.bounded;
+        bounded = rw profile ok.bounded;
+        room = rw (profile, flow, tracks) (room_after m.profile m.flow g m.tracks.items c u ok.room (omega (arith, lt, ok.tracks)) sizes.extra sizes.places loads stores);
       }
 
   -- and what it shows
   pub shown_after : (m : Inside A) (now : Machine) (c k : ℕ) (u : Track) (x : Context) → machine_of m ≡ now → k ≡ c → u.context ≡ x
       → (let v : Machine = record {
         origin = arc_value m.origins.c0;
-        view = record { cycle = m.cycle; stamp = m.stamp; contexts = map (λ (t : Track). t.context) (set m.tracks.items k u) };
+        view = record { profile = m.profile; cycle = m.cycle; stamp = m.stamp; contexts = map (λ (t : Track). t.context) (set m.tracks.items k u) };
         names = m.selected.items;
         fetch_room = m.fetch_room;
-        reorder = m.reorder;
       } in v) ≡ with_context now c x
   shown_after m now c k u x shows same context = rw (same, map-set (λ (t : Track). t.context) m.tracks.items c u, context, ← shows) refl
 
@@ -110,14 +129,15 @@ module _ {A : Type 0} where
 
   -- the machine after an entry of the context c was fetched: a stamp was taken
   pub machine_fetched : (m n : Inside A) (now : Machine) (c k : ℕ) (u : Track) → machine_of m ≡ now → IsMachine m → now.names ≡ [] → c < 8
-      → IsCore (start (arc_value m.origins.c0) c) (m.stamp + 1) m.reorder m.flow [] c u → k ≡ c → 0 < m.fetch_room
-      → n.origins ≡ m.origins → n.flow ≡ m.flow → n.tracks.items ≡ set m.tracks.items k u → n.selected ≡ m.selected → n.cycle ≡ m.cycle → n.stamp ≡ m.stamp + 1 → n.fetch_room + 1 ≡ m.fetch_room → n.reorder ≡ m.reorder → IsMachine n
-  machine_fetched m n now c k u shows ok idle lt core same some origins flow tracks_k names cycle stamp room reorder =
+      → IsCore (start (arc_value m.origins.c0) c) (m.stamp + 1) m.profile.reorder_buffer m.flow [] c u
+      → u.load_places ≡ (get_or m.tracks.items c no_track).load_places → u.store_places ≡ (get_or m.tracks.items c no_track).store_places → k ≡ c → 0 < m.fetch_room
+      → n.origins ≡ m.origins → n.flow ≡ m.flow → n.tracks.items ≡ set m.tracks.items k u → n.selected ≡ m.selected → n.cycle ≡ m.cycle → n.stamp ≡ m.stamp + 1 → n.fetch_room + 1 ≡ m.fetch_room → n.profile ≡ m.profile → IsMachine n
+  machine_fetched m n now c k u shows ok idle lt core loads stores same some origins flow tracks_k names cycle stamp room profile =
       let tracks : n.tracks.items ≡ set m.tracks.items c u = tracks_k ∙ ap (λ i. set m.tracks.items i u) same in
       let none = idle_names m now shows idle in
       let stamps = ok.stamps in
       record {
-        cores = rw (origins, flow, tracks, names, stamp, reorder, none) cores;
+        cores = rw (origins, flow, tracks, names, stamp, profile, none) cores;
         origins = rw origins ok.origins;
         tracks = rw tracks (length-set m.tracks.items c u ∙ ok.tracks);
         lanes = rw flow ok.lanes;
@@ -126,33 +146,33 @@ module _ {A : Type 0} where
         clear = rw (names, none) (λ k d over. absurd (omega (arith, over)));
         left = rw (names, none) (λ k d over. absurd (omega (arith, over)));
         stamps = rw cycle (omega (arith, stamps, stamp, room));
-        bounded = rw reorder ok.bounded;
+        bounded = rw profile ok.bounded;
+        room = rw (profile, flow, tracks) (room_after m.profile m.flow m.flow m.tracks.items c u ok.room here refl refl loads stores);
       }
     where
       here : c < length m.tracks.items
       here = omega (arith, lt, ok.tracks)
 
-      cores : (d : ℕ) → d < 8 → IsCore (start (arc_value m.origins.c0) d) (m.stamp + 1) m.reorder m.flow [] d (get_or (set m.tracks.items c u) d no_track)
+      cores : (d : ℕ) → d < 8 → IsCore (start (arc_value m.origins.c0) d) (m.stamp + 1) m.profile.reorder_buffer m.flow [] d (get_or (set m.tracks.items c u) d no_track)
       cores d lt-d = by_context (d == c) refl
         where
-          by_context : (b : Bool) → (d == c) ≡ b → IsCore (start (arc_value m.origins.c0) d) (m.stamp + 1) m.reorder m.flow [] d (get_or (set m.tracks.items c u) d no_track)
+          by_context : (b : Bool) → (d == c) ≡ b → IsCore (start (arc_value m.origins.c0) d) (m.stamp + 1) m.profile.reorder_buffer m.flow [] d (get_or (set m.tracks.items c u) d no_track)
           by_context true is =
               let this : d ≡ c = grind (arith, nat_tests, is) in
               rw (this, get_or-set_same m.tracks.items c u no_track here) core
           by_context false is =
               let other : d ≢ c = λ this. absurd (grind (arith, nat_tests, is, this)) in
-              let before : IsCore (start (arc_value m.origins.c0) d) m.stamp m.reorder m.flow [] d (get_or m.tracks.items d no_track) =
-              subst (λ names. IsCore (start (arc_value m.origins.c0) d) m.stamp m.reorder m.flow names d (get_or m.tracks.items d no_track)) (idle_names m now shows idle) (ok.cores d lt-d) in
-              rw (get_or-set_other m.tracks.items c d u no_track other) (left_core (start (arc_value m.origins.c0) d) m.stamp (m.stamp + 1) m.reorder m.flow m.flow [] d (get_or m.tracks.items d no_track) before (record { lane = refl; waits = λ k. refl }) (omega arith))
+              let before : IsCore (start (arc_value m.origins.c0) d) m.stamp m.profile.reorder_buffer m.flow [] d (get_or m.tracks.items d no_track) =
+              subst (λ names. IsCore (start (arc_value m.origins.c0) d) m.stamp m.profile.reorder_buffer m.flow names d (get_or m.tracks.items d no_track)) (idle_names m now shows idle) (ok.cores d lt-d) in
+              rw (get_or-set_other m.tracks.items c d u no_track other) (left_core (start (arc_value m.origins.c0) d) m.stamp (m.stamp + 1) m.profile.reorder_buffer m.flow m.flow [] d (get_or m.tracks.items d no_track) before (record { lane = refl; waits = λ k. refl }) (omega arith))
 
   -- and what it shows
   pub shown_fetched : (m : Inside A) (now : Machine) (c k : ℕ) (u : Track) (x : Context) (room : ℕ) → machine_of m ≡ now → k ≡ c → u.context ≡ x → room ≡ m.fetch_room - 1
       → (let v : Machine = record {
         origin = arc_value m.origins.c0;
-        view = record { cycle = m.cycle; stamp = m.stamp + 1; contexts = map (λ (t : Track). t.context) (set m.tracks.items k u) };
+        view = record { profile = m.profile; cycle = m.cycle; stamp = m.stamp + 1; contexts = map (λ (t : Track). t.context) (set m.tracks.items k u) };
         names = m.selected.items;
         fetch_room = room;
-        reorder = m.reorder;
       } in v) ≡ with_fetched now c x
   shown_fetched m now c k u x room shows same context rooms = rw (same, map-set (λ (t : Track). t.context) m.tracks.items c u, context, rooms, ← shows) refl
 

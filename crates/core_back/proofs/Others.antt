@@ -5,7 +5,6 @@ use Rattle.hart_step.specs.State.{State}
 use Rattle.core_view.specs.declared.entry.Execution.{Execution}
 use Rattle.core_view.specs.declared.entry.Entry.{Entry}
 use Rattle.core_view.specs.Flight.{result_in}
-use Rattle.core_view.specs.Loads.{IsPatient}
 use Rattle.core_view.specs.Queues.{AllRenamed}
 use Rattle.core_view.specs.View.{Context, IsLive}
 use Rattle.core_view.proofs.Live.{later_live}
@@ -72,24 +71,38 @@ completed_flow_left f c d i x context ne =
     let value = result_in x.outcome in
     left_twice f (finished_flow f c i value) (completed_flow f c i x context) d (finished_flow_left f c d i value ne) (cut_if_left (finished_flow f c i value) c d (cut_stamp context i x) ne)
 
--- ---- as many contexts as there were
+-- ---- as many contexts, registers and places as there were
 
-pub count-retired_flow : (f : Flow) (c : ℕ) (last : Bool) → length (retired_flow f c last).lanes ≡ length f.lanes
-count-retired_flow f c true = count-cut_flow (with_lane f c (without_oldest (lane f c))) c 0 ∙ count-with_lane f c (without_oldest (lane f c))
-count-retired_flow f c false = count-with_lane f c (without_oldest (lane f c))
+pub record KeepsSizes (f g : Flow) : Type 0 where
+  pub lanes : length g.lanes ≡ length f.lanes
+  pub extra : g.extra ≡ f.extra
+  pub places : g.places ≡ f.places
 
-pub count-finished_flow : (f : Flow) (c i : ℕ) (value : Option ℕ) → length (finished_flow f c i value).lanes ≡ length f.lanes
-count-finished_flow f c i None = refl
-count-finished_flow f c i (Some value) = count-with_lane f c (with_result (lane f c) i value)
+sizes_twice : (f g h : Flow) → KeepsSizes f g → KeepsSizes g h → KeepsSizes f h
+sizes_twice f g h a b = record { lanes = b.lanes ∙ a.lanes; extra = b.extra ∙ a.extra; places = b.places ∙ a.places }
 
-count-cut_if : (f : Flow) (c : ℕ) (stamp : Option ℕ) → length (cut_if f c stamp).lanes ≡ length f.lanes
-count-cut_if f c None = refl
-count-cut_if f c (Some k) = count-cut_flow f c k
+pub sizes-with_lane : (f : Flow) (c : ℕ) (l : Lane) → KeepsSizes f (with_lane f c l)
+sizes-with_lane f c l = record { lanes = count-with_lane f c l; extra = refl; places = refl }
 
-pub count-completed_flow : (f : Flow) (c i : ℕ) (x : Execution) (context : Context) → length (completed_flow f c i x context).lanes ≡ length f.lanes
-count-completed_flow f c i x context =
-    let value = result_in x.outcome in
-    count-cut_if (finished_flow f c i value) c (cut_stamp context i x) ∙ count-finished_flow f c i value
+pub sizes-cut_flow : (f : Flow) (c k : ℕ) → KeepsSizes f (cut_flow f c k)
+sizes-cut_flow f c k = record { lanes = count-cut_flow f c k; extra = refl; places = refl }
+
+pub sizes-retired_flow : (f : Flow) (c : ℕ) (last : Bool) → KeepsSizes f (retired_flow f c last)
+sizes-retired_flow f c true = let g : Flow = with_lane f c (without_oldest (lane f c)) in sizes_twice f g (cut_flow g c 0) (sizes-with_lane f c (without_oldest (lane f c))) (sizes-cut_flow g c 0)
+sizes-retired_flow f c false = sizes-with_lane f c (without_oldest (lane f c))
+
+pub sizes-finished_flow : (f : Flow) (c i : ℕ) (value : Option ℕ) → KeepsSizes f (finished_flow f c i value)
+sizes-finished_flow f c i None = record { lanes = refl; extra = refl; places = refl }
+sizes-finished_flow f c i (Some value) = sizes-with_lane f c (with_result (lane f c) i value)
+
+sizes-cut_if : (f : Flow) (c : ℕ) (stamp : Option ℕ) → KeepsSizes f (cut_if f c stamp)
+sizes-cut_if f c None = record { lanes = refl; extra = refl; places = refl }
+sizes-cut_if f c (Some k) = sizes-cut_flow f c k
+
+pub sizes-completed_flow : (f : Flow) (c i : ℕ) (x : Execution) (context : Context) → KeepsSizes f (completed_flow f c i x context)
+sizes-completed_flow f c i x context =
+    let g : Flow = finished_flow f c i (result_in x.outcome) in
+    sizes_twice f g (completed_flow f c i x context) (sizes-finished_flow f c i (result_in x.outcome)) (sizes-cut_if g c (cut_stamp context i x))
 
 -- ---- how a context stands
 
@@ -108,7 +121,6 @@ other_core start stamp later reorder f g names names' d t core same waits le = r
   are_renamed = core.are_renamed;
   are_fetched = core.are_fetched;
   waiting = λ k. waits k ∙ core.waiting k;
-  patient = core.patient;
 }
 
 -- the same of a context that an event at another one left
@@ -126,7 +138,6 @@ pub record IsFlightCore (reorder : ℕ) (f : Flow) (names : List EntryId) (c ren
   pub are_renamed : AllRenamed (take renamed es)
   pub are_fetched : AllFetched (drop renamed es)
   pub waiting : (k : ℕ) → (waits_in f c k || is_selected names c k) ≡ queued_at k es
-  pub patient : IsPatient es
 
 pub core_from : (start : State) (stamp reorder : ℕ) (f : Flow) (names : List EntryId) (c : ℕ) (t : Track) (renamed : ℕ) (es : List Entry) → t.renamed ≡ renamed → t.context.flight ≡ es → IsLive start stamp t.context
     → (lane f c).registers ≡ t.context.state.registers → t.capacity ≡ reorder + front_room → IsFlightCore reorder f names c renamed es → IsCore start stamp reorder f names c t
@@ -144,5 +155,4 @@ core_from start stamp reorder f names c t renamed es is_renamed flight live regi
       are_renamed = p.are_renamed;
       are_fetched = p.are_fetched;
       waiting = p.waiting;
-      patient = p.patient;
     }

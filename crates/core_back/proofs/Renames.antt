@@ -15,7 +15,6 @@ use Rattle.core_view.specs.Flight.{IsGrowing, result_of}
 use Rattle.core_view.specs.Events.{with_stage, renamed_stage}
 use Rattle.core_view.specs.Queues.{is_renamed}
 use Rattle.core_view.specs.View.{entry_at, no_entry}
-use Rattle.core_view.proofs.Patient.{patient_rename}
 use Rattle.core_view.proofs.Live.{rename_live}
 use Rattle.data_flow.specs.Flow.{Node, Lane, Flow, Waiter, lane, with_lane, with_node, waits_in}
 use Rattle.core_back.specs.Queued.{is_queued, queued_at}
@@ -23,7 +22,7 @@ use Rattle.core_back.specs.Track.{Track, renamed_one}
 use Rattle.core_back.specs.Cores.{operands_of, node_of_entry, is_selected, IsCore}
 use Rattle.core_back.specs.Steps.{renamed_flow}
 use Rattle.core_back.proofs.Flights.{renamed-push, fetched_after, fetched-rest}
-use Rattle.core_back.proofs.Others.{IsLeft, lane-with_same, lane-with_other, count-with_lane, with_lane_left}
+use Rattle.core_back.proofs.Others.{IsLeft, lane-with_same, lane-with_other, count-with_lane, with_lane_left, KeepsSizes, sizes-with_lane}
 use Rattle.core_back.proofs.Waiting.{eqb-flip, growing_at, queued_place, same_place, queued-same, queued-enters, waits-push}
 
 -- ---- what is renamed
@@ -116,7 +115,6 @@ renamed_over {start = start} {stamp = stamp} {c = c} {f = f} {t = t} core cycle 
       are_renamed = rw front (renamed-push (take t.renamed es) n core.are_renamed (renamed_renamed cycle e.operation));
       are_fetched = rw rest (fetched-rest e (drop (t.renamed + 1) es) (drop t.renamed es) (drop_more es t.renamed no_entry some) core.are_fetched);
       waiting = waiting;
-      patient = patient_rename es t.renamed no_entry cycle some (first_fetched core some) core.patient;
     }
 
 or_false : (b : Bool) → (b || false) ≡ b
@@ -189,9 +187,9 @@ renamed_flow_left f c d e speculative ne = by_stop (stops_at_fetch e.operation)
     by_stop true = with_lane_left f c d (with_node (lane f c) (operands_of e)) ne
     by_stop false = record { lane = lane-with_other f c d (with_node (lane f c) (operands_of e)) ne; waits = λ k. waits-push_other f w d k ne }
 
--- and there are as many as before
-pub count-renamed_flow : (f : Flow) (c : ℕ) (e : Entry) (speculative : Bool) → length (renamed_flow f c e speculative).lanes ≡ length f.lanes
-count-renamed_flow f c e speculative = by_stop (stops_at_fetch e.operation)
+-- and all sizes are what they were
+pub sizes-renamed_flow : (f : Flow) (c : ℕ) (e : Entry) (speculative : Bool) → KeepsSizes f (renamed_flow f c e speculative)
+sizes-renamed_flow f c e speculative = by_stop (stops_at_fetch e.operation)
   where
     g : Flow
     g = with_lane f c (with_node (lane f c) (operands_of e))
@@ -199,6 +197,6 @@ count-renamed_flow f c e speculative = by_stop (stops_at_fetch e.operation)
     w : Waiter
     w = record { stamp = e.stamp; context = c; guessed = is_guessed e.operation; speculative = speculative; held = false }
 
-    by_stop : (b : Bool) → length (if b then g else record g { waiters = f.waiters ++ w ∷ [] }).lanes ≡ length f.lanes
-    by_stop true = count-with_lane f c (with_node (lane f c) (operands_of e))
-    by_stop false = count-with_lane f c (with_node (lane f c) (operands_of e))
+    by_stop : (b : Bool) → KeepsSizes f (if b then g else record g { waiters = f.waiters ++ w ∷ [] })
+    by_stop true = sizes-with_lane f c (with_node (lane f c) (operands_of e))
+    by_stop false = record { lanes = count-with_lane f c (with_node (lane f c) (operands_of e)); extra = refl; places = refl }

@@ -19,7 +19,6 @@ use Rattle.core_view.specs.Queues.{is_renamed, AllRenamed}
 use Rattle.core_view.specs.View.{IsLive, StatusHolds, entry_at, no_entry}
 use Rattle.core_view.specs.Events.{retire_event}
 use Rattle.core_view.proofs.Steps.{IsOutcomeSized}
-use Rattle.core_view.proofs.Patient.{patient_drop}
 use Rattle.core_view.proofs.Live.{retire_live, stop_live, flight_running, done_sized}
 use Rattle.data_flow.specs.Flow.{Node, Lane, Flow, no_node, node_at, lane, with_lane, without_oldest, cut_from, cut_flow, waits_in}
 use Rattle.core_back.specs.Track.{Track, is_last, retired, stopped}
@@ -51,7 +50,6 @@ cut_core reorder f c lt room =
       are_renamed = tt;
       are_fetched = tt;
       waiting = λ k. or_none (waits_in (cut_flow f c 0) c k) ∙ waits-cut f c 0 k ∙ and_right (waits_in f c k) (nat_lt k 0) (le-ltb k 0 (omega arith));
-      patient = tt;
     }
 
 -- ---- the oldest entry of a flight is done
@@ -162,7 +160,6 @@ module _ (start : State) (stamp reorder : ℕ) (f : Flow) (c : ℕ) (t : Track) 
         are_renamed = renamed_drop (t.renamed - 1) t.context.flight (subst (λ n. AllRenamed (take n t.context.flight)) one core.are_renamed);
         are_fetched = rest_fetched (t.renamed - 1) t.context.flight (subst (λ n. AllFetched (drop n t.context.flight)) one core.are_fetched);
         waiting = λ k. core.waiting k ∙ sym (queued-drop k t.context.flight (ap is_queued stage));
-        patient = patient_drop t.context.flight core.patient;
       }
     where
       rest_fetched : (n : ℕ) (es : List Entry) → AllFetched (drop (n + 1) es) → AllFetched (drop n (drop 1 es))

@@ -16,10 +16,9 @@ use Rattle.core_view.specs.declared.entry.Stage.TheVariants.{Fetched, Queued, Is
 use Rattle.core_view.specs.declared.entry.Entry.{Entry}
 use Rattle.core_view.specs.Operations.{is_load, is_load_insn, is_store, is_store_insn}
 use Rattle.core_view.specs.Flight.{IsGrowing, span_in, span_read, bytes_in, bytes_done}
-use Rattle.core_view.specs.Loads.{is_done}
 use Rattle.core_view.specs.Queues.{is_renamed, LoadSlot, StoreSlot, load_slot, store_slot, loads_of, stores_of}
 use Rattle.core_view.specs.Events.{with_stage, renamed_stage, completed_entry}
-use Rattle.load_store_queue.specs.Queues.{Queues, load_stamp, store_stamp, with_span, completed_slot}
+use Rattle.load_store_queue.specs.Queues.{Queues, load_stamp, store_stamp, with_span, slot_with_bytes}
 use Rattle.load_store_queue.specs.Replaced.{without_oldest}
 use Rattle.core_back.specs.Cores.{AllFetched}
 
@@ -170,7 +169,7 @@ store_own : (e : Entry) (q : StoreSlot) → store_slot e ≡ Some q → q.stamp 
 store_own e q is = go (is_store e.operation && is_renamed e.stage) is
   where
     placed : StoreSlot
-    placed = record { stamp = e.stamp; completed = is_done e.stage; bytes = bytes_done e.stage }
+    placed = record { stamp = e.stamp; bytes = bytes_done e.stage }
 
     go : (t : Bool) → (if t then Some placed else None) ≡ Some q → q.stamp ≡ e.stamp
     go true h = let same : placed ≡ q = cc in sym (ap store_stamp same)
@@ -184,13 +183,13 @@ load_fetched : (e : Entry) → e.stage ≡ Fetched → load_slot e ≡ None
 load_fetched e is = none_unless (is_load e.operation) (is_renamed e.stage) (record { stamp = e.stamp; span = span_read e.stage }) (ap is_renamed is)
 
 store_fetched : (e : Entry) → e.stage ≡ Fetched → store_slot e ≡ None
-store_fetched e is = none_unless (is_store e.operation) (is_renamed e.stage) (record { stamp = e.stamp; completed = is_done e.stage; bytes = bytes_done e.stage }) (ap is_renamed is)
+store_fetched e is = none_unless (is_store e.operation) (is_renamed e.stage) (record { stamp = e.stamp; bytes = bytes_done e.stage }) (ap is_renamed is)
 
 with_span-other : (k : ℕ) (span : Option Span) (q : LoadSlot) → q.stamp ≢ k → with_span k span q ≡ q
 with_span-other k span q differ = rw (ne_eqb q.stamp k differ) refl
 
-completed_slot-other : (k : ℕ) (bytes : Option Bytes) (q : StoreSlot) → q.stamp ≢ k → completed_slot k bytes q ≡ q
-completed_slot-other k bytes q differ = rw (ne_eqb q.stamp k differ) refl
+slot_with_bytes-other : (k : ℕ) (bytes : Option Bytes) (q : StoreSlot) → q.stamp ≢ k → slot_with_bytes k bytes q ≡ q
+slot_with_bytes-other k bytes q differ = rw (ne_eqb q.stamp k differ) refl
 
 -- no load is a store
 pub load_only : (o : Operation) → is_load o ≡ true → is_store o ≡ false
@@ -267,28 +266,28 @@ module _ (es : List Entry) (i : ℕ) (e : Entry) (is : slice_get es i ≡ Some e
   loads_complete x stage = set_same_at load_slot load_stamp load_own load_fetched es i e (completed_entry e x) is (rw stage refl)
 
   stores_complete : (x : Execution) → e.stage ≡ Issued x → is_store e.operation ≡ true → IsRising (λ (f : Entry). f.stamp) (set es i (completed_entry e x))
-      → stores_of (set es i (completed_entry e x)) ≡ map (completed_slot e.stamp (bytes_in x.outcome)) (stores_of es)
+      → stores_of (set es i (completed_entry e x)) ≡ map (slot_with_bytes e.stamp (bytes_in x.outcome)) (stores_of es)
   stores_complete x stage store rising =
-      let old : StoreSlot = record { stamp = e.stamp; completed = false; bytes = None } in
-      let new : StoreSlot = record { stamp = e.stamp; completed = true; bytes = bytes_in x.outcome } in
+      let old : StoreSlot = record { stamp = e.stamp; bytes = None } in
+      let new : StoreSlot = record { stamp = e.stamp; bytes = bytes_in x.outcome } in
       let was : store_slot e ≡ Some old = rw (store, stage) refl in
       let here : store_slot (completed_entry e x) ≡ Some new = rw store refl in
       let same : (e.stamp == e.stamp) ≡ true = eq-eqb e.stamp e.stamp refl in
-      let becomes : completed_slot e.stamp (bytes_in x.outcome) old ≡ new = rw same refl in
-      set_slot_at store_slot store_stamp store_own store_fetched (completed_slot e.stamp (bytes_in x.outcome)) es i e (completed_entry e x) old new is rising refl was here becomes (completed_slot-other e.stamp (bytes_in x.outcome))
+      let becomes : slot_with_bytes e.stamp (bytes_in x.outcome) old ≡ new = rw same refl in
+      set_slot_at store_slot store_stamp store_own store_fetched (slot_with_bytes e.stamp (bytes_in x.outcome)) es i e (completed_entry e x) old new is rising refl was here becomes (slot_with_bytes-other e.stamp (bytes_in x.outcome))
 
   stores_complete_other : (x : Execution) → is_store e.operation ≡ false → stores_of (set es i (completed_entry e x)) ≡ stores_of es
   stores_complete_other x other = set_same_at store_slot store_stamp store_own store_fetched es i e (completed_entry e x) is (rw other refl)
 
   module _ (x : Execution) (new : List Entry) (stage : e.stage ≡ Issued x) (written : new ≡ set es i (completed_entry e x)) where
     -- a store
-    pub store_holds : (old now : Queues) (bytes : Option Bytes) → is_store e.operation ≡ true → IsRising (λ (f : Entry). f.stamp) new → bytes ≡ bytes_in x.outcome → now ≡ record old { stores = map (completed_slot e.stamp bytes) old.stores }
+    pub store_holds : (old now : Queues) (bytes : Option Bytes) → is_store e.operation ≡ true → IsRising (λ (f : Entry). f.stamp) new → bytes ≡ bytes_in x.outcome → now ≡ record old { stores = map (slot_with_bytes e.stamp bytes) old.stores }
         → old.loads ≡ loads_of es → old.stores ≡ stores_of es → Holds now new
     store_holds old now bytes store rising wrote resolved loads stores =
         let rising_here : IsRising (λ (f : Entry). f.stamp) (set es i (completed_entry e x)) = subst (λ (fs : List Entry). IsRising (λ (f : Entry). f.stamp) fs) written rising in
         record {
           loads = ap (λ (q : Queues). q.loads) resolved ∙ loads ∙ sym (loads_complete x stage) ∙ sym (ap (λ (fs : List Entry). loads_of fs) written);
-          stores = ap (λ (q : Queues). q.stores) resolved ∙ ap (λ b. map (completed_slot e.stamp b) old.stores) wrote ∙ ap (map (completed_slot e.stamp (bytes_in x.outcome))) stores
+          stores = ap (λ (q : Queues). q.stores) resolved ∙ ap (λ b. map (slot_with_bytes e.stamp b) old.stores) wrote ∙ ap (map (slot_with_bytes e.stamp (bytes_in x.outcome))) stores
               ∙ sym (stores_complete x stage store rising_here) ∙ sym (ap (λ (fs : List Entry). stores_of fs) written);
         }
 
@@ -316,11 +315,11 @@ module _ (es : List Entry) (i : ℕ) (e : Entry) (is : slice_get es i ≡ Some e
   loads_rename_other cycle other = set_same_at load_slot load_stamp load_own load_fetched es i e (with_stage e (renamed_stage cycle e.operation)) is (rw other refl)
 
   pub stores_rename : (cycle : ℕ) → is_store e.operation ≡ true → AllFetched (drop i es)
-      → stores_of (set es i (with_stage e (renamed_stage cycle e.operation))) ≡ stores_of es ++ record { stamp = e.stamp; completed = false; bytes = None } ∷ []
+      → stores_of (set es i (with_stage e (renamed_stage cycle e.operation))) ≡ stores_of es ++ record { stamp = e.stamp; bytes = None } ∷ []
   stores_rename cycle store all = set_last store_slot store_stamp store_own store_fetched es i (with_stage e (renamed_stage cycle e.operation)) placed (slice_get_within es i e is) all (go e.operation store)
     where
       placed : StoreSlot
-      placed = record { stamp = e.stamp; completed = false; bytes = None }
+      placed = record { stamp = e.stamp; bytes = None }
 
       go : (o : Operation) → is_store o ≡ true → store_slot (record e { operation = o; stage = renamed_stage cycle o }) ≡ Some placed
       go (operation.Performs insn) h = rw h refl

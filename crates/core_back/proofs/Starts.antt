@@ -17,6 +17,7 @@ use Rattle.core_view.specs.View.{Context, IsTextApart}
 use Rattle.core_view.proofs.Stored.{apart_at_start}
 use Rattle.core_view.proofs.Live.{first_live}
 use Rattle.data_flow.specs.Flow.{Lane, Flow, no_lane, lane, with_lane, with_register, first_lane, first_flow}
+use Rattle.core_profile.specs.declared.profile.Profile.{Profile}
 use Rattle.core_back.specs.Track.{Track, first_track}
 use Rattle.core_back.specs.Machine.{no_track, no_context}
 use Rattle.core_back.specs.Cores.{IsCore, front_room}
@@ -46,28 +47,28 @@ get_or-last [] t (suc n) e = absurd (omega (arith, e))
 get_or-last (u ∷ ts) t zero e = absurd (omega (arith, e))
 get_or-last (u ∷ ts) t (suc n) e = get_or-last ts t n (omega (arith, e))
 
-one_more_track : (marks : Eight MarkValue) (targets : List ℕ) (capacity n : ℕ) (ts : List Track) (t : Track)
-    → AreFirstTracks marks targets capacity n ts → IsFirstTrack (place_of marks n) (slice_index targets n) capacity t
-    → AreFirstTracks marks targets capacity (n + 1) (ts ++ t ∷ [])
-one_more_track marks targets capacity n ts t all one = record {
+one_more_track : (p : Profile) (marks : Eight MarkValue) (targets : List ℕ) (n : ℕ) (ts : List Track) (t : Track)
+    → AreFirstTracks p marks targets n ts → IsFirstTrack p (place_of marks n) (slice_index targets n) t
+    → AreFirstTracks p marks targets (n + 1) (ts ++ t ∷ [])
+one_more_track p marks targets n ts t all one = record {
   count = let e = all.count in length-append ts (t ∷ []) ∙ omega (arith, e);
-  each = below_more (λ c. IsFirstTrack (place_of marks c) (slice_index targets c) capacity (get_or (ts ++ t ∷ []) c no_track)) n earlier last;
+  each = below_more (λ c. IsFirstTrack p (place_of marks c) (slice_index targets c) (get_or (ts ++ t ∷ []) c no_track)) n earlier last;
 }
   where
-    earlier : (c : ℕ) → c < n → IsFirstTrack (place_of marks c) (slice_index targets c) capacity (get_or (ts ++ t ∷ []) c no_track)
-    earlier c lt = let e = all.count in subst (λ (u : Track). IsFirstTrack (place_of marks c) (slice_index targets c) capacity u) (sym (get_or_append_left ts (t ∷ []) no_track c (omega (arith, e)))) (all.each c lt)
+    earlier : (c : ℕ) → c < n → IsFirstTrack p (place_of marks c) (slice_index targets c) (get_or (ts ++ t ∷ []) c no_track)
+    earlier c lt = let e = all.count in subst (λ (u : Track). IsFirstTrack p (place_of marks c) (slice_index targets c) u) (sym (get_or_append_left ts (t ∷ []) no_track c (omega (arith, e)))) (all.each c lt)
 
-    last : IsFirstTrack (place_of marks n) (slice_index targets n) capacity (get_or (ts ++ t ∷ []) n no_track)
-    last = subst (λ (u : Track). IsFirstTrack (place_of marks n) (slice_index targets n) capacity u) (sym (get_or-last ts t n all.count)) one
+    last : IsFirstTrack p (place_of marks n) (slice_index targets n) (get_or (ts ++ t ∷ []) n no_track)
+    last = subst (λ (u : Track). IsFirstTrack p (place_of marks n) (slice_index targets n) u) (sym (get_or-last ts t n all.count)) one
 
 -- one more track, that of the next mark
-pub first_tracks_more : (marks : Eight MarkValue) (targets : List ℕ) (capacity n d : ℕ) (ts us : List Track) (mark : MarkValue) (t : Track)
-    → AreFirstTracks marks targets capacity n ts → d ≡ n → mark ≡ place_of marks d → IsFirstTrack mark (slice_index targets n) capacity t → us ≡ ts ++ t ∷ []
-    → AreFirstTracks marks targets capacity (n + 1) us
-first_tracks_more marks targets capacity n d ts us mark t all same is one pushed =
-    subst (λ (vs : List Track). AreFirstTracks marks targets capacity (n + 1) vs) (sym pushed)
-    (one_more_track marks targets capacity n ts t all
-    (subst (λ (m : MarkValue). IsFirstTrack m (slice_index targets n) capacity t) (is ∙ ap (λ (k : ℕ). place_of marks k) same) one))
+pub first_tracks_more : (p : Profile) (marks : Eight MarkValue) (targets : List ℕ) (n d : ℕ) (ts us : List Track) (mark : MarkValue) (t : Track)
+    → AreFirstTracks p marks targets n ts → d ≡ n → mark ≡ place_of marks d → IsFirstTrack p mark (slice_index targets n) t → us ≡ ts ++ t ∷ []
+    → AreFirstTracks p marks targets (n + 1) us
+first_tracks_more p marks targets n d ts us mark t all same is one pushed =
+    subst (λ (vs : List Track). AreFirstTracks p marks targets (n + 1) vs) (sym pushed)
+    (one_more_track p marks targets n ts t all
+    (subst (λ (m : MarkValue). IsFirstTrack p m (slice_index targets n) t) (is ∙ ap (λ (k : ℕ). place_of marks k) same) one))
 
 -- ---- the registers
 
@@ -121,48 +122,52 @@ set_all old c registers f count h =
 
 -- ---- the data flow
 
-pub first_lanes_none : (marks : Eight MarkValue) (extra room places : ℕ) → AreFirstLanes marks room 0 (first_flow extra room places)
-first_lanes_none marks extra room places = record {
+pub first_lanes_none : (p : Profile) (marks : Eight MarkValue) (extra room places : ℕ) → extra ≡ p.extra_registers → room ≡ p.reorder_buffer → places ≡ p.issue_queue → AreFirstLanes p marks 0 (first_flow extra room places)
+first_lanes_none p marks extra room places extra-is room-is places-is = record {
   count = refl;
   waiters = refl;
+  extra = extra-is;
+  places = places-is;
   set = λ c lt. absurd (omega arith);
-  others = λ c le lt. get_or-replicate 8 c (first_lane room) no_lane lt;
+  others = λ c le lt. get_or-replicate 8 c (first_lane room) no_lane lt ∙ ap first_lane room-is;
 }
 
-one_more_lane : (marks : Eight MarkValue) (room n : ℕ) (f g : Flow) (s : State) → n < 8 → AreFirstLanes marks room n f → state_of (place_of marks n) ≡ Some s
-    → g ≡ with_lane f n (record (lane f n) { registers = s.registers }) → AreFirstLanes marks room (n + 1) g
-one_more_lane marks room n f g s lt h reached step = record {
+one_more_lane : (p : Profile) (marks : Eight MarkValue) (n : ℕ) (f g : Flow) (s : State) → n < 8 → AreFirstLanes p marks n f → state_of (place_of marks n) ≡ Some s
+    → g ≡ with_lane f n (record (lane f n) { registers = s.registers }) → AreFirstLanes p marks (n + 1) g
+one_more_lane p marks n f g s lt h reached step = record {
   count = ap (λ (e : Flow). length e.lanes) step ∙ length-set f.lanes n new_lane ∙ h.count;
   waiters = ap (λ (e : Flow). e.waiters) step ∙ h.waiters;
-  set = below_more (λ c. IsLaneOf (place_of marks c) room (lane g c)) n earlier last;
+  extra = ap (λ (e : Flow). e.extra) step ∙ h.extra;
+  places = ap (λ (e : Flow). e.places) step ∙ h.places;
+  set = below_more (λ c. IsLaneOf (place_of marks c) p.reorder_buffer (lane g c)) n earlier last;
   others = λ c le below. let ne : c ≢ n = omega arith in ap (λ (e : Flow). lane e c) step ∙ get_or-set_other f.lanes n c new_lane no_lane ne ∙ h.others c (omega arith) below;
 }
   where
     new_lane : Lane
     new_lane = record (lane f n) { registers = s.registers }
 
-    earlier : (c : ℕ) → c < n → IsLaneOf (place_of marks c) room (lane g c)
+    earlier : (c : ℕ) → c < n → IsLaneOf (place_of marks c) p.reorder_buffer (lane g c)
     earlier c below t is = let ne : c ≢ n = omega arith in ap (λ (e : Flow). lane e c) step ∙ get_or-set_other f.lanes n c new_lane no_lane ne ∙ h.set c below t is
 
-    last : IsLaneOf (place_of marks n) room (lane g n)
+    last : IsLaneOf (place_of marks n) p.reorder_buffer (lane g n)
     last t is =
         let e = h.count in
         let same : s ≡ t = cc in
         ap (λ (e : Flow). lane e n) step ∙ get_or-set_same f.lanes n new_lane no_lane (omega (arith, e))
-        ∙ ap (λ (l : Lane). record l { registers = s.registers }) (h.others n (omega arith) lt) ∙ ap (λ (u : State). record { registers = u.registers; nodes = []; room = room }) same
+        ∙ ap (λ (l : Lane). record l { registers = s.registers }) (h.others n (omega arith) lt) ∙ ap (λ (u : State). record { registers = u.registers; nodes = []; room = p.reorder_buffer }) same
 
 -- one more context has the registers of its mark
-pub first_lanes_more : (marks : Eight MarkValue) (room n d : ℕ) (f g : Flow) (mark : MarkValue) (s : State) (registers : List ℕ) → n < 8 → AreFirstLanes marks room n f
+pub first_lanes_more : (p : Profile) (marks : Eight MarkValue) (n d : ℕ) (f g : Flow) (mark : MarkValue) (s : State) (registers : List ℕ) → n < 8 → AreFirstLanes p marks n f
     → d ≡ n → mark ≡ place_of marks d → state_of mark ≡ Some s → registers ≡ s.registers → g ≡ with_lane f d (record (lane f d) { registers = registers })
-    → AreFirstLanes marks room (n + 1) g
-first_lanes_more marks room n d f g mark s registers lt h same is reached registers_are step =
-    one_more_lane marks room n f g s lt h
+    → AreFirstLanes p marks (n + 1) g
+first_lanes_more p marks n d f g mark s registers lt h same is reached registers_are step =
+    one_more_lane p marks n f g s lt h
     (ap (λ (k : ℕ). state_of (place_of marks k)) (sym same) ∙ ap (λ (m : MarkValue). state_of m) (sym is) ∙ reached)
     (step ∙ ap (λ (k : ℕ). with_lane f k (record (lane f k) { registers = registers })) same ∙ ap (λ (rs : List ℕ). with_lane f n (record (lane f n) { registers = rs })) registers_are)
 
 -- the lane of the next context
-pub next_lane : (marks : Eight MarkValue) (room n d : ℕ) (f : Flow) → n < 8 → AreFirstLanes marks room n f → d ≡ n → lane f d ≡ first_lane room
-next_lane marks room n d f lt h same = ap (λ (k : ℕ). lane f k) same ∙ h.others n (omega arith) lt
+pub next_lane : (p : Profile) (marks : Eight MarkValue) (n d : ℕ) (f : Flow) → n < 8 → AreFirstLanes p marks n f → d ≡ n → lane f d ≡ first_lane p.reorder_buffer
+next_lane p marks n d f lt h same = ap (λ (k : ℕ). lane f k) same ∙ h.others n (omega arith) lt
 
 -- ---- a context
 
@@ -185,7 +190,6 @@ first_core_at o c count target reorder load_places store_places s f names le rea
   are_renamed = tt;
   are_fetched = tt;
   waiting = λ k. rw (waiters, empty) refl;
-  patient = tt;
 }
 
 -- the marks are of the origin of the first one
@@ -197,13 +201,13 @@ pub origin_of_first : (o p : OriginValue) (marks : Eight MarkValue) (c : ℕ) �
 origin_of_first o p marks c aligned same lt is = is ∙ (mark_of_first o marks c aligned same lt).of_origin
 
 -- so for the track of a mark
-pub first_core : (o : OriginValue) (c target reorder : ℕ) (mark : MarkValue) (f : Flow) (names : List EntryId) (t : Track) → IsMarkOf o c mark → IsTarget mark target → f.waiters ≡ [] → names ≡ [] → IsLaneOf mark reorder (lane f c)
-    → IsFirstTrack mark target (reorder + front_room) t → IsCore (start o c) 0 reorder f names c t
-first_core o c target reorder mark f names t of bounds waiters empty lane_is first =
+pub first_core : (p : Profile) (o : OriginValue) (c target : ℕ) (mark : MarkValue) (f : Flow) (names : List EntryId) (t : Track) → IsMarkOf o c mark → IsTarget mark target → f.waiters ≡ [] → names ≡ [] → IsLaneOf mark p.reorder_buffer (lane f c)
+    → IsFirstTrack p mark target t → IsCore (start o c) 0 p.reorder_buffer f names c t
+first_core p o c target mark f names t of bounds waiters empty lane_is first =
     let reached : after mark.count (start o c) ≡ Some t.context.state =
-    ap (λ (p : OriginValue). after mark.count (start p c)) (sym of.of_origin) ∙ ap (λ (d : ℕ). after mark.count (start mark.origin d)) (sym of.of_context) ∙ first.reached in
-    subst (λ (u : Track). IsCore (start o c) 0 reorder f names c u) (sym first.first)
-    (first_core_at o c mark.count target reorder t.load_places t.store_places t.context.state f names bounds.above reached first.aligned first.zero_register waiters empty (lane_is t.context.state first.reached))
+    ap (λ (q : OriginValue). after mark.count (start q c)) (sym of.of_origin) ∙ ap (λ (d : ℕ). after mark.count (start mark.origin d)) (sym of.of_context) ∙ first.reached in
+    subst (λ (u : Track). IsCore (start o c) 0 p.reorder_buffer f names c u) (sym first.first)
+    (first_core_at o c mark.count target p.reorder_buffer p.load_queue p.store_queue t.context.state f names bounds.above reached first.aligned first.zero_register waiters empty (lane_is t.context.state first.reached))
 
 -- the context of a track
 pub context_of_track : (ts : List Track) (c : ℕ) → get_or (map (λ t. t.context) ts) c no_context ≡ (get_or ts c no_track).context
@@ -215,5 +219,5 @@ pub count_of_tracks : (ts : List Track) → length (map (λ t. t.context) ts) �
 count_of_tracks [] = refl
 count_of_tracks (t ∷ ts) = ap suc (count_of_tracks ts)
 
-pub first_context_at : (mark : MarkValue) (target capacity : ℕ) (ts : List Track) (c : ℕ) → IsFirstTrack mark target capacity (get_or ts c no_track) → IsFirstContext mark target (get_or (map (λ t. t.context) ts) c no_context)
-first_context_at mark target capacity ts c h = subst (λ (x : Context). IsFirstContext mark target x) (sym (context_of_track ts c)) (record { reached = h.reached; first = ap (λ (t : Track). t.context) h.first })
+pub first_context_at : (p : Profile) (mark : MarkValue) (target : ℕ) (ts : List Track) (c : ℕ) → IsFirstTrack p mark target (get_or ts c no_track) → IsFirstContext mark target (get_or (map (λ t. t.context) ts) c no_context)
+first_context_at p mark target ts c h = subst (λ (x : Context). IsFirstContext mark target x) (sym (context_of_track ts c)) (record { reached = h.reached; first = ap (λ (t : Track). t.context) h.first })

@@ -25,7 +25,7 @@ use Rattle.core_view.specs.Events.{is_mispredicted, kept_length, completed_entry
 use Rattle.core_view.specs.Queues.{loads_of, conflict_in, conflict_of}
 use Rattle.core_view.specs.View.{no_entry}
 use Rattle.core_view.proofs.Accesses.{stage_bytes}
-use Rattle.core_view.proofs.Patient.{store_predicted}
+use Rattle.core_view.proofs.Accesses.{store_predicted}
 use Rattle.core_view.proofs.Queues.{queue_conflict}
 use Rattle.core_view.proofs.RingForm.{complete_take}
 use Rattle.core_view.proofs.Sound.{sound_at}

@@ -4,7 +4,6 @@ use Rattle.std.specs.List.{list_any}
 use Rattle.hart_step.specs.State.{State}
 use Rattle.core_view.specs.declared.entry.Stage.TheVariants.{Fetched}
 use Rattle.core_view.specs.declared.entry.Entry.{Entry}
-use Rattle.core_view.specs.Loads.{IsPatient}
 use Rattle.core_view.specs.Operations.{destination_of, first_source_of, second_source_of}
 use Rattle.core_view.specs.Flight.{result_of}
 use Rattle.core_view.specs.Queues.{AllRenamed}
@@ -55,4 +54,3 @@ pub record IsCore (start : State) (stamp reorder : ℕ) (f : Flow) (names : List
   pub are_renamed : AllRenamed (take t.renamed t.context.flight)
   pub are_fetched : AllFetched (drop t.renamed t.context.flight)
   pub waiting : (k : ℕ) → (waits_in f c k || is_selected names c k) ≡ queued_at k t.context.flight
-  pub patient : IsPatient t.context.flight

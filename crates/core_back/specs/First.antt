@@ -1,5 +1,5 @@
 -- The machine as it starts from eight marks.
-use Rattle.std.specs.Prelude.{◌≡◌, ℕ, ◌<◌, ◌≤◌, ◌%◌, ◌^◌, List, [], length, slice_index, get_or, Some}
+use Rattle.std.specs.Prelude.{◌≡◌, ℕ, ◌+◌, ◌<◌, ◌≤◌, ◌%◌, ◌^◌, List, [], length, slice_index, get_or, Some}
 use Rattle.hart_step.specs.State.{State}
 use Rattle.hart_step.specs.Next.{after}
 use Rattle.join_law.specs.Eight.{place_of}
@@ -8,7 +8,9 @@ use Rattle.origin_set.specs.OriginValue.{OriginValue}
 use Rattle.checkpoint.specs.MarkValue.{MarkValue, state_of}
 use Rattle.core_view.specs.View.{Context, first_context}
 use Rattle.data_flow.specs.Flow.{Lane, Flow, lane, with_lane, first_lane}
+use Rattle.core_profile.specs.declared.profile.Profile.{Profile}
 use Rattle.core_back.specs.Track.{Track, first_track}
+use Rattle.core_back.specs.Cores.{front_room}
 use Rattle.core_back.specs.Machine.{Machine, context_at, no_track}
 
 -- a context in the state of its mark, after the mark's count, with nothing in flight
@@ -17,13 +19,13 @@ pub record IsFirstContext (mark : MarkValue) (target : ℕ) (x : Context) : Type
   pub first : x ≡ first_context mark.count target x.state
 
 -- nothing was done yet, and each context is where its mark is
-pub record IsFirst (marks : Eight MarkValue) (targets : List ℕ) (reorder : ℕ) (m : Machine) : Type 0 where
+pub record IsFirst (profile : Profile) (marks : Eight MarkValue) (targets : List ℕ) (m : Machine) : Type 0 where
   pub origin : m.origin ≡ marks.c0.origin
+  pub profile_is : m.view.profile ≡ profile
   pub cycle : m.view.cycle ≡ 0
   pub stamp : m.view.stamp ≡ 0
   pub names : m.names ≡ []
   pub fetch_room : m.fetch_room ≡ 8
-  pub reorder_is : m.reorder ≡ reorder
   pub count : length m.view.contexts ≡ 8
   pub contexts : (c : ℕ) → c < 8 → IsFirstContext (place_of marks c) (slice_index targets c) (context_at m c)
 
@@ -32,27 +34,19 @@ pub record IsTarget (mark : MarkValue) (target : ℕ) : Type 0 where
   pub above : mark.count ≤ target
   pub below : target ≤ 2 ^ 60
 
--- the number of registers, extra registers and places is one that the parts can have
-pub record AreSizes (reorder extra places : ℕ) : Type 0 where
-  pub reorder_low : 8 ≤ reorder
-  pub reorder_high : reorder ≤ 64
-  pub extra_low : 32 ≤ extra
-  pub extra_high : extra ≤ 224
-  pub places_high : places ≤ 64
-
 -- ---- the tracks
 
--- a track in the state of a mark, with nothing in flight
-pub record IsFirstTrack (mark : MarkValue) (target capacity : ℕ) (t : Track) : Type 0 where
+-- a track in the state of a mark, with nothing in flight, and as much room as the profile says
+pub record IsFirstTrack (profile : Profile) (mark : MarkValue) (target : ℕ) (t : Track) : Type 0 where
   pub reached : state_of mark ≡ Some t.context.state
-  pub first : t ≡ first_track mark.count target t.context.state capacity t.load_places t.store_places
+  pub first : t ≡ first_track mark.count target t.context.state (profile.reorder_buffer + front_room) profile.load_queue profile.store_queue
   pub aligned : t.context.state.pc % 4 ≡ 0
   pub zero_register : slice_index t.context.state.registers 0 ≡ 0
 
 -- the tracks of the first marks
-pub record AreFirstTracks (marks : Eight MarkValue) (targets : List ℕ) (capacity n : ℕ) (ts : List Track) : Type 0 where
+pub record AreFirstTracks (profile : Profile) (marks : Eight MarkValue) (targets : List ℕ) (n : ℕ) (ts : List Track) : Type 0 where
   pub count : length ts ≡ n
-  pub each : (c : ℕ) → c < n → IsFirstTrack (place_of marks c) (slice_index targets c) capacity (get_or ts c no_track)
+  pub each : (c : ℕ) → c < n → IsFirstTrack profile (place_of marks c) (slice_index targets c) (get_or ts c no_track)
 
 -- ---- the data flow
 
@@ -67,11 +61,13 @@ abbrev pub IsLaneOf : MarkValue → ℕ → Lane → Type 0
 IsLaneOf mark room l = (s : State) → state_of mark ≡ Some s → l ≡ record { registers = s.registers; nodes = []; room = room }
 
 -- the first contexts have the registers of their marks, the others none yet
-pub record AreFirstLanes (marks : Eight MarkValue) (room n : ℕ) (f : Flow) : Type 0 where
+pub record AreFirstLanes (profile : Profile) (marks : Eight MarkValue) (n : ℕ) (f : Flow) : Type 0 where
   pub count : length f.lanes ≡ 8
   pub waiters : f.waiters ≡ []
-  pub set : (c : ℕ) → c < n → IsLaneOf (place_of marks c) room (lane f c)
-  pub others : (c : ℕ) → n ≤ c → c < 8 → lane f c ≡ first_lane room
+  pub extra : f.extra ≡ profile.extra_registers
+  pub places : f.places ≡ profile.issue_queue
+  pub set : (c : ℕ) → c < n → IsLaneOf (place_of marks c) profile.reorder_buffer (lane f c)
+  pub others : (c : ℕ) → n ≤ c → c < 8 → lane f c ≡ first_lane profile.reorder_buffer
 
 -- ---- the end
 

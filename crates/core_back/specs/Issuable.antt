@@ -7,7 +7,7 @@ use Rattle.core_view.specs.declared.entry.Stage.TheVariants.{Queued}
 use Rattle.core_view.specs.declared.entry.Entry.{Entry}
 use Rattle.core_view.specs.Outcomes.{image_of}
 use Rattle.core_view.specs.Flight.{seen_of, IsSound, IsGrowing}
-use Rattle.core_view.specs.Loads.{may_issue_waiting}
+use Rattle.core_view.specs.Loads.{may_issue}
 use Rattle.core_view.specs.Queues.{AllRenamed}
 use Rattle.core_view.specs.View.{Context, entry_at}
 use Rattle.data_flow.specs.Flow.{Flow, Waiter, is_waiter, lane, sources_at}
@@ -15,7 +15,7 @@ use Rattle.core_back.specs.Track.{Track}
 
 -- an operation may be performed after these entries on the values of its sources: a load is clear
 abbrev pub may_perform : List Entry → Operation → ℕ → ℕ → ℕ → Bool
-may_perform es (Performs insn) pc a b = may_issue_waiting es (effect_of insn pc a b)
+may_perform es (Performs insn) pc a b = may_issue es (effect_of insn pc a b)
 may_perform es (Stops why) pc a b = true
 
 -- the entry at a place may issue on the values of its sources

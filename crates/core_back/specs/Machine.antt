@@ -14,13 +14,12 @@ use Rattle.core_view.specs.Events.{due_at, with_flight, completed_at}
 use Rattle.core_view.specs.View.{Context, View, first_context}
 use Rattle.core_back.specs.Track.{Track, first_track}
 
--- the origin of the contexts, the view, what was selected and has not issued yet, how many more entries may be fetched in this cycle, and how many renamed entries a context may have
+-- the origin of the contexts, the view, what was selected and has not issued yet, and how many more entries may be fetched in this cycle
 pub record Machine : Type 0 where
   pub origin : OriginValue
   pub view : View
   pub names : List EntryId
   pub fetch_room : ℕ
-  pub reorder : ℕ
 
 abbrev pub no_state : State
 no_state = record { registers = []; pc = 0; memory = start_cells [] []; environment = One }
@@ -58,9 +57,10 @@ with_fetched m c x = record m { view = record m.view { stamp = m.view.stamp + 1;
 abbrev pub with_cycle : Machine → Machine
 with_cycle m = record m { view = record m.view { cycle = m.view.cycle + 1 }; fetch_room = 8 }
 
--- what each part of a cycle leaves as it was: the origin, the cycle's number, and each context's target
+-- what each part of a cycle leaves as it was: the origin, the profile, the cycle's number, and each context's target
 pub record IsAlike (old new : Machine) : Type 0 where
   pub origin : new.origin ≡ old.origin
+  pub profile : new.view.profile ≡ old.view.profile
   pub cycle : new.view.cycle ≡ old.view.cycle
   pub targets : (c : ℕ) → c < 8 → (context_at new c).target ≡ (context_at old c).target
 

@@ -6,11 +6,11 @@ ghost use Rattle.join_law.specs.Eight.{place_of};
 ghost use Rattle.origin_set.specs.Start.{start};
 ghost use Rattle.data_flow.specs.Flow.{lane, with_lane};
 ghost use Rattle.core_back.specs.Machine.{no_track};
-ghost use Rattle.core_back.specs.First.{IsTarget, AreSizes, IsFirstTrack, AreFirstTracks, AreFirstLanes, IsReached};
+ghost use Rattle.core_back.specs.First.{IsTarget, IsFirstTrack, AreFirstTracks, AreFirstLanes, IsReached};
 
-use crate::sizes::Sizes;
 use crate::track::Track;
 use checkpoint::Mark;
+use core_profile::Profile;
 use data_flow::DataFlow;
 use join_law::{Ctx, Eight};
 use origin_set::Origin;
@@ -48,13 +48,12 @@ fn first_track<A: Allocator + Copy>(
     alloc: A,
     mark: &Mark<A>,
     target: u64,
-    sizes: Sizes,
+    profile: &Profile,
 ) -> Result<Track<A>, AllocError>
     requires target { target ≤ 2 ^ 60 }
-    requires reorder { sizes.reorder ≤ 64 }
-    ensures { IfOk result (IsFirstTrack mark.now target (sizes.reorder + 16)) }
+    ensures { IfOk result (IsFirstTrack profile.now mark.now target) }
 {
-    let track = Track::new(alloc, mark.state(), mark.count(), target, sizes)?;
+    let track = Track::new(alloc, mark.state(), mark.count(), target, profile)?;
     Ok(track)
 }
 
@@ -63,17 +62,16 @@ pub(crate) fn first_tracks<A: Allocator + Copy>(
     alloc: A,
     marks: &Eight<Mark<A>>,
     targets: &[u64; 8],
-    sizes: Sizes,
+    profile: &Profile,
 ) -> Result<Vec<Track<A>, A>, AllocError>
     requires targets { (c : ℕ) → c < 8 → IsTarget (place_of marks.now c) (slice_index targets.now c) }
-    requires reorder { sizes.reorder ≤ 64 }
-    ensures { IfOk result (λ ts. AreFirstTracks marks.now targets.now (sizes.reorder + 16) 8 ts.items) }
+    ensures { IfOk result (λ ts. AreFirstTracks profile.now marks.now targets.now 8 ts.items) }
 {
     let mut tracks = Vec::new(alloc);
     for number in 0..8usize {
         let context = Ctx::new(number).unwrap();
         let mark = marks.place(context);
-        let track = first_track(alloc, mark, targets[number], sizes)?;
+        let track = first_track(alloc, mark, targets[number], profile)?;
         tracks.push(track).map_err(AllocError::from)?;
     }
     Ok(tracks)
@@ -96,12 +94,16 @@ fn set_registers<A: Allocator>(flow: &mut DataFlow<A>, context: Ctx, registers: 
 pub(crate) fn first_flow<A: Allocator + Copy>(
     alloc: A,
     marks: &Eight<Mark<A>>,
-    sizes: Sizes,
+    profile: &Profile,
 ) -> Result<DataFlow<A>, AllocError>
-    requires { AreSizes sizes.reorder sizes.extra sizes.places }
-    ensures { IfOk result (AreFirstLanes marks.now sizes.reorder 8) }
+    ensures { IfOk result (AreFirstLanes profile.now marks.now 8) }
 {
-    let mut flow = DataFlow::new(alloc, sizes.extra, sizes.reorder, sizes.places)?;
+    let mut flow = DataFlow::new(
+        alloc,
+        usize::from(profile.extra_registers),
+        usize::from(profile.reorder_buffer),
+        usize::from(profile.issue_queue),
+    )?;
     for number in 0..8usize {
         let context = Ctx::new(number).unwrap();
         let mark = marks.place(context);

@@ -9,7 +9,6 @@ mod issuing;
 mod lags;
 mod machine;
 mod retiring;
-mod sizes;
 mod track;
 
 pub use completing::{Completion, complete};
@@ -17,5 +16,4 @@ pub use fetching::Fetch;
 pub use issuing::issue;
 pub use machine::{Machine, Retirement};
 pub use retiring::retire;
-pub use sizes::Sizes;
 pub use track::{Performed, Track};

@@ -9,7 +9,7 @@ ghost use Rattle.origin_set.specs.Start.{start};
 ghost use Rattle.core_back.specs.Machine.{IsAlike, context_at, in_flight, with_context, with_cycle, first_done, due_in};
 ghost use Rattle.core_back.specs.Issued.{IsIssued};
 ghost use Rattle.core_back.specs.Fetched.{IsRenamed, IsFetched};
-ghost use Rattle.core_back.specs.First.{IsFirst, IsTarget, AreSizes, AreMarksAt};
+ghost use Rattle.core_back.specs.First.{IsFirst, IsTarget, AreMarksAt};
 ghost use Rattle.checkpoint.specs.Aligned.{IsAligned};
 ghost use Rattle.join_law.specs.Eight.{place_of};
 
@@ -17,11 +17,11 @@ use crate::events;
 use crate::fetching::{Fetch, next_entry};
 use crate::first::{first_flow, first_tracks, marks_of, origins_of};
 use crate::lags::lag_of;
-use crate::sizes::Sizes;
 use crate::track::Track;
 use arrayvec::ArrayVec;
 use branch_predict::Guess;
 use checkpoint::Mark;
+use core_profile::Profile;
 use core_view::{Entry, EntryId, Execution, Issue, Outcome, Status, Step};
 use data_flow::DataFlow;
 use data_tags::Delay;
@@ -54,7 +54,7 @@ pub struct Machine<A: Allocator = Global> {
     cycle: u64,
     stamp: u64,
     fetch_room: u8,
-    reorder: usize,
+    profile: Profile,
 }
 
 impl<A: Allocator> Model for Machine<A> {
@@ -73,21 +73,20 @@ impl<A: Allocator> Model for Machine<A> {
 }
 
 impl<A: Allocator + Copy> Machine<A> {
-    /// Eight contexts that start at eight marks of one origin, each with the count that it is to reach.
+    /// Eight contexts by a profile that start at eight marks of one origin, each with the count that it is to reach.
     pub fn new(
         alloc: A,
+        profile: &Profile,
         marks: &Eight<Mark<A>>,
         targets: &[u64; 8],
-        sizes: Sizes,
     ) -> Result<Self, AllocError>
         requires aligned { IsAligned marks.now }
         requires targets { (c : ℕ) → c < 8 → IsTarget (place_of marks.now c) (slice_index targets.now c) }
-        requires sizes { AreSizes sizes.reorder sizes.extra sizes.places }
-        ensures { IfOk result (IsFirst marks.now targets.now sizes.reorder) }
+        ensures { IfOk result (IsFirst profile.now marks.now targets.now) }
     {
         let origins = origins_of(marks)?;
-        let flow = first_flow(alloc, marks, sizes)?;
-        let tracks = first_tracks(alloc, marks, targets, sizes)?;
+        let flow = first_flow(alloc, marks, profile)?;
+        let tracks = first_tracks(alloc, marks, targets, profile)?;
         Ok(Machine {
             origins,
             flow,
@@ -96,7 +95,7 @@ impl<A: Allocator + Copy> Machine<A> {
             cycle: 0,
             stamp: 0,
             fetch_room: 8,
-            reorder: sizes.reorder,
+            profile: *profile,
         })
     }
 }
@@ -303,7 +302,13 @@ impl<A: Allocator> Machine<A> {
     /// ago, and each place that it needs is free.
     pub fn renamable(&self, context: Ctx, front_delay: u64) -> Option<u64> {
         let track = &self.tracks[context.index()];
-        events::renamable(&self.flow, track, self.cycle, front_delay, self.reorder)
+        events::renamable(
+            &self.flow,
+            track,
+            self.cycle,
+            front_delay,
+            usize::from(self.profile.reorder_buffer),
+        )
     }
 
     /// The oldest fetched entry of a context is renamed, if it can be. Answers its stamp.
@@ -316,7 +321,13 @@ impl<A: Allocator> Machine<A> {
         ensures idle { self.new.names ≡ [] }
     {
         let track = &mut self.tracks[context.index()];
-        let stamp = events::renamable(&self.flow, track, self.cycle, front_delay, self.reorder)?;
+        let stamp = events::renamable(
+            &self.flow,
+            track,
+            self.cycle,
+            front_delay,
+            usize::from(self.profile.reorder_buffer),
+        )?;
         events::rename(&mut self.flow, track, context, self.cycle);
         Some(stamp)
     }

@@ -7,14 +7,14 @@ ghost use Rattle.checkpoint.specs.Aligned.{IsAligned};
 ghost use Rattle.core_view.specs.View.{IsLive};
 ghost use Rattle.origin_set.specs.Start.{start};
 ghost use Rattle.core_back.specs.Machine.{context_at, in_flight, IsAlike};
-ghost use Rattle.core_back.specs.First.{IsFirst, AreSizes, AreMarksAt};
+ghost use Rattle.core_back.specs.First.{IsFirst, AreMarksAt};
 ghost use Rattle.core_cycle.specs.Faults.{IsBehind, IsRefusal};
 
 use crate::contexts::Contexts;
 use crate::fault::CoreFault;
 use branch_predict::Guess;
 use checkpoint::Mark;
-use core_back::{Machine, Sizes};
+use core_back::Machine;
 use core_profile::Profile;
 use core_view::{CycleNote, Entry, Status};
 use data_tags::Delay;
@@ -69,13 +69,13 @@ impl<G: Guess + Drop, P: Pick + Drop, O: Order + Drop, D: Delay + Drop, A: Alloc
     ) -> Result<Self, (Eight<Mark<A>>, CoreFault)>
         requires aligned { IsAligned marks }
         requires targets { (c : ℕ) → c < 8 → slice_index targets c ≤ 2 ^ 60 }
-        ensures first { IfOk result (λ core. IsFirst marks targets profile.now.reorder_buffer (shown core)) }
+        ensures first { IfOk result (λ core. IsFirst profile.now marks targets (shown core)) }
         ensures refused { IfErr result (λ back. (back.0 ≡ marks) × IsRefusal marks targets back.1) }
     {
         if let Some(context) = behind_start(&marks, &targets) {
             return Err((marks, CoreFault::TargetBehindStart { context }));
         }
-        let Ok(machine) = Machine::new(alloc, &marks, &targets, sizes_of(profile)) else {
+        let Ok(machine) = Machine::new(alloc, profile, &marks, &targets) else {
             return Err((marks, CoreFault::OutOfMemory));
         };
         Ok(Core {
@@ -86,20 +86,6 @@ impl<G: Guess + Drop, P: Pick + Drop, O: Order + Drop, D: Delay + Drop, A: Alloc
             delay,
             profile: *profile,
         })
-    }
-}
-
-/// The room that a profile asks for.
-fn sizes_of(profile: &Profile) -> Sizes
-    ensures sizes { AreSizes result.reorder result.extra result.places }
-    ensures reorder { result.reorder ≡ profile.now.reorder_buffer }
-{
-    Sizes {
-        reorder: usize::from(profile.reorder_buffer),
-        loads: usize::from(profile.load_queue),
-        stores: usize::from(profile.store_queue),
-        extra: usize::from(profile.extra_registers),
-        places: usize::from(profile.issue_queue),
     }
 }
 

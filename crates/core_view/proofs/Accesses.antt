@@ -1,5 +1,5 @@
 -- Only loads read, and only stores write.
-use Rattle.std.proofs.Common.{◌≡◌, ℕ, Bool, true, false, ◌&&◌, None, Result, Ok, Err, refl, sym, ap, ◌∙◌, arith}
+use Rattle.std.proofs.Common.{◌≡◌, ℕ, Bool, true, false, ◌&&◌, Option, Some, None, Result, Ok, Err, refl, sym, ap, ◌∙◌, arith}
 use Rattle.std.specs.Prelude.{◌==◌, ◌*◌, ◌/◌, ◌%◌, if◌then◌else◌}
 use Rattle.std.proofs.lemmas.Bool.Decides.{nat_tests}
 use Rattle.paged_memory.specs.declared.Fault.{Fault}
@@ -13,12 +13,15 @@ use Rattle.hart_step.specs.Effects.{linked_to, went_to, effect_of}
 use Rattle.hart_step.specs.State.{following}
 use Rattle.core_view.specs.declared.operation.Operation.{Operation}
 use Rattle.core_view.specs.declared.operation.Operation.TheVariants.{Performs, Stops}
+use Rattle.core_view.specs.declared.span.Bytes.{Bytes}
+use Rattle.core_view.specs.declared.outcome.Step.{Step}
+use Rattle.core_view.specs.declared.entry.Entry.{Entry}
 use Rattle.core_view.specs.declared.entry.Stage.{Stage}
 use Rattle.core_view.specs.declared.entry.Stage.TheVariants.{Fetched, Queued, Issued, Done}
 use Rattle.core_view.specs.Operations.{is_load_insn, is_load, is_store_insn, is_store, is_guessed_insn, is_guessed}
 use Rattle.core_view.specs.Outcomes.{Image, outcome_with, outcome_in}
-use Rattle.core_view.specs.Flight.{Seen, HasOutcome, bytes_in, bytes_done, span_in, span_read}
-use Rattle.core_view.specs.Loads.{is_issued}
+use Rattle.core_view.specs.Flight.{Seen, HasOutcome, bytes_in, bytes_done, span_in, span_read, touches}
+use Rattle.core_view.specs.Events.{is_mispredicted}
 
 -- ---- effects
 
@@ -87,12 +90,12 @@ outcome_bytes image bytes (Stops why) pc a b h = refl
 
 -- ---- entries of a sound flight
 
--- an entry that isn't an issued load has read no span
-pub stage_span : (image : Image) (seen : Seen) (o : Operation) (pc : ℕ) (stage : Stage) → (is_load o && is_issued stage) ≡ false → HasOutcome image seen o pc stage → span_read stage ≡ None
+-- an entry that isn't a load has read no span
+pub stage_span : (image : Image) (seen : Seen) (o : Operation) (pc : ℕ) (stage : Stage) → is_load o ≡ false → HasOutcome image seen o pc stage → span_read stage ≡ None
 stage_span image seen o pc Fetched h out = refl
 stage_span image seen o pc Queued h out = refl
-stage_span image seen o pc (Issued execution) h out = ap span_in out.1.is ∙ outcome_span image seen.bytes o pc out.1.first out.1.second (grind (arith, nat_tests, h))
-stage_span image seen o pc (Done execution) h out = ap span_in out.is ∙ outcome_span image seen.bytes o pc out.first out.second (grind (arith, nat_tests, h))
+stage_span image seen o pc (Issued execution) h out = ap span_in out.1.is ∙ outcome_span image seen.bytes o pc out.1.first out.1.second h
+stage_span image seen o pc (Done execution) h out = ap span_in out.is ∙ outcome_span image seen.bytes o pc out.first out.second h
 
 -- an entry that isn't a store has no bytes
 pub stage_bytes : (image : Image) (seen : Seen) (o : Operation) (pc : ℕ) (stage : Stage) → is_store o ≡ false → HasOutcome image seen o pc stage → bytes_done stage ≡ None
@@ -110,3 +113,12 @@ store_unguessed (Performs insn) h = by_insn insn h
     by_insn (Branch condition rs1 rs2 offset) h = absurd cc
     by_insn insn h = refl
 store_unguessed (Stops why) h = refl
+
+-- so a store is never mispredicted
+pub store_predicted : (e : Entry) (step : Step) → is_store e.operation ≡ true → is_mispredicted e step ≡ false
+store_predicted e step h = let plain = store_unguessed e.operation h in rw plain refl
+
+-- what has read nothing is untouched
+pub none_touched : (b : Option Bytes) → touches b None ≡ false
+none_touched None = refl
+none_touched (Some b) = refl

@@ -7,7 +7,6 @@ pub mod Sound
 pub mod Retired
 pub mod Stamps
 pub mod Accesses
-pub mod Patient
 pub mod Loads
 pub mod Completed
 pub mod Cut

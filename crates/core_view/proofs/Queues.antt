@@ -14,11 +14,10 @@ use Rattle.core_view.specs.declared.entry.Entry.{Entry}
 use Rattle.core_view.specs.Operations.{is_load, is_store}
 use Rattle.core_view.specs.Outcomes.{Image}
 use Rattle.core_view.specs.Flight.{Seen, seen_after, pc_past, span_read, bytes_done, touches, before_touch, clean_length, HasOutcome, IsSound, IsGrowing}
-use Rattle.core_view.specs.Loads.{newest_sharing, is_clear, is_clear_waiting, seen_value, forwarded, is_done, waits}
-use Rattle.core_view.specs.Queues.{is_renamed, AllRenamed, StoreSlot, LoadSlot, stores_of, loads_of, sharing_in, is_pending_in, answer_in, answer_waiting_in, conflict_in, conflict_of, older, younger, cut_from}
-use Rattle.core_view.proofs.Accesses.{stage_span, stage_bytes}
+use Rattle.core_view.specs.Loads.{newest_sharing, is_clear, seen_value, forwarded}
+use Rattle.core_view.specs.Queues.{is_renamed, AllRenamed, StoreSlot, LoadSlot, stores_of, loads_of, sharing_in, answer_in, conflict_in, conflict_of, older, younger, cut_from}
+use Rattle.core_view.proofs.Accesses.{stage_span, stage_bytes, none_touched}
 use Rattle.core_view.proofs.Loads.{clear_value}
-use Rattle.core_view.proofs.Patient.{none_touched}
 
 -- ---- stamps and places
 
@@ -76,7 +75,7 @@ sharing_older image seen pc [] k s h = refl
 sharing_older image seen pc (e ∷ es) k s h = go (is_store e.operation && is_renamed e.stage) (nat_lt e.stamp k) refl refl (sharing_older image (seen_after seen e) e.followed es k s h.2)
   where
     slot : StoreSlot
-    slot = record { stamp = e.stamp; completed = is_done e.stage; bytes = bytes_done e.stage }
+    slot = record { stamp = e.stamp; bytes = bytes_done e.stage }
 
     go : (t u : Bool) → (is_store e.operation && is_renamed e.stage) ≡ t → nat_lt e.stamp k ≡ u → sharing_in (stores_of es) k s ≡ newest_sharing (older k es) s
         → sharing_in (cons_option (if t then Some slot else None) (stores_of es)) k s ≡ newest_sharing (cond u (e ∷ older k es) (older k es)) s
@@ -92,39 +91,6 @@ pub queue_sharing : (image : Image) (seen : Seen) (pc low : ℕ) (es : List Entr
     → sharing_in (stores_of es) (get_or es i d).stamp s ≡ newest_sharing (take i es) s
 queue_sharing image seen pc low es i d s lt g h = sharing_older image seen pc es (get_or es i d).stamp s h ∙ ap (λ fs. newest_sharing fs s) (older_take low es i d lt g)
 
-pending_none : (es : List Entry) (k low : ℕ) → k ≤ low → IsGrowing low es → is_pending_in (stores_of es) k ≡ false
-pending_none [] k low le g = refl
-pending_none (e ∷ es) k low le g = let from = g.0 in go (is_store e.operation && is_renamed e.stage) (pending_none es k (e.stamp + 1) (omega (arith, from)) g.1)
-  where
-    slot : StoreSlot
-    slot = record { stamp = e.stamp; completed = is_done e.stage; bytes = bytes_done e.stage }
-
-    go : (t : Bool) → is_pending_in (stores_of es) k ≡ false → is_pending_in (cons_option (if t then Some slot else None) (stores_of es)) k ≡ false
-    go true ih =
-        let from = g.0 in
-        let past : nat_lt e.stamp k ≡ false = le-ltb e.stamp k (omega (arith, from)) in
-        rw past ih
-    go false ih = ih
-
--- where all older entries are renamed, a load that waits in the flight waits for the store queue
-pub queue_pending : (low : ℕ) (es : List Entry) (i : ℕ) (d : Entry) → i < length es → IsGrowing low es → AllRenamed (take i es) → is_pending_in (stores_of es) (get_or es i d).stamp ≡ waits (take i es)
-queue_pending low [] i d lt g renamed = absurd (omega arith)
-queue_pending low (e ∷ es) zero d lt g renamed = pending_none (e ∷ es) e.stamp e.stamp (omega arith) (omega arith, g.1)
-queue_pending low (e ∷ es) (suc i) d lt g renamed = go (is_store e.operation) refl (queue_pending (e.stamp + 1) es i d (omega arith) g.1 renamed.1)
-  where
-    k : ℕ
-    k = (get_or es i d).stamp
-
-    slot : StoreSlot
-    slot = record { stamp = e.stamp; completed = is_done e.stage; bytes = bytes_done e.stage }
-
-    go : (t : Bool) → is_store e.operation ≡ t → is_pending_in (stores_of es) k ≡ waits (take i es) → is_pending_in (stores_of (e ∷ es)) k ≡ waits (e ∷ take i es)
-    go true is ih =
-        let held = renamed.0 in
-        let below : nat_lt e.stamp k ≡ true = lt-ltb e.stamp k (omega (arith, stamp_from (e.stamp + 1) es i d (omega arith) g.1)) in
-        rw (is, held, below) (ap (λ (t : Bool). not (is_done e.stage) || t) ih)
-    go false is ih = rw is ih
-
 -- so it answers a load exactly where it is clear, with the value that is seen
 pub queue_answer : (image : Image) (seen : Seen) (pc low : ℕ) (es : List Entry) (i : ℕ) (d : Entry) (s : Span) → i < length es → IsGrowing low es → IsSound image seen pc es
     → answer_in seen.bytes (stores_of es) (get_or es i d).stamp s ≡ (if is_clear (take i es) s then Some (seen_value seen.bytes (take i es) s) else None)
@@ -134,26 +100,14 @@ queue_answer image seen pc low es i d s lt g h = rw (queue_sharing image seen pc
     go true is = ap (λ (n : ℕ). Some n) (sym (clear_value seen (take i es) s is))
     go false is = refl
 
--- the same while loads wait for every older store
-pub queue_answer_waiting : (image : Image) (seen : Seen) (pc low : ℕ) (es : List Entry) (i : ℕ) (d : Entry) (s : Span) → i < length es → IsGrowing low es → AllRenamed (take i es) → IsSound image seen pc es
-    → answer_waiting_in seen.bytes (stores_of es) (get_or es i d).stamp s ≡ (if is_clear_waiting (take i es) s then Some (seen_value seen.bytes (take i es) s) else None)
-queue_answer_waiting image seen pc low es i d s lt g renamed h = rw (queue_pending low es i d lt g renamed, queue_answer image seen pc low es i d s lt g h) (go (waits (take i es)))
-  where
-    answer : Option ℕ
-    answer = if is_clear (take i es) s then Some (seen_value seen.bytes (take i es) s) else None
-
-    go : (t : Bool) → (if t then None else answer) ≡ (if (not t && is_clear (take i es) s) then Some (seen_value seen.bytes (take i es) s) else None)
-    go true = refl
-    go false = refl
-
 -- ---- the oldest conflict
 
 -- without a place among the loads nothing was read
 unplaced_span : (image : Image) (seen : Seen) (o : Operation) (pc : ℕ) (stage : Stage) → (is_load o && is_renamed stage) ≡ false → HasOutcome image seen o pc stage → span_read stage ≡ None
 unplaced_span image seen o pc Fetched h out = refl
 unplaced_span image seen o pc Queued h out = refl
-unplaced_span image seen o pc (Issued execution) h out = stage_span image seen o pc (Issued execution) h out
-unplaced_span image seen o pc (Done execution) h out = stage_span image seen o pc (Done execution) h out
+unplaced_span image seen o pc (Issued execution) h out = stage_span image seen o pc (Issued execution) (grind (arith, nat_tests, h)) out
+unplaced_span image seen o pc (Done execution) h out = stage_span image seen o pc (Done execution) (grind (arith, nat_tests, h)) out
 
 conflict_younger : (image : Image) (seen : Seen) (pc : ℕ) (es : List Entry) (k : ℕ) (b : Option Bytes) → IsSound image seen pc es → conflict_in (loads_of es) k b ≡ conflict_of (younger k es) b
 conflict_younger image seen pc [] k b h = refl

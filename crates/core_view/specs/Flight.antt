@@ -16,6 +16,13 @@ use Rattle.core_view.specs.Outcomes.{Image, bytes_written, span_of, outcome_in}
 
 -- ---- what a stage shows
 
+-- from the end of its execution on, with a stop or without
+abbrev pub is_done : Stage → Bool
+is_done Fetched = false
+is_done Queued = false
+is_done (Issued execution) = false
+is_done (Done execution) = true
+
 -- the result of an outcome: a stop gives none
 abbrev pub result_in : Outcome → Option ℕ
 result_in (Goes step) = Some step.result

@@ -1,18 +1,14 @@
 -- What a load sees of memory and of the older stores, byte by byte and store by store, and when it may issue.
-use Rattle.std.specs.Prelude.{◌≡◌, ℕ, ◌-◌, Bool, true, false, not, ◌&&◌, List, [], ◌∷◌, if◌then◌else◌, Option, Some, None}
+use Rattle.std.specs.Prelude.{ℕ, ◌-◌, Bool, true, List, [], ◌∷◌, if◌then◌else◌, Option, Some, None}
 use Rattle.std.specs.Option.{option_or, option_map_or}
-use Rattle.std.specs.List.{list_any}
 use Rattle.std.specs.Int.{byte_at as byte_of_number}
 use Rattle.hart_step.specs.declared.effect.Effect.{Effect}
 use Rattle.hart_step.specs.declared.effect.Effect.TheVariants.{Loads}
 use Rattle.hart_step.specs.Values.{load_bytes}
 use Rattle.core_view.specs.declared.span.Span.{Span}
 use Rattle.core_view.specs.declared.span.Bytes.{Bytes}
-use Rattle.core_view.specs.declared.entry.Stage.{Stage}
-use Rattle.core_view.specs.declared.entry.Stage.TheVariants.{Fetched, Queued, Issued, Done}
 use Rattle.core_view.specs.declared.entry.Entry.{Entry}
 use Rattle.core_view.specs.Spans.{contains, shares, covers, number_in, part_of}
-use Rattle.core_view.specs.Operations.{is_load, is_store}
 use Rattle.core_view.specs.Outcomes.{load_span}
 use Rattle.core_view.specs.Flight.{bytes_done}
 
@@ -81,48 +77,3 @@ number_answered memory es e = option_map_or (λ s. forwarded memory (newest_shar
 -- an effect may be issued after these entries: what is asked for is clear
 abbrev pub may_issue : List Entry → Effect → Bool
 may_issue es e = option_map_or (is_clear es) (span_asked e) true
-
--- ---- while loads wait for every older store
-
--- from the end of its execution on, with a stop or without
-abbrev pub is_done : Stage → Bool
-is_done Fetched = false
-is_done Queued = false
-is_done (Issued execution) = false
-is_done (Done execution) = true
-
--- from its issue on
-abbrev pub is_issued : Stage → Bool
-is_issued Fetched = false
-is_issued Queued = false
-is_issued (Issued execution) = true
-is_issued (Done execution) = true
-
--- a store that isn't done
-abbrev pub is_pending_store : Entry → Bool
-is_pending_store e = is_store e.operation && not (is_done e.stage)
-
--- a load after these entries waits: a store of them isn't done
-abbrev pub waits : List Entry → Bool
-waits es = list_any is_pending_store es
-
--- such a load is clear only where it doesn't wait
-abbrev pub is_clear_waiting : List Entry → Span → Bool
-is_clear_waiting es s = not (waits es) && is_clear es s
-
-abbrev pub may_issue_waiting : List Entry → Effect → Bool
-may_issue_waiting es e = option_map_or (is_clear_waiting es) (span_asked e) true
-
--- a load that has issued
-abbrev pub is_issued_load : Entry → Bool
-is_issued_load e = is_load e.operation && is_issued e.stage
-
--- none of these is one
-abbrev pub NoIssuedLoad : List Entry → Type 0
-NoIssuedLoad [] = Unit {0}
-NoIssuedLoad (e ∷ es) = (is_issued_load e ≡ false) × NoIssuedLoad es
-
--- no load has issued past a store that isn't done
-abbrev pub IsPatient : List Entry → Type 0
-IsPatient [] = Unit {0}
-IsPatient (e ∷ es) = (is_pending_store e ≡ true → NoIssuedLoad es) × IsPatient es

@@ -1,7 +1,6 @@
 -- What the load and store queues of a context hold of its flight, oldest first, and their answers by stamps.
-use Rattle.std.specs.Prelude.{◌≡◌, ℕ, Bool, true, false, not, ◌&&◌, nat_lt, List, [], ◌∷◌, if◌then◌else◌, Option, Some, None, option_map, filter, filter_map, find}
+use Rattle.std.specs.Prelude.{◌≡◌, ℕ, Bool, true, false, ◌&&◌, nat_lt, List, [], ◌∷◌, if◌then◌else◌, Option, Some, None, option_map, filter, filter_map, find}
 use Rattle.std.specs.Option.{option_or}
-use Rattle.std.specs.List.{list_any}
 use Rattle.core_view.specs.declared.span.Span.{Span}
 use Rattle.core_view.specs.declared.span.Bytes.{Bytes}
 use Rattle.core_view.specs.declared.entry.Stage.{Stage}
@@ -10,7 +9,7 @@ use Rattle.core_view.specs.declared.entry.Entry.{Entry}
 use Rattle.core_view.specs.Spans.{shares}
 use Rattle.core_view.specs.Operations.{is_load, is_store}
 use Rattle.core_view.specs.Flight.{bytes_done, span_read, touches}
-use Rattle.core_view.specs.Loads.{passing, answer_by, is_done}
+use Rattle.core_view.specs.Loads.{passing, answer_by}
 
 -- ---- what they hold
 
@@ -26,10 +25,9 @@ abbrev pub AllRenamed : List Entry → Type 0
 AllRenamed [] = Unit {0}
 AllRenamed (e ∷ es) = (is_renamed e.stage ≡ true) × AllRenamed es
 
--- a store: whether it has completed, and then its bytes unless it stops
+-- a store: its bytes, once it has completed without a stop
 pub record StoreSlot : Type 0 where
   pub stamp : ℕ
-  pub completed : Bool
   pub bytes : Option Bytes
 
 -- a load: the span that it read, from its issue on, unless it stops
@@ -38,7 +36,7 @@ pub record LoadSlot : Type 0 where
   pub span : Option Span
 
 abbrev pub store_slot : Entry → Option StoreSlot
-store_slot e = if is_store e.operation && is_renamed e.stage then Some (record { stamp = e.stamp; completed = is_done e.stage; bytes = bytes_done e.stage }) else None
+store_slot e = if is_store e.operation && is_renamed e.stage then Some (record { stamp = e.stamp; bytes = bytes_done e.stage }) else None
 
 abbrev pub load_slot : Entry → Option LoadSlot
 load_slot e = if is_load e.operation && is_renamed e.stage then Some (record { stamp = e.stamp; span = span_read e.stage }) else None
@@ -56,17 +54,9 @@ abbrev pub sharing_in : List StoreSlot → ℕ → Span → Option Bytes
 sharing_in [] k s = None
 sharing_in (q ∷ qs) k s = option_or (sharing_in qs k s) (if nat_lt q.stamp k then passing (λ b. shares b.span s) q.bytes else None)
 
--- a store older than a stamp has not completed
-abbrev pub is_pending_in : List StoreSlot → ℕ → Bool
-is_pending_in qs k = list_any (λ q. nat_lt q.stamp k && not q.completed) qs
-
 -- the number for a load with a stamp, or None where it waits
 abbrev pub answer_in : (ℕ → ℕ) → List StoreSlot → ℕ → Span → Option ℕ
 answer_in memory qs k s = answer_by memory (sharing_in qs k s) s
-
--- the same while loads wait for every older store
-abbrev pub answer_waiting_in : (ℕ → ℕ) → List StoreSlot → ℕ → Span → Option ℕ
-answer_waiting_in memory qs k s = if is_pending_in qs k then None else answer_in memory qs k s
 
 -- ---- conflicts
 

@@ -4,6 +4,7 @@ use Rattle.paged_memory.specs.Cells.{Rights}
 use Rattle.hart_step.specs.declared.stop.Stop.TheVariants as stop
 use Rattle.hart_step.specs.State.{State}
 use Rattle.hart_step.specs.Next.{next, after}
+use Rattle.core_profile.specs.declared.profile.Profile.{Profile}
 use Rattle.core_view.specs.declared.operation.Operation.TheVariants as operation
 use Rattle.core_view.specs.declared.entry.Stage.TheVariants.{Fetched}
 use Rattle.core_view.specs.declared.entry.Entry.{Entry}
@@ -20,8 +21,9 @@ pub record Context : Type 0 where
   pub state : State
   pub flight : List Entry
 
--- the cycle that comes, the stamp of the next entry, and the contexts
+-- the core's parameters, the cycle that comes, the stamp of the next entry, and the contexts
 pub record View : Type 0 where
+  pub profile : Profile
   pub cycle : ℕ
   pub stamp : ℕ
   pub contexts : List Context

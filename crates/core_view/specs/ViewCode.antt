@@ -3,6 +3,8 @@ use Rattle.std.specs.Prelude.{ℕ, List, refl}
 use Rattle.std.specs.Coded.{Coded, code_by, coded×, coded_ℕ, coded_list}
 use Rattle.hart_step.specs.State.{State}
 use Rattle.hart_step.specs.StateCode.{coded_state}
+use Rattle.core_profile.specs.declared.profile.Profile.{Profile}
+use Rattle.core_profile.specs.contracts.profile.Profile.{the_row as profile_row}
 use Rattle.core_view.specs.declared.entry.Entry.{Entry}
 use Rattle.core_view.specs.declared.status.Status.{Status}
 use Rattle.core_view.specs.contracts.entry.Entry.{the_row as entry_row}
@@ -18,5 +20,5 @@ coded_context =
 -- so is a view
 abbrev pub coded_view : Coded View
 coded_view =
-    code_by (ℕ × (ℕ × List Context)) (coded× coded_ℕ (coded× coded_ℕ (coded_list coded_context)))
-    (λ v. (v.cycle, (v.stamp, v.contexts))) (λ p. record { cycle = p.0; stamp = p.1.0; contexts = p.1.1 }) (λ _. refl)
+    code_by (Profile × (ℕ × (ℕ × List Context))) (coded× profile_row.coded (coded× coded_ℕ (coded× coded_ℕ (coded_list coded_context))))
+    (λ v. (v.profile, (v.cycle, (v.stamp, v.contexts)))) (λ p. record { profile = p.0; cycle = p.1.0; stamp = p.1.1.0; contexts = p.1.1.1 }) (λ _. refl)

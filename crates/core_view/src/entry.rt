@@ -1,7 +1,7 @@
 // Entries in flight.
 ghost use Rattle.std.specs.Prelude.{◌≡◌};
 ghost use Rattle.core_view.specs.Flight.{result_of, bytes_done, span_read};
-ghost use Rattle.core_view.specs.Loads.{is_done as is_done_of};
+ghost use Rattle.core_view.specs.Flight.{is_done as is_done_of};
 ghost use Rattle.core_view.specs.Events.{due_at, is_mispredicted as is_mispredicted_of, fetched_entry, renamed_stage, with_stage, completed_entry};
 ghost use Rattle.core_view.specs.declared.entry.Stage.TheVariants.{Issued};
 

@@ -3,14 +3,13 @@ use Rattle.std.proofs.Common.{◌≡◌, ℕ, zero, suc, ◌-◌, ◌<◌, ◌�
 use Rattle.std.specs.Prelude.{nat_lt, not, if◌then◌else◌, option_map, find}
 use Rattle.std.specs.Option.{option_or}
 use Rattle.std.proofs.lemmas.Bool.{cases_eq, lt-ltb, le-ltb, and_right}
-use Rattle.std.proofs.lemmas.List.Folds.{list_any_at}
 use Rattle.std.proofs.lemmas.Option.{get_or_from_slice_get, slice_get_within}
 use Rattle.core_view.specs.declared.span.Span.{Span}
 use Rattle.core_view.specs.declared.span.Bytes.{Bytes}
 use Rattle.core_view.specs.Flight.{touches}
 use Rattle.core_view.specs.Loads.{passing}
 use Rattle.core_view.specs.Spans.{shares}
-use Rattle.core_view.specs.Queues.{LoadSlot, StoreSlot, conflict_in, is_pending_in, sharing_in}
+use Rattle.core_view.specs.Queues.{LoadSlot, StoreSlot, conflict_in, sharing_in}
 use Rattle.reorder_buffer.specs.Growing.{IsGrowing}
 use Rattle.load_store_queue.specs.Queues.{load_stamp}
 use Rattle.load_store_queue.proofs.Ends.{drop_before}
@@ -61,17 +60,12 @@ conflict_found xs p q k b growing some read older = ap (option_map (λ l. l.stam
 
 -- ---- stores
 
--- one more store, which holds nothing up
-pub pending_more : (xs : List StoreSlot) (p : ℕ) (q : StoreSlot) (k : ℕ) → 0 < p → slice_get xs (p - 1) ≡ Some q → false ≡ (nat_lt q.stamp k && not q.completed)
-    → is_pending_in (drop p xs) k ≡ false → is_pending_in (drop (p - 1) xs) k ≡ false
-pending_more xs p q k some read clear rest = rw (drop_before xs p q some read, ← clear) rest
-
 pub sharing_more : (xs : List StoreSlot) (p : ℕ) (q : StoreSlot) (k : ℕ) (s : Span) → 0 < p → slice_get xs (p - 1) ≡ Some q
     → sharing_in (drop (p - 1) xs) k s ≡ option_or (sharing_in (drop p xs) k s) (if nat_lt q.stamp k then passing (λ b. shares b.span s) q.bytes else None)
 sharing_more xs p q k s some read = rw (drop_before xs p q some read) refl
 
--- a store that holds the load up
-pub pending_found : (xs : List StoreSlot) (i : ℕ) (q : StoreSlot) (k : ℕ) → slice_get xs i ≡ Some q → true ≡ (nat_lt q.stamp k && not q.completed) → is_pending_in xs k ≡ true
-pending_found xs i q k read holds =
-    let is : get_or xs i q ≡ q = get_or_from_slice_get xs i q q read in
-    list_any_at (λ l. nat_lt l.stamp k && not l.completed) xs i q (slice_get_within xs i q read) (rw is (sym holds))
+-- what the younger stores answer, all of them answer
+pub sharing_found : (xs : List StoreSlot) (p k : ℕ) (s : Span) (b : Bytes) → sharing_in (drop p xs) k s ≡ Some b → sharing_in xs k s ≡ Some b
+sharing_found xs zero k s b found = found
+sharing_found [] (suc p) k s b found = found
+sharing_found (x ∷ xs) (suc p) k s b found = rw (sharing_found xs p k s b found) refl

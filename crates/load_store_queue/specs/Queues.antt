@@ -1,5 +1,5 @@
 -- The loads and stores in flight of one context, oldest first.
-use Rattle.std.specs.Prelude.{ℕ, true, ◌==◌, if◌then◌else◌, List, [], Option}
+use Rattle.std.specs.Prelude.{ℕ, ◌==◌, if◌then◌else◌, List, [], Option}
 use Rattle.core_view.specs.declared.span.Span.{Span}
 use Rattle.core_view.specs.declared.span.Bytes.{Bytes}
 use Rattle.core_view.specs.Queues.{LoadSlot, StoreSlot}
@@ -27,5 +27,5 @@ abbrev pub with_span : ℕ → Option Span → LoadSlot → LoadSlot
 with_span k span q = if q.stamp == k then record { stamp = k; span = span } else q
 
 -- the store with a stamp has completed with these bytes; None where it stops
-abbrev pub completed_slot : ℕ → Option Bytes → StoreSlot → StoreSlot
-completed_slot k bytes q = if q.stamp == k then record { stamp = k; completed = true; bytes = bytes } else q
+abbrev pub slot_with_bytes : ℕ → Option Bytes → StoreSlot → StoreSlot
+slot_with_bytes k bytes q = if q.stamp == k then record { stamp = k; bytes = bytes } else q

@@ -8,6 +8,6 @@ pub enum LoadAnswer {
         /// The number.
         value: u64,
     },
-    /// It has to ask again: an older store has not completed, or has only some of its bytes.
+    /// It has to ask again: an older store has completed that has only some of its bytes.
     Wait,
 }

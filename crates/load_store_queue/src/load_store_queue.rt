@@ -4,8 +4,8 @@ ghost use Rattle.std.specs.Prelude.{◌≡◌, ◌↔◌, ◌<◌, ◌≤◌, []
 ghost use Rattle.reorder_buffer.specs.Growing.{IsGrowing, below};
 ghost use Rattle.paged_memory.specs.Cells.{byte_at, bytes_of, load_of, IsByteMap};
 ghost use Rattle.core_view.specs.Outcomes.{load_span};
-ghost use Rattle.core_view.specs.Queues.{answer_waiting_in, conflict_in, is_pending_in, sharing_in};
-ghost use Rattle.load_store_queue.specs.Queues.{empty_queues, load_stamp, store_stamp, with_span, completed_slot};
+ghost use Rattle.core_view.specs.Queues.{answer_in, conflict_in, sharing_in};
+ghost use Rattle.load_store_queue.specs.Queues.{empty_queues, load_stamp, store_stamp, with_span, slot_with_bytes};
 ghost use Rattle.load_store_queue.specs.Replaced.{without_oldest};
 ghost use Rattle.load_store_queue.specs.Answered.{number_answered, bytes_read};
 
@@ -107,12 +107,11 @@ impl<A: Allocator> LoadStoreQueue<A> {
     pub fn place_store(&mut self, stamp: u64) -> Result<(), QueueFault>
         requires { All (λ q. q.stamp < stamp) self.old.stores }
         ensures variant { IsOk result ↔ (length self.old.stores < self.old.store_places) }
-        ensures ok { OnOk result (self.new ≡ record self.old { stores = self.old.stores ++ record { stamp = stamp; completed = false; bytes = None } ∷ [] }) }
+        ensures ok { OnOk result (self.new ≡ record self.old { stores = self.old.stores ++ record { stamp = stamp; bytes = None } ∷ [] }) }
         ensures err { OnErr result ((result ≡ Err QueueFault.Full) × (self.new ≡ self.old)) }
     {
         match self.stores.push(StorePlace {
             stamp,
-            completed: false,
             bytes: None,
         }) {
             Ok(()) => Ok(()),
@@ -130,38 +129,29 @@ impl<A: Allocator> LoadStoreQueue<A> {
     /// The store with a stamp completes, with its bytes unless it stops. Gives the stamp of the oldest issued younger
     /// load that shares a byte with it.
     pub fn resolve_store(&mut self, stamp: u64, bytes: Option<Bytes>) -> Option<u64>
-        ensures completed { self.new ≡ record self.old { stores = map (completed_slot stamp bytes) self.old.stores } }
+        ensures completed { self.new ≡ record self.old { stores = map (slot_with_bytes stamp bytes) self.old.stores } }
         ensures conflict { result ≡ conflict_in self.old.loads stamp bytes }
     {
-        ring::replace(
-            &mut self.stores,
-            StorePlace {
-                stamp,
-                completed: true,
-                bytes,
-            },
-        );
+        ring::replace(&mut self.stores, StorePlace { stamp, bytes });
         let Some(stored) = bytes else {
             return None;
         };
         conflict(&self.loads, stamp, stored)
     }
 
-    /// What answers a load with a stamp that asks for a width at an address: the newest older store that shares a
-    /// byte with it, where that covers it, or memory where there is none. It waits for each older store to complete.
+    /// What answers a load with a stamp that asks for a width at an address: the newest older store that has completed
+    /// and shares a byte with it, where that covers it, or memory where there is none. A store that hasn't completed
+    /// is passed.
     #[inline]
     pub fn ask_load(&self, memory: &Memory<A>, stamp: u64, address: u64, width: Width) -> LoadAnswer
-        ensures answer { number_answered result ≡ answer_waiting_in (bytes_read memory.now (load_of memory.now address (bytes_of width))) self.now.stores stamp (load_span address (bytes_of width)) }
+        ensures answer { number_answered result ≡ answer_in (bytes_read memory.now (load_of memory.now address (bytes_of width))) self.now.stores stamp (load_span address (bytes_of width)) }
         ensures loaded { IsOk (load_of memory.now address (bytes_of width)) →
-            number_answered result ≡ answer_waiting_in (byte_at memory.now) self.now.stores stamp (load_span address (bytes_of width)) }
+            number_answered result ≡ answer_in (byte_at memory.now) self.now.stores stamp (load_span address (bytes_of width)) }
         ensures exact { IsByteMap memory.now →
-            number_answered result ≡ answer_waiting_in (byte_at memory.now) self.now.stores stamp (load_span address (bytes_of width)) }
+            number_answered result ≡ answer_in (byte_at memory.now) self.now.stores stamp (load_span address (bytes_of width)) }
     {
         let span = span_of(address, width);
-        let Some(newest) = newest_sharing(&self.stores, stamp, span) else {
-            return LoadAnswer::Wait;
-        };
-        let Some(store) = newest else {
+        let Some(store) = newest_sharing(&self.stores, stamp, span) else {
             return LoadAnswer::Ready {
                 value: number(memory, address, width),
             };
@@ -216,24 +206,23 @@ fn conflict<A: Allocator>(loads: &Ring<LoadPlace, A>, stamp: u64, bytes: Bytes) 
     oldest
 }
 
-/// The newest store that is older than a load and shares a byte with its span, or no answer while one of the older
-/// stores has not completed.
+/// The newest completed store that is older than a load and shares a byte with its span. No store that is older than
+/// it is looked at.
 fn newest_sharing<A: Allocator>(
     stores: &Ring<StorePlace, A>,
     stamp: u64,
     span: Span,
-) -> Option<Option<Bytes>>
-    ensures { result ≡ (if is_pending_in stores.now.items stamp then None else Some (sharing_in stores.now.items stamp span)) }
+) -> Option<Bytes>
+    ensures { result ≡ sharing_in stores.now.items stamp span }
 {
-    let mut newest = None;
     let mut place = stores.len();
     while place > 0 {
         place -= 1;
         let store = stores.get(place).unwrap();
-        if store.holds_up(stamp) {
-            return None;
+        match store.shared_with(stamp, span) {
+            Some(bytes) => return Some(bytes),
+            None => {}
         }
-        newest = newest.or(store.shared_with(stamp, span));
     }
-    Some(newest)
+    None
 }

@@ -1,6 +1,6 @@
 //! The places of loads and stores.
 
-ghost use Rattle.std.specs.Prelude.{◌≡◌, ◌&&◌, not, nat_lt, Some, None, if◌then◌else◌};
+ghost use Rattle.std.specs.Prelude.{◌≡◌, nat_lt, Some, None, if◌then◌else◌};
 ghost use Rattle.core_view.specs.Spans.{shares};
 ghost use Rattle.core_view.specs.Flight.{touches};
 ghost use Rattle.core_view.specs.Loads.{passing};
@@ -61,8 +61,6 @@ impl LoadPlace {
 pub(crate) struct StorePlace {
     /// Its stamp.
     pub stamp: u64,
-    /// Whether it has completed.
-    pub completed: bool,
     /// Its bytes, once it has completed, unless it stops.
     pub bytes: Option<Bytes>,
 }
@@ -72,9 +70,9 @@ impl Model for StorePlace {
 
     ghost Value = { StoreSlot };
 
-    ghost view = { λ p. record { stamp = p.stamp; completed = p.completed; bytes = p.bytes } };
+    ghost view = { λ p. record { stamp = p.stamp; bytes = p.bytes } };
 
-    ghost inverse = { λ q. record { stamp = q.stamp; completed = q.completed; bytes = q.bytes } };
+    ghost inverse = { λ q. record { stamp = q.stamp; bytes = q.bytes } };
 }
 
 impl Stamped for StorePlace {
@@ -87,14 +85,6 @@ impl Stamped for StorePlace {
 }
 
 impl StorePlace {
-    /// Whether a load with this stamp has to wait for it.
-    #[inline]
-    pub fn holds_up(&self, stamp: u64) -> bool
-        ensures { result ≡ (nat_lt self.now.stamp stamp && not self.now.completed) }
-    {
-        self.stamp < stamp && !self.completed
-    }
-
     /// Its bytes, where it is older than a load and shares a byte with its span.
     #[inline]
     pub fn shared_with(&self, stamp: u64, span: Span) -> Option<Bytes>

@@ -5,13 +5,13 @@ use Rattle.core_back.proofs.Starts.{first_lanes_none, first_lanes_more, next_lan
 use Rattle.core_back.proofs.first.first_flow.Goals as goal
 
 pub loop-number-init : goal.loop-number-init
-loop-number-init g c = subst (λ (f : Flow). AreFirstLanes c.args.marks.now c.args.sizes.reorder 0 f) (sym c.in_ok-flow.ensures) (first_lanes_none c.args.marks.now c.args.sizes.extra c.args.sizes.reorder c.args.sizes.places)
+loop-number-init g c = subst (λ (f : Flow). AreFirstLanes c.args.profile.now c.args.marks.now 0 f) (sym c.in_ok-flow.ensures) (first_lanes_none c.args.profile.now c.args.marks.now c.from.result c.from-2.result c.from-3.result c.from.ensures c.from-2.ensures c.from-3.ensures)
 
 pub set_registers-requires : goal.set_registers-requires
 set_registers-requires g c =
     let number : c.unwrap-context.result ≡ c.loop-number.number = search rules in
     let count = c.loop-number.invariant.count in
-    let next = next_lane c.args.marks.now c.args.sizes.reorder c.loop-number.number c.unwrap-context.result c.loop-number.flow c.loop-number-test.true c.loop-number.invariant number in
+    let next = next_lane c.args.profile.now c.args.marks.now c.loop-number.number c.unwrap-context.result c.loop-number.flow c.loop-number-test.true c.loop-number.invariant number in
     record {
       context = omega (arith, number, count, c.loop-number-test.true);
       count = ap (λ (l : Lane). length l.registers) next;
@@ -21,10 +21,10 @@ set_registers-requires g c =
 pub loop-number-preserved : goal.loop-number-preserved
 loop-number-preserved g c =
     let number : c.unwrap-context.result ≡ c.loop-number.number = search rules in
-    first_lanes_more c.args.marks.now c.args.sizes.reorder c.loop-number.number c.unwrap-context.result c.loop-number.flow c.set_registers.new.flow c.place-mark.result.now c.state-hart.result.now c.regs.result.now
+    first_lanes_more c.args.profile.now c.args.marks.now c.loop-number.number c.unwrap-context.result c.loop-number.flow c.set_registers.new.flow c.place-mark.result.now c.state-hart.result.now c.regs.result.now
     c.loop-number-test.true c.loop-number.invariant number c.place-mark.ensures c.state-hart.ensures c.regs.ensures.same c.set_registers.ensures
 
 pub returns : goal.returns
 returns g c =
     let all : c.loop-number.number ≡ 8 = omega arith in
-    subst (λ (n : ℕ). AreFirstLanes c.args.marks.now c.args.sizes.reorder n c.loop-number.flow) all c.loop-number.invariant
+    subst (λ (n : ℕ). AreFirstLanes c.args.profile.now c.args.marks.now n c.loop-number.flow) all c.loop-number.invariant

@@ -1,12 +1,11 @@
-use Rattle.std.proofs.Common.{◌≡◌, ◌≤◌, length, drop, false}
-use Rattle.core_view.specs.Queues.{is_pending_in, sharing_in}
+use Rattle.std.proofs.Common.{◌≡◌, ◌≤◌, length, drop, None}
+use Rattle.core_view.specs.Queues.{sharing_in}
 use Rattle.load_store_queue.proofs.load_store_queue.newest_sharing.Given as goal
 
 abbrev pub invariant-loop-place : goal.invariant-loop-place
 invariant-loop-place g l = record {
   within : l.place ≤ length l.stores.items;
-  completed : is_pending_in (drop l.place l.stores.items) l.stamp ≡ false;
-  past : l.newest ≡ sharing_in (drop l.place l.stores.items) l.stamp l.span;
+  past : sharing_in (drop l.place l.stores.items) l.stamp l.span ≡ None;
 }
 
 abbrev pub decreases-loop-place : goal.decreases-loop-place

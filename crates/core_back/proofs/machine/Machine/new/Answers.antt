@@ -1,10 +1,11 @@
-use Rattle.std.proofs.Common.{rules, arith, refl, sym, subst, ◌≡◌, [], ◌+◌, List, get_or, slice_index, ◌∙◌, All, false}
+use Rattle.std.proofs.Common.{rules, arith, refl, sym, ap, subst, ◌≡◌, [], ◌+◌, List, get_or, slice_index, ◌∙◌, All, false}
 use Rattle.std.specs.Prelude.{AllPairs}
 use Rattle.std.specs.Arc.{arc_value}
 use Rattle.join_law.specs.Eight.{place_of}
 use Rattle.core_view.specs.declared.note.EntryId.{EntryId}
 use Rattle.data_flow.specs.Flow.{waits_in}
 use Rattle.core_back.specs.Issuable.{IsClear}
+use Rattle.core_back.specs.Track.{Track}
 use Rattle.core_back.specs.Machine.{no_track}
 use Rattle.core_back.specs.Shown.{AreApart, IsSuppliedIn}
 use Rattle.core_back.proofs.Starts.{first_core, mark_of_first, origin_of_first, first_context_at, count_of_tracks}
@@ -15,7 +16,7 @@ invariant_of-result g c =
     let empty : c.new.result.items ≡ [] = search rules in
     let origin : arc_value c.in_ok-origins.origins.c0 ≡ c.args.marks.now.c0.origin = c.in_ok-origins.ensures 0 (omega arith) in
     record {
-      cores = λ d lt. first_core (arc_value c.in_ok-origins.origins.c0) d (slice_index c.args.targets.now d) c.args.sizes.reorder (place_of c.args.marks.now d) c.in_ok-flow.flow c.new.result.items (get_or c.in_ok-tracks.tracks.items d no_track)
+      cores = λ d lt. first_core c.args.profile.now (arc_value c.in_ok-origins.origins.c0) d (slice_index c.args.targets.now d) (place_of c.args.marks.now d) c.in_ok-flow.flow c.new.result.items (get_or c.in_ok-tracks.tracks.items d no_track)
           (mark_of_first (arc_value c.in_ok-origins.origins.c0) c.args.marks.now d c.requires.aligned origin lt) (c.requires.targets d lt) c.in_ok-flow.ensures.waiters empty (c.in_ok-flow.ensures.set d lt) (c.in_ok-tracks.ensures.each d lt);
       origins = λ d lt. origin_of_first (arc_value c.in_ok-origins.origins.c0) (arc_value (place_of c.in_ok-origins.origins d)) c.args.marks.now d c.requires.aligned origin lt (c.in_ok-origins.ensures d lt);
       tracks = c.in_ok-tracks.ensures.count;
@@ -25,17 +26,23 @@ invariant_of-result g c =
       clear = subst (λ (ns : List EntryId). All (λ n. IsClear c.in_ok-flow.flow n.context (get_or c.in_ok-tracks.tracks.items n.context no_track) n.stamp) ns) (sym empty) (λ i d lt. absurd (omega arith));
       left = subst (λ (ns : List EntryId). All (λ n. waits_in c.in_ok-flow.flow n.context n.stamp ≡ false) ns) (sym empty) (search rules);
       stamps = omega arith;
-      bounded = c.requires.sizes.reorder_high;
+      bounded = search rules;
+      room = record {
+        registers = c.in_ok-flow.ensures.extra;
+        waiters = c.in_ok-flow.ensures.places;
+        loads = λ d lt. ap (λ (t : Track). t.load_places) (c.in_ok-tracks.ensures.each d lt).first;
+        stores = λ d lt. ap (λ (t : Track). t.store_places) (c.in_ok-tracks.ensures.each d lt).first;
+      };
     }
 
 pub returns : goal.returns
 returns g c = record {
   origin = c.in_ok-origins.ensures 0 (omega arith);
+  profile_is = refl;
   cycle = refl;
   stamp = refl;
   names = search rules;
   fetch_room = refl;
-  reorder_is = refl;
   count = count_of_tracks c.in_ok-tracks.tracks.items ∙ c.in_ok-tracks.ensures.count;
-  contexts = λ d lt. first_context_at (place_of c.args.marks.now d) (slice_index c.args.targets.now d) (c.args.sizes.reorder + 16) c.in_ok-tracks.tracks.items d (c.in_ok-tracks.ensures.each d lt);
+  contexts = λ d lt. first_context_at c.args.profile.now (place_of c.args.marks.now d) (slice_index c.args.targets.now d) c.in_ok-tracks.tracks.items d (c.in_ok-tracks.ensures.each d lt);
 }

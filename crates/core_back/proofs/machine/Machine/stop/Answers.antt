@@ -8,7 +8,7 @@ use Rattle.origin_set.specs.Start.{start}
 use Rattle.data_flow.specs.Flow.{cut_flow}
 use Rattle.core_back.specs.Track.{Track}
 use Rattle.core_back.specs.Machine.{context_at, first_done}
-use Rattle.core_back.proofs.Others.{cut_flow_left, count-cut_flow}
+use Rattle.core_back.proofs.Others.{cut_flow_left, sizes-cut_flow}
 use Rattle.core_back.proofs.Retires.{is_first_done, stop_core}
 use Rattle.core_back.proofs.InFlight.{in_flight_after}
 use Rattle.core_back.proofs.Machines.{at_context, idle_core, machine_after, shown_after}
@@ -18,10 +18,10 @@ pub invariant_of-self : goal.invariant_of-self
 invariant_of-self g c =
     let h = at_context c.self.inside c.args.self.now c.args.context c.index.result c.index_mut-track.result.now c.self.view_is c.self.invariant (omega (arith, c.index.ensures)) c.index.ensures.value c.index_mut-track.ensures.value in
     let d = is_first_done c.index_mut-track.result.now.context.flight (Stops c.args.why) (ap (λ (x : Context). first_done x.flight) h.context ∙ c.requires.done) in
-    let core = stop_core (start (arc_value c.self.inside.origins.c0) c.args.context) c.self.inside.stamp c.self.inside.reorder c.self.inside.flow c.args.context c.index_mut-track.result.now d.execution c.args.why h.in_lanes
+    let core = stop_core (start (arc_value c.self.inside.origins.c0) c.args.context) c.self.inside.stamp c.self.inside.profile.reorder_buffer c.self.inside.flow c.args.context c.index_mut-track.result.now d.execution c.args.why h.in_lanes
     (idle_core c.self.inside c.args.self.now c.args.context c.index_mut-track.result.now c.self.view_is c.requires.idle h) d.some d.stage d.outcome in
     machine_after c.self.inside _ c.args.self.now c.args.context c.index.result _ (cut_flow c.self.inside.flow c.args.context 0) c.self.view_is c.self.invariant c.requires.idle (omega (arith, c.index.ensures))
-    core (λ e other. cut_flow_left c.self.inside.flow c.args.context e 0 other) (count-cut_flow c.self.inside.flow c.args.context 0)
+    core (λ e other. cut_flow_left c.self.inside.flow c.args.context e 0 other) (sizes-cut_flow c.self.inside.flow c.args.context 0) (ap (λ (t : Track). t.load_places) h.track) (ap (λ (t : Track). t.store_places) h.track)
     c.index.ensures.value refl c.stop.ensures.flow (ap (set c.self.inside.tracks.items c.index.result) c.stop.ensures.track) refl refl refl refl refl
 
 pub returns-clause-stopped : goal.returns-clause-stopped

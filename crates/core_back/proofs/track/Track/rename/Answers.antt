@@ -51,12 +51,12 @@ invariant_of-self-then-is_store g c =
     let store : is_store c.unwrap.result.now.operation ≡ true = sym c.is_store.ensures ∙ c.if-is_store.true in
     let items : c.set.new.self.items ≡ set c.self.inside.flight.items c.self.inside.renamed (with_stage c.unwrap.result.now (renamed_stage c.args.cycle c.unwrap.result.now.operation)) =
     ap (λ (b : Buffer Entry). b.items) c.set.ensures.set ∙ ap (λ (e : Entry). set c.self.inside.flight.items c.self.inside.renamed e) c.renamed.ensures in
-    let placed : c.place_store-placed.new.self ≡ record c.self.inside.queue { stores = c.self.inside.queue.stores ++ record { stamp = c.unwrap.result.now.stamp; completed = false; bytes = None } ∷ [] } =
+    let placed : c.place_store-placed.new.self ≡ record c.self.inside.queue { stores = c.self.inside.queue.stores ++ record { stamp = c.unwrap.result.now.stamp; bytes = None } ∷ [] } =
     push_is c.place_store-placed.result _ (length c.self.inside.queue.stores) c.self.inside.queue.store_places c.place_store-placed.ensures.variant c.place_store-placed.ensures.ok (room store) in (
       c.self.invariant.0,
       omega (arith, slice_get_within c.self.inside.flight.items c.self.inside.renamed c.unwrap.result.now read, ap (λ (es : List Entry). length es) items, length-set c.self.inside.flight.items c.self.inside.renamed (with_stage c.unwrap.result.now (renamed_stage c.args.cycle c.unwrap.result.now.operation))),
       ap (λ (q : Queues). q.loads) placed ∙ c.self.invariant.2 ∙ sym (loads_rename_other c.self.inside.flight.items c.self.inside.renamed c.unwrap.result.now read c.args.cycle other) ∙ sym (ap (λ (es : List Entry). loads_of es) items),
-      ap (λ (q : Queues). q.stores) placed ∙ ap (λ (qs : List StoreSlot). qs ++ record { stamp = c.unwrap.result.now.stamp; completed = false; bytes = None } ∷ []) c.self.invariant.3
+      ap (λ (q : Queues). q.stores) placed ∙ ap (λ (qs : List StoreSlot). qs ++ record { stamp = c.unwrap.result.now.stamp; bytes = None } ∷ []) c.self.invariant.3
           ∙ sym (stores_rename c.self.inside.flight.items c.self.inside.renamed c.unwrap.result.now read c.args.cycle store fetched) ∙ sym (ap (λ (es : List Entry). stores_of es) items),
     )
 
@@ -87,7 +87,7 @@ returns-then-is_store g c =
     let read : slice_get c.self.inside.flight.items c.self.inside.renamed ≡ Some c.unwrap.result.now = search rules in
     let room = rw (← c.self.view_is, get_or_from_slice_get c.self.inside.flight.items c.self.inside.renamed c.unwrap.result.now no_entry read, ← c.self.invariant.3) at c.requires.store in
     let store : is_store c.unwrap.result.now.operation ≡ true = sym c.is_store.ensures ∙ c.if-is_store.true in
-    let placed : c.place_store-placed.new.self ≡ record c.self.inside.queue { stores = c.self.inside.queue.stores ++ record { stamp = c.unwrap.result.now.stamp; completed = false; bytes = None } ∷ [] } =
+    let placed : c.place_store-placed.new.self ≡ record c.self.inside.queue { stores = c.self.inside.queue.stores ++ record { stamp = c.unwrap.result.now.stamp; bytes = None } ∷ [] } =
     push_is c.place_store-placed.result _ (length c.self.inside.queue.stores) c.self.inside.queue.store_places c.place_store-placed.ensures.variant c.place_store-placed.ensures.ok (room store) in
     rw (← c.self.view_is, placed, c.set.ensures.set, c.renamed.ensures, get_or_from_slice_get c.self.inside.flight.items c.self.inside.renamed c.unwrap.result.now no_entry read) refl
 
