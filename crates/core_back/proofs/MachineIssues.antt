@@ -149,7 +149,6 @@ module _ {A : Type 0} where
         clear = rw (selected, flow, tracks) (λ j d below. issued_clear_in m.flow m.tracks.items n.context t i x (get_or rest j d) h.shown.in_tracks h.shown.track stage (clear (suc j) d (omega (arith, below))));
         left = rw (selected, flow) (λ i d below. left (suc i) d (omega (arith, below)));
         stamps = rw (stamp, room, cycle) ok.stamps;
-        bounded = rw profile ok.bounded;
         room = rw (profile, flow, tracks) (room_after m.profile m.flow m.flow m.tracks.items n.context u ok.room h.shown.in_tracks refl refl (ap (λ (s : Track). s.load_places) h.shown.track) (ap (λ (s : Track). s.store_places) h.shown.track));
       }
 
@@ -268,7 +267,6 @@ module _ {A : Type 0} where
         clear = rw (selected, tracks_m) clear;
         left = rw selected (select_idle h.flow w.flow s);
         stamps = rw (stamp_m, room ∙ so_far.room, cycle ∙ so_far.cycle) ok.stamps;
-        bounded = rw profile_m ok.bounded;
         room = rw (profile_m, tracks_m) (record {
           registers = ap (λ (f : Flow). f.extra) same ∙ ap (λ (f : Flow). f.extra) so_far.flow.flow ∙ ok.room.registers;
           waiters = ap (λ (f : Flow). f.places) same ∙ ap (λ (f : Flow). f.places) so_far.flow.flow ∙ ok.room.waiters;

@@ -107,7 +107,6 @@ module _ {A : Type 0} where
         clear = rw (names, none) (λ k d over. absurd (omega (arith, over)));
         left = rw (names, none) (λ k d over. absurd (omega (arith, over)));
         stamps = rw (stamp, room, cycle) ok.stamps;
-        bounded = rw profile ok.bounded;
         room = rw (profile, flow, tracks) (room_after m.profile m.flow g m.tracks.items c u ok.room (omega (arith, lt, ok.tracks)) sizes.extra sizes.places loads stores);
       }
 
@@ -146,7 +145,6 @@ module _ {A : Type 0} where
         clear = rw (names, none) (λ k d over. absurd (omega (arith, over)));
         left = rw (names, none) (λ k d over. absurd (omega (arith, over)));
         stamps = rw cycle (omega (arith, stamps, stamp, room));
-        bounded = rw profile ok.bounded;
         room = rw (profile, flow, tracks) (room_after m.profile m.flow m.flow m.tracks.items c u ok.room here refl refl loads stores);
       }
     where

@@ -47,5 +47,4 @@ pub record IsMachine {A : Type 0} (m : Inside A) : Type 0 where
   pub clear : All (λ n. IsClear m.flow n.context (get_or m.tracks.items n.context no_track) n.stamp) m.selected.items
   pub left : All (λ n. waits_in m.flow n.context n.stamp ≡ false) m.selected.items
   pub stamps : m.stamp + m.fetch_room ≤ 8 * (m.cycle + 1)
-  pub bounded : m.profile.reorder_buffer ≤ 64
   pub room : HasRoom m.profile m.flow m.tracks.items

@@ -15,6 +15,7 @@ ghost use Rattle.core_back.specs.Renamable.{IsRenamable};
 ghost use Rattle.core_back.specs.Steps.{retired_flow, completed_flow, renamed_flow, IsRemarked};
 
 use crate::track::Track;
+use core_profile::Profile;
 use core_view::{Entry, Execution, Step};
 use data_flow::{DataFlow, Operands};
 use hart_step::Stop;
@@ -84,20 +85,22 @@ pub(crate) fn complete<A: Allocator>(
     before - track.len()
 }
 
-/// The stamp of the oldest fetched entry, if it can be renamed in a cycle: it was fetched at least so many cycles ago,
-/// and each place that it needs is free.
+/// The stamp of the oldest fetched entry, if it can be renamed in a cycle: it was fetched as many cycles ago as the front
+/// delay says, and each place that it needs is free.
 pub(crate) fn renamable<A: Allocator>(
     flow: &DataFlow<A>,
     track: &Track<A>,
     cycle: u64,
-    front_delay: u64,
-    reorder: usize,
+    profile: &Profile,
 ) -> Option<u64>
-    ensures { IfSome result (IsRenamable flow.now track.now reorder) }
+    ensures { IfSome result (IsRenamable flow.now track.now profile.now.reorder_buffer) }
 {
     let place = track.renamed_count();
     let entry = track.entry(place)?;
-    if place >= reorder || cycle < entry.fetched.saturating_add(front_delay) {
+    if place >= usize::from(profile.reorder_buffer) {
+        return None;
+    }
+    if cycle < entry.fetched.saturating_add(u64::from(profile.front_delay)) {
         return None;
     }
     let operation = entry.operation;

@@ -10,24 +10,24 @@ use data_tags::Delay;
 use issue_queue::Order;
 use std::alloc::Allocator;
 
-/// The first ready entries by an order issue, at most so many, each after the lag that a delay gives.
+/// The first ready entries by an order issue, at most as many as the issue width, each after the lag that a delay gives.
 /// What issues is listed in order.
 pub fn issue<A: Allocator, O: Order, D: Delay>(
     machine: &mut Machine<A>,
     order: &O,
     delay: &mut D,
-    width: usize,
     issued: &mut ArrayVec<Issue, 8>,
 )
     requires idle { machine.old.names ≡ [] }
-    requires width { width ≤ 8 }
     requires cycle { machine.old.view.cycle < 2 ^ 56 }
     requires fresh { issued.old.items ≡ [] }
     ensures alike { IsAlike machine.old machine.new }
     ensures idle { machine.new.names ≡ [] }
     ensures keeps { D.may_answer delay.new ≡ D.may_answer delay.old }
+    ensures keeps_greatest { D.greatest_lag delay.new ≡ D.greatest_lag delay.old }
     ensures flights { in_flight machine.new ≡ in_flight machine.old }
 {
+    let width = usize::from(machine.profile().issue_width);
     machine.select(order, width);
     for _place in 0..width {
         let Some(issue) = machine.issue_next(delay) else {

@@ -1,6 +1,6 @@
 //! Eight contexts, and the data flow that they share.
 
-ghost use Rattle.std.specs.Prelude.{◌≡◌, ◌≢◌, ◌↔◌, ℕ, ◌+◌, ◌-◌, ◌<◌, ◌≤◌, ◌%◌, ◌^◌, ◌==◌, ◌&&◌, true, false, not, length, slice_index, [], ◌∷◌, IfOk, IfSome, IsSome, IsTrue, Some, None, Err};
+ghost use Rattle.std.specs.Prelude.{◌≡◌, ◌≢◌, ◌↔◌, ℕ, ◌+◌, ◌-◌, ◌<◌, ◌≤◌, ◌%◌, ◌^◌, ◌==◌, ◌&&◌, true, false, not, length, slice_get, slice_index, [], ◌∷◌, IfOk, IfSome, IsSome, IsTrue, Some, None, Err};
 ghost use Rattle.core_view.specs.declared.outcome.Outcome.TheVariants.{Goes, Stops};
 ghost use Rattle.core_view.specs.declared.entry.Stage.TheVariants.{Issued};
 ghost use Rattle.core_view.specs.Events.{retire_event, stop_event, complete_event};
@@ -136,6 +136,13 @@ impl<A: Allocator> Machine<A> {
         track.len()
     }
 
+    /// The parameters.
+    pub fn profile(&self) -> Profile
+        ensures { result ≡ self.now.view.profile }
+    {
+        self.profile
+    }
+
     /// How many more entries may be fetched in this cycle.
     pub fn fetch_room(&self) -> u8
         ensures { result ≡ self.now.fetch_room }
@@ -167,12 +174,12 @@ impl<A: Allocator> Machine<A> {
         track.memory()
     }
 
-    /// The entries of a context in flight, oldest first.
-    pub fn flight(&self, context: Ctx) -> &Ring<Entry, A>
-        ensures { result.now.items ≡ (context_at self.now context).flight }
+    /// The entry of a context at a place of its flight, oldest first, where there is one.
+    pub fn entry(&self, context: Ctx, place: usize) -> Option<Entry>
+        ensures { result ≡ slice_get (context_at self.now context).flight place }
     {
         let track = &self.tracks[context.index()];
-        track.flight()
+        track.entry(place).copied()
     }
 
     /// Whether a context runs.
@@ -275,6 +282,7 @@ impl<A: Allocator> Machine<A> {
         ensures none { result ≡ None → (self.old.names ≡ []) × (self.new ≡ self.old) }
         ensures issued { IfSome result (IsIssued self.old self.new) }
         ensures keeps { D.may_answer delay.new ≡ D.may_answer delay.old }
+        ensures keeps_greatest { D.greatest_lag delay.new ≡ D.greatest_lag delay.old }
     {
         if self.selected.is_empty() {
             return None;
@@ -298,21 +306,15 @@ impl<A: Allocator> Machine<A> {
         })
     }
 
-    /// The stamp of the oldest fetched entry of a context, if it can be renamed: it was fetched at least so many cycles
-    /// ago, and each place that it needs is free.
-    pub fn renamable(&self, context: Ctx, front_delay: u64) -> Option<u64> {
+    /// The stamp of the oldest fetched entry of a context, if it can be renamed: it was fetched as many cycles ago as the
+    /// front delay says, and each place that it needs is free.
+    pub fn renamable(&self, context: Ctx) -> Option<u64> {
         let track = &self.tracks[context.index()];
-        events::renamable(
-            &self.flow,
-            track,
-            self.cycle,
-            front_delay,
-            usize::from(self.profile.reorder_buffer),
-        )
+        events::renamable(&self.flow, track, self.cycle, &self.profile)
     }
 
     /// The oldest fetched entry of a context is renamed, if it can be. Answers its stamp.
-    pub fn try_rename(&mut self, context: Ctx, front_delay: u64) -> Option<u64>
+    pub fn try_rename(&mut self, context: Ctx) -> Option<u64>
         requires { self.old.names ≡ [] }
         ensures none { result ≡ None → self.new ≡ self.old }
         ensures renamed { IfSome result (IsRenamed self.old self.new context) }
@@ -321,13 +323,7 @@ impl<A: Allocator> Machine<A> {
         ensures idle { self.new.names ≡ [] }
     {
         let track = &mut self.tracks[context.index()];
-        let stamp = events::renamable(
-            &self.flow,
-            track,
-            self.cycle,
-            front_delay,
-            usize::from(self.profile.reorder_buffer),
-        )?;
+        let stamp = events::renamable(&self.flow, track, self.cycle, &self.profile)?;
         events::rename(&mut self.flow, track, context, self.cycle);
         Some(stamp)
     }

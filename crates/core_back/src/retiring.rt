@@ -12,18 +12,16 @@ use join_law::Ctx;
 use rv64_decode::Insn;
 use std::alloc::Allocator;
 
-/// The oldest entries retire, at most so many in all. Contexts are taken from the cycle's number upwards, and each goes
+/// The oldest entries retire, at most as many as the retire width in all. Contexts are taken from the cycle's number upwards, and each goes
 /// on while its oldest entry is done. One that is done with a stop stops its context, and takes no place of the width.
 /// What retires is listed in order. Answers how many entries were dropped: all of a context that stops, and what is left
 /// of one that is parked.
 pub fn retire<A: Allocator, G: Guess>(
     machine: &mut Machine<A>,
     guess: &mut G,
-    width: usize,
     retired: &mut ArrayVec<EntryId, 16>,
 ) -> usize
     requires idle { machine.old.names ≡ [] }
-    requires width { width ≤ 16 }
     requires fresh { retired.old.items ≡ [] }
     ensures alike { IsAlike machine.old machine.new }
     ensures idle { machine.new.names ≡ [] }
@@ -32,7 +30,7 @@ pub fn retire<A: Allocator, G: Guess>(
     ensures bound { result ≤ 10880 }
 {
     let first = machine.cycle();
-    let mut left = width;
+    let mut left = usize::from(machine.profile().retire_width);
     let mut dropped = 0;
     for turn in 0..8u64 {
         let context = context_in_turn(first, turn);

@@ -9,7 +9,6 @@ ghost use Rattle.core_back.specs.Machine.{context_at, in_flight};
 use crate::{fetching, renaming};
 use branch_predict::Guess;
 use core_back::{Machine, complete, issue, retire};
-use core_profile::Profile;
 use core_view::CycleNote;
 use data_tags::Delay;
 use fetch_policy::Pick;
@@ -35,13 +34,14 @@ impl<A: Allocator> Model for Contexts<A> {
 
     ghost view = { λ c. c.machine };
 
-    ghost invariant = { λ c. c.machine.names ≡ [] };
+    ghost invariant = { λ c. (c.machine.names ≡ []) × (c.machine.fetch_room ≡ 8) };
 }
 
 impl<A: Allocator> Contexts<A> {
-    /// Contexts of which nothing is selected.
+    /// Contexts of which nothing is selected and nothing fetched in this cycle.
     pub(crate) fn new(machine: Machine<A>) -> Self
-        requires { machine.names ≡ [] }
+        requires idle { machine.names ≡ [] }
+        requires room { machine.fetch_room ≡ 8 }
         ensures { result ≡ machine }
     {
         Contexts { machine }
@@ -68,48 +68,28 @@ impl<A: Allocator> Contexts<A> {
         pick: &P,
         order: &O,
         delay: &mut D,
-        profile: &Profile,
     ) -> CycleNote
         requires { self.old.view.cycle < 2 ^ 56 }
         ensures live { (c : ℕ) → c < 8 → IsLive (start self.new.origin c) self.new.view.stamp (context_at self.new c) }
         ensures cycle { self.new.view.cycle ≡ self.old.view.cycle + 1 }
         ensures origin { self.new.origin ≡ self.old.origin }
+        ensures profile { self.new.view.profile ≡ self.old.view.profile }
+        ensures idle { self.new.names ≡ [] }
+        ensures room { self.new.fetch_room ≡ 8 }
         ensures targets { (c : ℕ) → c < 8 → (context_at self.new c).target ≡ (context_at self.old c).target }
         ensures guess { G.may_answer guess.new ≡ G.may_answer guess.old }
         ensures delay { D.may_answer delay.new ≡ D.may_answer delay.old }
+        ensures greatest { D.greatest_lag delay.new ≡ D.greatest_lag delay.old }
         ensures flights { result.cut + array_vec_len result.retired + in_flight self.new ≡ in_flight self.old + array_vec_len result.fetched }
     {
         let mut note = CycleNote::new();
-        let dropped = retire(
-            &mut self.machine,
-            guess,
-            usize::from(profile.retire_width),
-            &mut note.retired,
-        );
+        let dropped = retire(&mut self.machine, guess, &mut note.retired);
         let completion = complete(&mut self.machine);
         note.completed = completion.completed as u32;
         note.cut = (dropped + completion.cut) as u32;
-        issue(
-            &mut self.machine,
-            order,
-            delay,
-            usize::from(profile.issue_width),
-            &mut note.issued,
-        );
-        renaming::rename(
-            &mut self.machine,
-            u64::from(profile.front_delay),
-            usize::from(profile.rename_width),
-            &mut note.renamed,
-        );
-        fetching::fetch(
-            &mut self.machine,
-            pick,
-            guess,
-            profile.num1,
-            profile.num2,
-            &mut note.fetched,
-        );
+        issue(&mut self.machine, order, delay, &mut note.issued);
+        renaming::rename(&mut self.machine, &mut note.renamed);
+        fetching::fetch(&mut self.machine, pick, guess, &mut note.fetched);
         self.machine.tick();
         // `cycle` ensures that each context is live.
         let _live = self.machine.cycle();

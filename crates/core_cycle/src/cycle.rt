@@ -1,10 +1,11 @@
 //! The core.
 
-ghost use Rattle.std.specs.Prelude.{◌≡◌, ℕ, ◌+◌, ◌<◌, ◌≤◌, ◌^◌, [], slice_index, IfOk, IfErr, IfSome, None};
+ghost use Rattle.std.specs.Prelude.{◌≡◌, ℕ, ◌+◌, ◌<◌, ◌≤◌, ◌^◌, [], length, slice_get, slice_index, IfOk, IfErr, IfSome, None, Some};
 ghost use Rattle.arrayvec.specs.ArrayVec.{array_vec_len};
 ghost use Rattle.join_law.specs.Eight.{place_of};
 ghost use Rattle.checkpoint.specs.Aligned.{IsAligned};
-ghost use Rattle.core_view.specs.View.{IsLive};
+ghost use Rattle.core_view.specs.View.{IsLive, IsSoundFlight, StatusHolds};
+ghost use Rattle.hart_step.specs.Next.{after};
 ghost use Rattle.origin_set.specs.Start.{start};
 ghost use Rattle.core_back.specs.Machine.{context_at, in_flight, IsAlike};
 ghost use Rattle.core_back.specs.First.{IsFirst, AreMarksAt};
@@ -22,7 +23,6 @@ use fetch_policy::Pick;
 use issue_queue::Order;
 use join_law::{Ctx, Eight};
 use paged_memory::Memory;
-use reorder_buffer::Ring;
 use std::alloc::{Allocator, Global};
 
 /// A core of eight contexts, over any guess, pick, order and delay.
@@ -39,7 +39,6 @@ pub struct Core<
     pick: P,
     order: O,
     delay: D,
-    profile: Profile,
 }
 
 impl<G: Guess + Drop, P: Pick + Drop, O: Order + Drop, D: Delay + Drop, A: Allocator + Copy> Core<
@@ -70,6 +69,10 @@ impl<G: Guess + Drop, P: Pick + Drop, O: Order + Drop, D: Delay + Drop, A: Alloc
         requires aligned { IsAligned marks }
         requires targets { (c : ℕ) → c < 8 → slice_index targets c ≤ 2 ^ 60 }
         ensures first { IfOk result (λ core. IsFirst profile.now marks targets (shown core)) }
+        ensures guess { IfOk result (λ core. core.guess ≡ guess) }
+        ensures pick { IfOk result (λ core. core.pick ≡ pick) }
+        ensures order { IfOk result (λ core. core.order ≡ order) }
+        ensures delay { IfOk result (λ core. core.delay ≡ delay) }
         ensures refused { IfErr result (λ back. (back.0 ≡ marks) × IsRefusal marks targets back.1) }
     {
         if let Some(context) = behind_start(&marks, &targets) {
@@ -84,7 +87,6 @@ impl<G: Guess + Drop, P: Pick + Drop, O: Order + Drop, D: Delay + Drop, A: Alloc
             pick,
             order,
             delay,
-            profile: *profile,
         })
     }
 }
@@ -121,9 +123,15 @@ impl<G: Guess + Drop, P: Pick + Drop, O: Order + Drop, D: Delay + Drop, A: Alloc
         ensures live { (c : ℕ) → c < 8 → IsLive (start (shown self.new).origin c) (shown self.new).view.stamp (context_at (shown self.new) c) }
         ensures cycle { (shown self.new).view.cycle ≡ (shown self.old).view.cycle + 1 }
         ensures origin { (shown self.new).origin ≡ (shown self.old).origin }
+        ensures profile { (shown self.new).view.profile ≡ (shown self.old).view.profile }
+        ensures idle { (shown self.new).names ≡ [] }
+        ensures room { (shown self.new).fetch_room ≡ 8 }
         ensures targets { (c : ℕ) → c < 8 → (context_at (shown self.new) c).target ≡ (context_at (shown self.old) c).target }
         ensures guess { G.may_answer self.new.guess ≡ G.may_answer self.old.guess }
         ensures delay { D.may_answer self.new.delay ≡ D.may_answer self.old.delay }
+        ensures greatest { D.greatest_lag self.new.delay ≡ D.greatest_lag self.old.delay }
+        ensures pick { self.new.pick ≡ self.old.pick }
+        ensures order { self.new.order ≡ self.old.order }
         ensures flights { result.cut + array_vec_len result.retired + in_flight (shown self.new) ≡ in_flight (shown self.old) + array_vec_len result.fetched }
     {
         self.contexts.cycle(
@@ -131,7 +139,6 @@ impl<G: Guess + Drop, P: Pick + Drop, O: Order + Drop, D: Delay + Drop, A: Alloc
             &self.pick,
             &self.order,
             &mut self.delay,
-            &self.profile,
         )
     }
 
@@ -151,19 +158,26 @@ impl<G: Guess + Drop, P: Pick + Drop, O: Order + Drop, D: Delay + Drop, A: Alloc
         self.contexts.machine().retired(context)
     }
 
-    /// Whether a context runs.
+    /// Whether a context runs: it is parked exactly at its target, and stopped where its next instruction stops.
     pub fn state(&self, context: Ctx) -> Status
-        ensures { result ≡ (context_at (shown self.now) context).status }
+        ensures value { result ≡ (context_at (shown self.now) context).status }
+        ensures holds { StatusHolds result (context_at (shown self.now) context) }
     {
+        // `retired` ensures that the context is live.
+        let _live = self.contexts.machine().retired(context);
         self.contexts.machine().status(context)
     }
 
-    /// The registers, the pc and the memory of a context after what it retired.
+    /// The registers, the pc and the memory of a context after what it retired: those of plain RV64I after as many
+    /// instructions from the start.
     pub fn arch(&self, context: Ctx) -> (&[u64; 32], u64, &Memory<A>)
         ensures registers { result.0.now ≡ (context_at (shown self.now) context).state.registers }
         ensures pc { result.1 ≡ (context_at (shown self.now) context).state.pc }
         ensures memory { result.2.now ≡ (context_at (shown self.now) context).state.memory }
+        ensures plain { let x = context_at (shown self.now) context in after x.count (start (shown self.now).origin context) ≡ Some x.state }
     {
+        // `retired` ensures that the context is live.
+        let _live = self.contexts.machine().retired(context);
         (
             self.contexts.machine().registers(context),
             self.contexts.machine().pc(context),
@@ -178,11 +192,21 @@ impl<G: Guess + Drop, P: Pick + Drop, O: Order + Drop, D: Delay + Drop, A: Alloc
         self.contexts.machine().memory(context)
     }
 
-    /// The entries of a context in flight, oldest first.
-    pub fn flight(&self, context: Ctx) -> &Ring<Entry, A>
-        ensures { result.now.items ≡ (context_at (shown self.now) context).flight }
+    /// How many entries of a context are in flight. They are sound over its state.
+    pub fn in_flight(&self, context: Ctx) -> usize
+        ensures value { result ≡ length (context_at (shown self.now) context).flight }
+        ensures sound { IsSoundFlight (shown self.now).view.stamp (context_at (shown self.now) context) }
     {
-        self.contexts.machine().flight(context)
+        // `retired` ensures that the context is live.
+        let _live = self.contexts.machine().retired(context);
+        self.contexts.machine().len(context)
+    }
+
+    /// The entry of a context at a place of its flight, oldest first, where there is one.
+    pub fn entry(&self, context: Ctx, place: usize) -> Option<Entry>
+        ensures { result ≡ slice_get (context_at (shown self.now) context).flight place }
+    {
+        self.contexts.machine().entry(context, place)
     }
 
     /// Eight marks where the contexts are.

@@ -15,6 +15,8 @@ loop-place-init g c =
       flights = in_flight_same c.args.machine.now c.select.new.self (ap (λ (m : Machine). m.view.contexts) e);
       room = omega (arith, ap length c.requires.fresh);
       keeps = refl;
+      greatest = refl;
+      width = let most = c.profile.result.issue_width_in_range.1 in omega (arith, most, c.from-width.ensures);
     }
 
 pub issue_next-requires : goal.issue_next-requires
@@ -27,7 +29,7 @@ pub returns-in_default-clause-keeps : goal.returns-in_default-clause-keeps
 returns-in_default-clause-keeps g c = c.issue_next.ensures.keeps ∙ c.loop-place.invariant.keeps
 
 pub push-requires : goal.push-requires
-push-requires g c = omega (arith, c.loop-place.invariant.room, c.loop-place-test.true, c.requires.width)
+push-requires g c = omega (arith, c.loop-place.invariant.room, c.loop-place-test.true, c.loop-place.invariant.width)
 
 pub loop-place-preserved : goal.loop-place-preserved
 loop-place-preserved g c =
@@ -38,6 +40,8 @@ loop-place-preserved g c =
       left = omega (arith, c.loop-place.invariant.left, ap (λ (ns : List EntryId). length ns) step.names);
       room = omega (arith, c.loop-place.invariant.room, c.push.ensures.len);
       keeps = c.issue_next.ensures.keeps ∙ c.loop-place.invariant.keeps;
+      greatest = c.issue_next.ensures.keeps_greatest ∙ c.loop-place.invariant.greatest;
+      width = c.loop-place.invariant.width;
     }
 
 pub returns-clause-alike : goal.returns-clause-alike
@@ -48,6 +52,12 @@ returns-clause-idle g c = none_left c.loop-place.machine.names (omega (arith, c.
 
 pub returns-clause-keeps : goal.returns-clause-keeps
 returns-clause-keeps g c = c.loop-place.invariant.keeps
+
+pub returns-in_default-clause-keeps_greatest : goal.returns-in_default-clause-keeps_greatest
+returns-in_default-clause-keeps_greatest g c = c.issue_next.ensures.keeps_greatest ∙ c.loop-place.invariant.greatest
+
+pub returns-clause-keeps_greatest : goal.returns-clause-keeps_greatest
+returns-clause-keeps_greatest g c = c.loop-place.invariant.greatest
 
 pub returns-in_default-clause-flights : goal.returns-in_default-clause-flights
 returns-in_default-clause-flights g c = ap in_flight (c.issue_next.ensures.none c.in_default.is).1 ∙ c.loop-place.invariant.flights

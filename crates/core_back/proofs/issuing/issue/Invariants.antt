@@ -7,7 +7,9 @@ abbrev pub invariant-loop-place : goal.invariant-loop-place
 invariant-loop-place g l = record {
   alike : IsAlike l.fn.machine l.machine;
   left : length l.machine.names + l._place ≤ l.width;
+  width : l.width ≤ 8;
   flights : in_flight l.machine ≡ in_flight l.fn.machine;
   room : array_vec_len l.issued ≤ l._place;
   keeps : g.D.Delay.may_answer l.delay ≡ g.D.Delay.may_answer l.fn.delay;
+  greatest : g.D.Delay.greatest_lag l.delay ≡ g.D.Delay.greatest_lag l.fn.delay;
 }

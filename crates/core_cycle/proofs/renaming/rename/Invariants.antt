@@ -9,4 +9,5 @@ invariant-loop-place g l = record {
   idle : l.machine.names ≡ [];
   flights : in_flight l.machine ≡ in_flight l.fn.machine;
   room : array_vec_len l.renamed ≤ l._place;
+  width : l.width ≤ 8;
 }

@@ -26,7 +26,6 @@ invariant_of-result g c =
       clear = subst (λ (ns : List EntryId). All (λ n. IsClear c.in_ok-flow.flow n.context (get_or c.in_ok-tracks.tracks.items n.context no_track) n.stamp) ns) (sym empty) (λ i d lt. absurd (omega arith));
       left = subst (λ (ns : List EntryId). All (λ n. waits_in c.in_ok-flow.flow n.context n.stamp ≡ false) ns) (sym empty) (search rules);
       stamps = omega arith;
-      bounded = search rules;
       room = record {
         registers = c.in_ok-flow.ensures.extra;
         waiters = c.in_ok-flow.ensures.places;

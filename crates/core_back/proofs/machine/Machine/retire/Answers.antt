@@ -114,4 +114,4 @@ returns-clause-dropped g c =
 pub returns-clause-bound : goal.returns-clause-bound
 returns-clause-bound g c =
     let h = at_context c.self.inside c.args.self.now c.args.context c.index.result c.index_mut-track.result.now c.self.view_is c.self.invariant (omega (arith, c.index.ensures)) c.index.ensures.value c.index_mut-track.ensures.value in
-    omega (arith, c.len-before.ensures.bound, h.core.capacity, c.self.invariant.bounded)
+    let most = c.self.inside.profile.reorder_buffer_in_range.1 in omega (arith, c.len-before.ensures.bound, h.core.capacity, most)

@@ -39,7 +39,7 @@ invariant_of-self-2 g c =
     let r = c.in_ok-stamp.ensures in
     let t = c.index_mut-track.result.now in
     machine_after c.self.inside _ c.args.self.now c.args.context c.index.result _ (renamed_flow c.self.inside.flow c.args.context (entry_at t.context t.renamed) c.rename.ensures.flow.0) c.self.view_is c.self.invariant c.requires (omega (arith, c.index.ensures))
-    (rename_core core c.self.inside.cycle c.rename.ensures.flow.0 h.in_lanes r.some (omega (arith, r.fits, c.from.ensures))) (λ e other. renamed_flow_left c.self.inside.flow c.args.context e (entry_at t.context t.renamed) c.rename.ensures.flow.0 other) (sizes-renamed_flow c.self.inside.flow c.args.context (entry_at t.context t.renamed) c.rename.ensures.flow.0) (ap (λ (t : Track). t.load_places) h.track) (ap (λ (t : Track). t.store_places) h.track)
+    (rename_core core c.self.inside.cycle c.rename.ensures.flow.0 h.in_lanes r.some r.fits) (λ e other. renamed_flow_left c.self.inside.flow c.args.context e (entry_at t.context t.renamed) c.rename.ensures.flow.0 other) (sizes-renamed_flow c.self.inside.flow c.args.context (entry_at t.context t.renamed) c.rename.ensures.flow.0) (ap (λ (t : Track). t.load_places) h.track) (ap (λ (t : Track). t.store_places) h.track)
     c.index.ensures.value refl c.rename.ensures.flow.1 (ap (set c.self.inside.tracks.items c.index.result) c.rename.ensures.track) refl refl refl refl refl
 
 pub returns-clause-renamed : goal.returns-clause-renamed
