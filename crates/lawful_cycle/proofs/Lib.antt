@@ -1,0 +1,4 @@
+pub mod OneContext
+pub mod Examples
+pub mod Misses
+pub mod Chains
