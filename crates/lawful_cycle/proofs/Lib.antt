@@ -5,3 +5,5 @@ pub mod Examples
 pub mod LoneEcall
 pub mod Misses
 pub mod Chains
+pub mod UniqueComplete
+pub mod OneFirst

@@ -5,7 +5,7 @@ use Rattle.core_profile.specs.declared.profile.Profile.{Profile}
 use Rattle.core_view.specs.declared.entry.Entry.{Entry}
 use Rattle.core_view.specs.declared.note.EntryId.{EntryId}
 use Rattle.core_view.specs.View.{Context, View}
-use Rattle.lawful_cycle.specs.Views.{eight, no_context, context_in}
+use Rattle.lawful_cycle.specs.Views.{eight, no_context, context_in, ChangesEach}
 use Rattle.lawful_cycle.specs.Rename.{renamed_if, renamed_context, renamed_view}
 
 same_parts : (p q : Profile) (cycle now stamp next : ℕ) (xs ys : List Context) → p ≡ q → cycle ≡ now → stamp ≡ next → xs ≡ ys
@@ -39,3 +39,8 @@ renamed_none v count = same_views v (renamed_view v []) count refl refl refl ref
         map_same : (es : List Entry) → map (renamed_if v.cycle c []) es ≡ es
         map_same [] = refl
         map_same (e ∷ es) = ap (λ fs. e ∷ fs) (map_same es)
+
+-- two views to which one view changes are equal where their contexts are
+pub same_changes : (R S : ℕ → Context → Context → Type 0) (v w u : View) → ChangesEach R v w → ChangesEach S v u → ((c : ℕ) → c < 8 → context_in w c ≡ context_in u c) → w ≡ u
+same_changes R S v w u h g each =
+    same_views w u h.contexts.count_after g.contexts.count_after (h.profile ∙ sym g.profile) (h.cycle ∙ sym g.cycle) (h.stamp ∙ sym g.stamp) each
