@@ -7,3 +7,5 @@ pub mod Misses
 pub mod Chains
 pub mod UniqueComplete
 pub mod OneFirst
+pub mod Turns
+pub mod UniqueRetire
