@@ -9,3 +9,5 @@ pub mod UniqueComplete
 pub mod OneFirst
 pub mod Turns
 pub mod UniqueRetire
+pub mod Stamped
+pub mod UniqueRename
