@@ -11,3 +11,4 @@ pub mod Turns
 pub mod UniqueRetire
 pub mod Stamped
 pub mod UniqueRename
+pub mod UniqueIssue
