@@ -12,3 +12,5 @@ pub mod UniqueRetire
 pub mod Stamped
 pub mod UniqueRename
 pub mod UniqueIssue
+pub mod Listed
+pub mod UniqueFetch

@@ -16,5 +16,5 @@ HaveSameLags a b = (i j : ℕ) → i < length a → j < length b → (get_or a i
 abbrev pub HaveSameGuesses : ℕ → View → View → Type 0
 HaveSameGuesses cycle w u = (c i : ℕ) → c < 8 → i < length (flight_in w c) → i < length (flight_in u c)
     → (entry_at (context_in w c) i).fetched ≡ cycle → (entry_at (context_in u c) i).fetched ≡ cycle
-    → (entry_at (context_in w c) i).pc ≡ (entry_at (context_in u c) i).pc → is_guessed (entry_at (context_in w c) i).operation ≡ true
+    → (entry_at (context_in w c) i).pc ≡ (entry_at (context_in u c) i).pc → is_guessed (entry_at (context_in w c) i).operation ≡ true → is_guessed (entry_at (context_in u c) i).operation ≡ true
     → (entry_at (context_in w c) i).followed ≡ (entry_at (context_in u c) i).followed
