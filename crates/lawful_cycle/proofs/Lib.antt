@@ -14,3 +14,4 @@ pub mod UniqueRename
 pub mod UniqueIssue
 pub mod Listed
 pub mod UniqueFetch
+pub mod KeptStamps
