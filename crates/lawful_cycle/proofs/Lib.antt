@@ -15,3 +15,4 @@ pub mod UniqueIssue
 pub mod Listed
 pub mod UniqueFetch
 pub mod KeptStamps
+pub mod UniqueCycle

@@ -21,7 +21,7 @@ use Rattle.lawful_cycle.proofs.OneFirst.{AreFirst, one_first}
 
 -- ---- places
 
-join_place : (c d i j : ℕ) → c ≡ d → i ≡ j → ◌≡◌ {A = Place} (record { context = c; place = i }) (record { context = d; place = j })
+pub join_place : (c d i j : ℕ) → c ≡ d → i ≡ j → ◌≡◌ {A = Place} (record { context = c; place = i }) (record { context = d; place = j })
 join_place c d i j p q = rw (p, q) refl
 
 same_or_not : (p q : Place) → (p ≡ q) ⊎ (p ≢ q)
@@ -39,7 +39,7 @@ first_of true b c h = refl
 first_of false b c h = absurd (let f : false ≡ true = h in cc)
 
 -- what is ready stands in its flight
-ready_within : (v : View) (p : Place) → IsReadyIn v p → p.place < length (flight_in v p.context)
+pub ready_within : (v : View) (p : Place) → IsReadyIn v p → p.place < length (flight_in v p.context)
 ready_within v p is =
     let x = context_in v p.context in
     let lt = first_of (nat_lt p.place (length x.flight)) (is_queued (entry_at x p.place).stage) (is_ready_on x p.place (first_value x p.place) (second_value x p.place)) is.1 in
@@ -65,7 +65,7 @@ same_place key v h p q rp rq a b =
 -- ---- the part
 
 module _ (key : QueueView → ℕ) (delays : ℕ → Kind → ℕ → Lag → Bool) (v : View) where
-  count_chosen : (w : View) (a : List Issue) (h : IsIssue key delays v w a) → length a ≡ length h.chosen
+  pub count_chosen : (w : View) (a : List Issue) (h : IsIssue key delays v w a) → length a ≡ length h.chosen
   count_chosen w a h = sym (length-map a (λ (n : Issue). n.entry)) ∙ ap (λ (ns : List EntryId). length ns) h.names ∙ length-map h.chosen (id_in v)
 
   are_first : (w : View) (a : List Issue) (h : IsIssue key delays v w a) → AreFirst (IsReadyIn v) (IsNotAfter key v) v.profile.issue_width h.chosen

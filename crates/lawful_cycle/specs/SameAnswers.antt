@@ -1,10 +1,14 @@
--- Two cycles from one view that were answered alike: what their delays and their guesses said of the same entry.
-use Rattle.std.specs.Prelude.{◌≡◌, ℕ, ◌<◌, true, List, length, get_or}
+-- Two cycles from one view that were answered alike: their delays and their guesses said the same of the same entry.
+use Rattle.std.specs.Prelude.{◌≡◌, ℕ, ◌<◌, true, List, length, get_or, IsTrue}
+use Rattle.rv64_decode.specs.declared.insn.Insn.{Insn}
+use Rattle.data_tags.specs.declared.delay.Kind.{Kind}
+use Rattle.data_tags.specs.declared.delay.Lag.{Lag}
 use Rattle.core_view.specs.declared.note.Issue.{Issue}
 use Rattle.core_view.specs.Operations.{is_guessed}
 use Rattle.core_view.specs.View.{View, entry_at}
 use Rattle.lawful_cycle.specs.Views.{context_in}
 use Rattle.lawful_cycle.specs.Issue.{no_issue}
+use Rattle.lawful_cycle.specs.Cycle.{Laws}
 use Rattle.lawful_cycle.specs.Stamps.{flight_in}
 
 -- an entry that issued in both got one lag
@@ -18,3 +22,8 @@ HaveSameGuesses cycle w u = (c i : ℕ) → c < 8 → i < length (flight_in w c)
     → (entry_at (context_in w c) i).fetched ≡ cycle → (entry_at (context_in u c) i).fetched ≡ cycle
     → (entry_at (context_in w c) i).pc ≡ (entry_at (context_in u c) i).pc → is_guessed (entry_at (context_in w c) i).operation ≡ true → is_guessed (entry_at (context_in u c) i).operation ≡ true
     → (entry_at (context_in w c) i).followed ≡ (entry_at (context_in u c) i).followed
+
+-- a guess states one answer, and a delay one lag
+pub record StateOne (laws : Laws) : Type 0 where
+  pub answer : (c pc : ℕ) (insn : Insn) (a b : ℕ) → IsTrue (laws.guesses c pc insn a) → IsTrue (laws.guesses c pc insn b) → a ≡ b
+  pub lag : (c : ℕ) (kind : Kind) (address : ℕ) (a b : Lag) → IsTrue (laws.delays c kind address a) → IsTrue (laws.delays c kind address b) → a ≡ b
