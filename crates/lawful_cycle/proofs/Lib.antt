@@ -16,3 +16,4 @@ pub mod Listed
 pub mod UniqueFetch
 pub mod KeptStamps
 pub mod UniqueCycle
+pub mod Decided
