@@ -1,0 +1,9 @@
+pub mod Codes
+pub mod Contexts
+pub mod Form
+pub mod Jobs
+pub mod Parts
+pub mod PlanValue
+pub mod Plans
+pub mod Programs
+pub mod Returned
