@@ -1,4 +1,4 @@
--- The form of a plan: a document with these keys, all of which may be missing but a job's limit.
+-- The form of a plan, as the tables of README.md have it: a document with these keys, all of which may be missing but a job's limit.
 use Rattle.std.specs.Prelude.{ℕ, pos, codes, Bool, true, false, ◌&&◌, nat_le, List, Option, Some, None, is_some, if◌then◌else◌}
 use Rattle.std.specs.Ordering.{int_eq}
 use Rattle.std.specs.Str.{bytes_eq}
