@@ -20,3 +20,6 @@ pub mod Starts
 pub mod Tracks
 pub mod Turns
 pub mod Waiting
+pub mod Fronts
+pub mod RetireTurns
+pub mod Counted

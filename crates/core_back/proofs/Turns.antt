@@ -62,7 +62,7 @@ none_due cycle (e ∷ es) (suc i) h = ap (λ fs. e ∷ fs) (none_due cycle es i 
 pub due_none : (cycle : ℕ) (es : List Entry) (i : ℕ) → due_in cycle es i ≡ None → completed_from cycle (i + 1) es ≡ completed_from cycle i es
 due_none cycle es i h = ap (λ n. completed_from cycle n es) (add-one i) ∙ none_due cycle es i h
 
-set_here : (xs : List Context) (c : ℕ) (x : Context) (i : ℕ) → i < length (get_or xs c no_context).flight → get_or (set xs c x) c no_context ≡ x
+pub set_here : (xs : List Context) (c : ℕ) (x : Context) (i : ℕ) → i < length (get_or xs c no_context).flight → get_or (set xs c x) c no_context ≡ x
 set_here [] c x i lt = absurd (omega arith)
 set_here (y ∷ ys) zero x i lt = refl
 set_here (y ∷ ys) (suc c) x i lt = set_here ys c x i lt

@@ -11,3 +11,5 @@ pub mod Issuable
 pub mod Fetched
 pub mod Renamable
 pub mod First
+pub mod Turn
+pub mod Coming

@@ -2,6 +2,8 @@
 
 ghost use Rattle.std.specs.Prelude.{◌≡◌, ◌+◌, ◌≤◌, [], length, map};
 ghost use Rattle.core_view.specs.Events.{with_flight, completed_at, completed_from};
+ghost use Rattle.lawful_cycle.specs.Complete.{IsComplete};
+ghost use Rattle.core_back.specs.Coming.{to_come, number_of};
 ghost use Rattle.core_back.specs.Machine.{IsAlike, context_at, in_flight, with_context, with_contexts, completed_context};
 
 use crate::machine::Machine;
@@ -26,6 +28,7 @@ pub fn complete<A: Allocator>(machine: &mut Machine<A>) -> Completion
     ensures cut { result.cut + in_flight machine.new ≡ in_flight machine.old }
     ensures bound { result.completed ≤ 640 }
     ensures cut_bound { result.cut ≤ 640 }
+    ensures lawful { IsComplete machine.old.view machine.new.view result.completed }
 {
     let mut completed = 0;
     let mut cut = 0;
@@ -46,6 +49,7 @@ fn complete_context<A: Allocator>(machine: &mut Machine<A>, context: Ctx) -> Com
     ensures cut { let x = context_at machine.old context in result.cut + length (completed_at machine.old.view.cycle x.flight) ≡ length x.flight }
     ensures bound { result.completed ≤ 80 }
     ensures cut_bound { result.cut ≤ 80 }
+    ensures number { result.completed ≡ number_of machine.old.view.cycle (context_at machine.old context) }
 {
     let len = machine.len(context);
     let mut completed = 0;
@@ -66,6 +70,7 @@ fn complete_place<A: Allocator>(machine: &mut Machine<A>, context: Ctx, place: u
         completed_from now (place + 1) (context_at machine.new context).flight ≡ completed_from now place (context_at machine.old context).flight }
     ensures cut { result.cut + length (context_at machine.new context).flight ≡ length (context_at machine.old context).flight }
     ensures one { result.completed ≤ 1 }
+    ensures counted { result.completed + to_come machine.old.view.cycle (place + 1) (context_at machine.new context).flight ≡ to_come machine.old.view.cycle place (context_at machine.old context).flight }
 {
     let Some(execution) = machine.due(context, place) else {
         return Completion {

@@ -113,6 +113,7 @@ impl<A: Allocator> Machine<A> {
     pub fn cycle(&self) -> u64
         ensures value { result ≡ self.now.view.cycle }
         ensures live { (c : ℕ) → c < 8 → IsLive (start self.now.origin c) self.now.view.stamp (context_at self.now c) }
+        ensures contexts { length self.now.view.contexts ≡ 8 }
     {
         self.cycle
     }

@@ -1,7 +1,8 @@
-use Rattle.std.proofs.Common.{sym, ◌∙◌}
+use Rattle.std.proofs.Common.{arith, sym, ◌∙◌, add-one}
 use Rattle.core_view.specs.View.{entry_at}
 use Rattle.core_view.proofs.Sound.{due_stage}
 use Rattle.core_back.specs.Machine.{context_at}
+use Rattle.core_back.proofs.Counted.{come_none, come_step}
 use Rattle.core_back.proofs.Turns.{due_some, due_none, due_step}
 use Rattle.core_back.proofs.completing.complete_place.Goals as goal
 
@@ -23,3 +24,14 @@ returns-then-is_guessed-clause-goes_on g c =
 pub returns-else-is_guessed-clause-goes_on : goal.returns-else-is_guessed-clause-goes_on
 returns-else-is_guessed-clause-goes_on g c =
     due_step c.args.machine.now c.complete-cut.new.self c.args.context c.args.place c.in-Some.execution c.complete-cut.ensures.completed (sym c.due.ensures.value ∙ c.in-Some.is)
+
+pub returns-in_default-clause-counted : goal.returns-in_default-clause-counted
+returns-in_default-clause-counted g c = rw (add-one c.args.place, come_none c.args.machine.now.view.cycle (context_at c.args.machine.now c.args.context).flight c.args.place (sym c.due.ensures.value ∙ c.in_default.is)) (omega arith)
+
+pub returns-then-is_guessed-clause-counted : goal.returns-then-is_guessed-clause-counted
+returns-then-is_guessed-clause-counted g c =
+    come_step c.args.machine.now c.settle_speculation.new.self c.args.context c.args.place c.in-Some.execution (c.settle_speculation.ensures ∙ c.complete-cut.ensures.completed) (sym c.due.ensures.value ∙ c.in-Some.is)
+
+pub returns-else-is_guessed-clause-counted : goal.returns-else-is_guessed-clause-counted
+returns-else-is_guessed-clause-counted g c =
+    come_step c.args.machine.now c.complete-cut.new.self c.args.context c.args.place c.in-Some.execution c.complete-cut.ensures.completed (sym c.due.ensures.value ∙ c.in-Some.is)

@@ -1,6 +1,7 @@
 use Rattle.std.proofs.Common.{◌≡◌, ◌+◌, ◌*◌, ◌≤◌, []}
 use Rattle.arrayvec.specs.ArrayVec.{array_vec_len}
 use Rattle.core_back.specs.Machine.{IsAlike, in_flight}
+use Rattle.core_back.proofs.RetireTurns.{Turned, AllLive}
 use Rattle.core_back.proofs.retiring.retire.Given as goal
 
 abbrev pub invariant-loop-turn : goal.invariant-loop-turn
@@ -8,6 +9,9 @@ invariant-loop-turn g l = record {
   alike : IsAlike l.fn.machine l.machine;
   idle : l.machine.names ≡ [];
   room : array_vec_len l.retired + l.left ≤ 16;
+  turned : Turned l.fn.machine.view.profile.retire_width l.turn l.fn.machine l.machine l.left l.retired.items;
+  live : AllLive l.fn.machine;
+  first : l.first ≡ l.fn.machine.view.cycle;
   dropped : l.dropped + array_vec_len l.retired + in_flight l.machine ≡ in_flight l.fn.machine;
   bound : l.dropped ≤ l.turn * 1360;
   keeps : g.G.Guess.may_answer l.guess ≡ g.G.Guess.may_answer l.fn.guess;

@@ -1,12 +1,27 @@
-use Rattle.std.proofs.Common.{arith, ap, ◌∙◌, refl}
-use Rattle.core_view.specs.Events.{retire_event}
+use Rattle.std.proofs.Common.{◌≡◌, ◌+◌, arith, ap, sym, subst, ◌∙◌, refl, append-nil, Some}
+use Rattle.origin_set.specs.Start.{start}
+use Rattle.core_view.specs.declared.outcome.Outcome.{Outcome}
+use Rattle.core_view.specs.declared.outcome.Outcome.TheVariants.{Goes, Stops}
+use Rattle.core_view.specs.Events.{retire_event, stop_event}
+use Rattle.lawful_cycle.specs.Retire.{KeepsDone}
 use Rattle.core_back.specs.Machine.{Machine, context_at}
+use Rattle.core_back.specs.Turn.{TurnsBy, ended, id_of}
+use Rattle.core_back.proofs.Fronts.{IsOnWay, way_first, way_open, way_next, way_none, way_ended, way_stop, none_kept, stop_keeps_none, context_now, one_changed, none_changed, context_ended, one_ended, listed_more}
 use Rattle.core_back.proofs.Turns.{alike_none, alike_chain, alike_with}
 use Rattle.core_back.proofs.retiring.retire_context.Goals as goal
-use Rattle.core_back.proofs.retiring.retire_context.Goals.{in-Performs+then-is_shown, in-Performs+else-is_shown, in_default-operation}
 
 pub loop-done-init : goal.loop-done-init
-loop-done-init g c = record { alike = alike_none c.args.machine.now; idle = c.requires.idle; room = omega (arith, c.requires.room); dropped = omega arith; bound = omega arith; keeps = refl }
+loop-done-init g c = record {
+  alike = alike_none c.args.machine.now;
+  idle = c.requires.idle;
+  room = omega (arith, c.requires.room);
+  way = way_first (start c.args.machine.now.origin c.args.context) c.args.machine.now.view.stamp (context_at c.args.machine.now c.args.context) c.retired-live.ensures.live;
+  after = none_changed c.args.machine.now c.args.context;
+  listed = sym (append-nil c.args.retired.now.items);
+  dropped = omega arith;
+  bound = omega arith;
+  keeps = refl;
+}
 
 pub retire-retirement-requires-clause-idle : goal.retire-retirement-requires-clause-idle
 retire-retirement-requires-clause-idle g c = c.loop-done.invariant.idle
@@ -16,40 +31,94 @@ push-requires g c = omega (arith, c.loop-done.invariant.room, c.loop-done-test.t
 
 pub loop-done-preserved : goal.loop-done-preserved
 loop-done-preserved g c =
+    let done = (sym c.in-Some-Goes.ensures ∙ ap (λ (o : Outcome). Some o) c.in-Some-Goes.field-0-is) in
+    let open_ = way_open (start c.args.machine.now.origin c.args.context) c.args.machine.now.view.stamp (context_at c.args.machine.now c.args.context) c.retired-live.ensures.live (context_at c.loop-done.machine c.args.context) c.loop-done.done (Goes c.in-Some-Goes.step) c.loop-done.invariant.way done in
     record {
       alike = alike_chain c.args.machine.now c.loop-done.machine c.retire-retirement.new.self c.loop-done.invariant.alike
           (alike_with c.loop-done.machine c.retire-retirement.new.self c.args.context (retire_event (context_at c.loop-done.machine c.args.context) c.in-Some-Goes.step) c.retire-retirement.ensures.retired refl);
       idle = ap (λ (m : Machine). m.names) c.retire-retirement.ensures.retired ∙ c.loop-done.invariant.idle;
       room = omega (arith, c.loop-done.invariant.room, c.push.ensures.len);
+      way = subst (λ y. IsOnWay (context_at c.args.machine.now c.args.context) y (c.loop-done.done + 1))
+          (sym (context_now c.loop-done.machine c.retire-retirement.new.self c.args.context (retire_event (context_at c.loop-done.machine c.args.context) c.in-Some-Goes.step) (Goes c.in-Some-Goes.step) done c.retire-retirement.ensures.retired))
+          (way_next (start c.args.machine.now.origin c.args.context) c.args.machine.now.view.stamp (context_at c.args.machine.now c.args.context) c.retired-live.ensures.live (context_at c.loop-done.machine c.args.context) c.loop-done.done c.in-Some-Goes.step c.loop-done.invariant.way done);
+      after = one_changed c.loop-done.machine c.retire-retirement.new.self c.args.context (retire_event (context_at c.loop-done.machine c.args.context) c.in-Some-Goes.step) (Goes c.in-Some-Goes.step) done c.retire-retirement.ensures.retired
+          c.args.machine.now c.loop-done.invariant.after;
+      listed = listed_more (context_at c.args.machine.now c.args.context) (context_at c.loop-done.machine c.args.context) c.args.context c.loop-done.done c.args.retired.now.items c.loop-done.retired.items c.push.new.self.items
+          (id_of c.args.context c.retire-retirement.result.entry) open_.flight open_.more (ap (id_of c.args.context) c.retire-retirement.ensures.entry) c.loop-done.invariant.listed c.push.ensures.items;
       dropped = omega (arith, c.loop-done.invariant.dropped, c.push.ensures.len, c.retire-retirement.ensures.dropped);
       bound = omega (arith, c.loop-done.invariant.bound, c.retire-retirement.ensures.bound);
-      keeps = elim c.match-oldest.branch [
-        | in-Performs+then-is_shown w ↦ ap g.G.Guess.may_answer w.guess-is ∙ w.learn.ensures.keeps ∙ c.loop-done.invariant.keeps
-        | in-Performs+else-is_shown w ↦ ap g.G.Guess.may_answer w.guess-is ∙ c.loop-done.invariant.keeps
-        | in_default-operation w ↦ ap g.G.Guess.may_answer w.guess-is ∙ c.loop-done.invariant.keeps
-      ];
+      keeps = c.learn.ensures ∙ c.loop-done.invariant.keeps;
     }
 
-pub stop_done-stopped-requires : goal.stop_done-stopped-requires
-stop_done-stopped-requires g c = c.loop-done.invariant.idle
+-- ---- a turn that ends at a stop
 
-pub returns-in_default-clause-alike : goal.returns-in_default-clause-alike
-returns-in_default-clause-alike g c = alike_chain c.args.machine.now c.loop-done.machine c.stop_done-stopped.new.machine c.loop-done.invariant.alike c.stop_done-stopped.ensures.alike
+pub stop-stopped-requires-clause-idle : goal.stop-stopped-requires-clause-idle
+stop-stopped-requires-clause-idle g c = c.loop-done.invariant.idle
 
-pub returns-in_default-clause-idle : goal.returns-in_default-clause-idle
-returns-in_default-clause-idle g c = c.stop_done-stopped.ensures.idle
+pub returns-in-Some-Stops-clause-alike : goal.returns-in-Some-Stops-clause-alike
+returns-in-Some-Stops-clause-alike g c =
+    alike_chain c.args.machine.now c.loop-done.machine c.stop-stopped.new.self c.loop-done.invariant.alike (alike_with c.loop-done.machine c.stop-stopped.new.self c.args.context (stop_event (context_at c.loop-done.machine c.args.context) c.in-Some-Stops.why) c.stop-stopped.ensures.stopped refl)
 
-pub returns-in_default-clause-width : goal.returns-in_default-clause-width
-returns-in_default-clause-width g c = omega (arith, c.loop-done.invariant.room, c.loop-done-test.true)
+pub returns-in-Some-Stops-clause-idle : goal.returns-in-Some-Stops-clause-idle
+returns-in-Some-Stops-clause-idle g c = ap (λ (m : Machine). m.names) c.stop-stopped.ensures.stopped ∙ c.loop-done.invariant.idle
 
-pub returns-in_default-clause-keeps : goal.returns-in_default-clause-keeps
-returns-in_default-clause-keeps g c = c.loop-done.invariant.keeps
+pub returns-in-Some-Stops-clause-width : goal.returns-in-Some-Stops-clause-width
+returns-in-Some-Stops-clause-width g c = omega (arith, c.loop-done.invariant.room, c.loop-done-test.true)
 
-pub returns-in_default-clause-dropped : goal.returns-in_default-clause-dropped
-returns-in_default-clause-dropped g c = omega (arith, c.loop-done.invariant.dropped, c.stop_done-stopped.ensures.dropped)
+pub returns-in-Some-Stops-clause-turn : goal.returns-in-Some-Stops-clause-turn
+returns-in-Some-Stops-clause-turn g c =
+    let done = (sym c.in-Some-Stops.ensures ∙ ap (λ (o : Outcome). Some o) c.in-Some-Stops.field-0-is) in
+    let now : context_at c.stop-stopped.new.self c.args.context ≡ (stop_event (context_at c.loop-done.machine c.args.context) c.in-Some-Stops.why) = context_now c.loop-done.machine c.stop-stopped.new.self c.args.context (stop_event (context_at c.loop-done.machine c.args.context) c.in-Some-Stops.why) (Stops c.in-Some-Stops.why) done c.stop-stopped.ensures.stopped in
+    record {
+      number = c.loop-done.done;
+      after = one_changed c.loop-done.machine c.stop-stopped.new.self c.args.context (stop_event (context_at c.loop-done.machine c.args.context) c.in-Some-Stops.why) (Stops c.in-Some-Stops.why) done c.stop-stopped.ensures.stopped c.args.machine.now c.loop-done.invariant.after;
+      taken = omega (arith, c.loop-done-test.true);
+      turned = subst (λ y. TurnsBy c.loop-done.done (context_at c.args.machine.now c.args.context) y (context_at c.args.machine.now c.args.context).status) (sym now) (way_stop (start c.args.machine.now.origin c.args.context) c.args.machine.now.view.stamp (context_at c.args.machine.now c.args.context) c.retired-live.ensures.live (context_at c.loop-done.machine c.args.context) c.loop-done.done c.in-Some-Stops.why c.loop-done.invariant.way done);
+      listed = c.loop-done.invariant.listed;
+      kept = λ keeps. absurd (stop_keeps_none (context_at c.loop-done.machine c.args.context) c.in-Some-Stops.why (subst KeepsDone now keeps));
+    }
 
-pub returns-in_default-clause-bound : goal.returns-in_default-clause-bound
-returns-in_default-clause-bound g c = omega (arith, c.loop-done.invariant.bound, c.stop_done-stopped.ensures.bound, c.loop-done-test.true, c.requires.room)
+pub returns-in-Some-Stops-clause-keeps : goal.returns-in-Some-Stops-clause-keeps
+returns-in-Some-Stops-clause-keeps g c = c.loop-done.invariant.keeps
+
+pub returns-in-Some-Stops-clause-dropped : goal.returns-in-Some-Stops-clause-dropped
+returns-in-Some-Stops-clause-dropped g c = omega (arith, c.loop-done.invariant.dropped, c.stop-stopped.ensures.dropped)
+
+pub returns-in-Some-Stops-clause-bound : goal.returns-in-Some-Stops-clause-bound
+returns-in-Some-Stops-clause-bound g c = omega (arith, c.loop-done.invariant.bound, c.stop-stopped.ensures.bound, c.loop-done-test.true, c.requires.room)
+
+-- ---- a turn that ends where no entry is done
+
+pub returns-in-None-clause-alike : goal.returns-in-None-clause-alike
+returns-in-None-clause-alike g c = c.loop-done.invariant.alike
+
+pub returns-in-None-clause-idle : goal.returns-in-None-clause-idle
+returns-in-None-clause-idle g c = c.loop-done.invariant.idle
+
+pub returns-in-None-clause-width : goal.returns-in-None-clause-width
+returns-in-None-clause-width g c = omega (arith, c.loop-done.invariant.room, c.loop-done-test.true)
+
+pub returns-in-None-clause-turn : goal.returns-in-None-clause-turn
+returns-in-None-clause-turn g c =
+    record {
+      number = c.loop-done.done;
+      after = c.loop-done.invariant.after;
+      taken = omega (arith, c.loop-done-test.true);
+      turned = way_none (start c.args.machine.now.origin c.args.context) c.args.machine.now.view.stamp (context_at c.args.machine.now c.args.context) c.retired-live.ensures.live (context_at c.loop-done.machine c.args.context) c.loop-done.done c.loop-done.invariant.way (sym c.in-None.ensures);
+      listed = c.loop-done.invariant.listed;
+      kept = λ keeps. absurd (none_kept (context_at c.loop-done.machine c.args.context) (sym c.in-None.ensures) keeps);
+    }
+
+pub returns-in-None-clause-keeps : goal.returns-in-None-clause-keeps
+returns-in-None-clause-keeps g c = c.loop-done.invariant.keeps
+
+pub returns-in-None-clause-dropped : goal.returns-in-None-clause-dropped
+returns-in-None-clause-dropped g c = c.loop-done.invariant.dropped
+
+pub returns-in-None-clause-bound : goal.returns-in-None-clause-bound
+returns-in-None-clause-bound g c = omega (arith, c.loop-done.invariant.bound, c.loop-done-test.true, c.requires.room)
+
+-- ---- a turn that uses up the width
 
 pub stop_done-rest-requires : goal.stop_done-rest-requires
 stop_done-rest-requires g c = c.loop-done.invariant.idle
@@ -62,6 +131,18 @@ returns-clause-idle g c = c.stop_done-rest.ensures.idle
 
 pub returns-clause-width : goal.returns-clause-width
 returns-clause-width g c = omega (arith, c.loop-done.invariant.room, c.loop-done.auto.done-end)
+
+pub returns-clause-turn : goal.returns-clause-turn
+returns-clause-turn g c =
+    record {
+      number = c.loop-done.done;
+      after = one_ended c.loop-done.machine c.stop_done-rest.new.machine c.args.context c.stop_done-rest.ensures.stopped c.args.machine.now c.loop-done.invariant.after;
+      taken = omega (arith, c.loop-done-test.false, c.loop-done.auto.done-end);
+      turned = subst (λ y. TurnsBy c.loop-done.done (context_at c.args.machine.now c.args.context) y (context_at c.args.machine.now c.args.context).status) (sym (context_ended c.loop-done.machine c.stop_done-rest.new.machine c.args.context c.stop_done-rest.ensures.stopped))
+          (way_ended (start c.args.machine.now.origin c.args.context) c.args.machine.now.view.stamp (context_at c.args.machine.now c.args.context) c.retired-live.ensures.live (context_at c.loop-done.machine c.args.context) c.loop-done.done c.loop-done.invariant.way);
+      listed = c.loop-done.invariant.listed;
+      kept = λ _. refl;
+    }
 
 pub returns-clause-keeps : goal.returns-clause-keeps
 returns-clause-keeps g c = c.loop-done.invariant.keeps

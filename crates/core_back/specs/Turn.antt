@@ -1,0 +1,48 @@
+-- What a context's turn to retire makes of it.
+use Rattle.std.specs.Prelude.{◌≡◌, ℕ, ◌+◌, ◌≤◌, true, List, ◌++◌, length, map, take, All, Option, Some, None}
+use Rattle.core_view.specs.declared.entry.Entry.{Entry}
+use Rattle.core_view.specs.declared.note.EntryId.{EntryId}
+use Rattle.core_view.specs.declared.status.Status.{Status}
+use Rattle.core_view.specs.declared.status.Status.TheVariants.{Running, Parked, Stopped}
+use Rattle.core_view.specs.declared.outcome.Outcome.{Outcome}
+use Rattle.core_view.specs.declared.outcome.Outcome.TheVariants.{Goes, Stops}
+use Rattle.core_view.specs.Events.{stop_event}
+use Rattle.core_view.specs.View.{Context}
+use Rattle.lawful_cycle.specs.Retire.{is_done_on, past, KeepsDone}
+use Rattle.core_back.specs.Machine.{Machine, first_done, context_at, with_context}
+
+-- the n oldest entries of x have retired: a front, all done without a stop, none past the target
+pub record IsFrontGone (n : ℕ) (x y : Context) : Type 0 where
+  pub front : n ≤ length x.flight
+  pub done : All (λ e. is_done_on e.stage ≡ true) (take n x.flight)
+  pub within : x.count + n ≤ x.target
+  pub is : y ≡ past x n y.state
+
+-- in a running context
+abbrev pub TurnsBy : ℕ → Context → Context → Status → Type 0
+TurnsBy n x y Running = IsFrontGone n x y
+TurnsBy n x y Parked = (n ≡ 0) × (y ≡ x)
+TurnsBy n x y (Stopped why) = (n ≡ 0) × (y ≡ x)
+
+-- a context whose oldest entry is done with a stop is stopped
+abbrev pub stopped_by : Option Outcome → Context → Context
+stopped_by None x = x
+stopped_by (Some (Goes step)) x = x
+stopped_by (Some (Stops why)) x = stop_event x why
+
+abbrev pub ended : Context → Context
+ended x = stopped_by (first_done x.flight) x
+
+-- an entry of a context, by its name in a note
+abbrev pub id_of : ℕ → Entry → EntryId
+id_of c e = record { context = c; stamp = e.stamp }
+
+-- a context had its turn: of the width so much is left
+pub record IsTurn (m n : Machine) (c width left : ℕ) (old new : List EntryId) : Type 0 where
+  pub number : ℕ
+  pub after : n ≡ with_context m c (context_at n c)
+  pub taken : left + number ≡ width
+  pub turned : TurnsBy number (context_at m c) (context_at n c) (context_at m c).status
+  pub listed : new ≡ old ++ map (id_of c) (take number (context_at m c).flight)
+  -- a done entry is kept only where nothing is left
+  pub kept : KeepsDone (context_at n c) → left ≡ 0
