@@ -1,13 +1,10 @@
 -- Where a guess states one answer and a delay one lag, a view decides a lawful cycle, and a first view a run.
-use Rattle.std.proofs.Common.{◌≡◌, ℕ, zero, suc, ◌+◌, ◌-◌, ◌<◌, ◌≤◌, Bool, true, false, List, length, map, take, get_or, refl, sym, ap, ◌∙◌, subst, arith, inl, inr}
-use Rattle.std.specs.Prelude.{◌&&◌, ◌%◌, IsTrue}
+use Rattle.std.proofs.Common.{◌≡◌, ℕ, zero, suc, ◌+◌, ◌-◌, ◌<◌, true, false, List, length, take, get_or, sym, ap, ◌∙◌, subst, arith, inl, inr}
+use Rattle.std.specs.Prelude.{◌&&◌, ◌%◌}
 use Rattle.std.proofs.lemmas.Bool.{cases_lt, cases_Bool}
 use Rattle.std.proofs.lemmas.List.{get_or-map, get_or-take}
-use Rattle.rv64_decode.specs.declared.insn.Insn.{Insn}
-use Rattle.issue_queue.specs.declared.entry.QueueView.{QueueView}
 use Rattle.data_tags.specs.declared.delay.Kind.{Kind}
 use Rattle.data_tags.specs.declared.delay.Lag.{Lag}
-use Rattle.fetch_policy.specs.declared.view.FetchView.{FetchView}
 use Rattle.core_view.specs.declared.operation.Operation.{Operation}
 use Rattle.core_view.specs.declared.operation.Operation.TheVariants.{Performs, Stops}
 use Rattle.core_view.specs.declared.outcome.Outcome.{Outcome}
@@ -19,16 +16,16 @@ use Rattle.core_view.specs.Operations.{operation_at, is_guessed}
 use Rattle.core_view.specs.Flight.{pc_past}
 use Rattle.core_view.specs.View.{Context, View, no_entry, entry_at}
 use Rattle.lawful_cycle.specs.Views.{context_in, stamps_in}
-use Rattle.lawful_cycle.specs.Delays.{is_access, is_stop, kind_of, one_cycle, IsLagOf}
+use Rattle.lawful_cycle.specs.Delays.{is_access, is_stop, kind_of, IsLagOf}
 use Rattle.lawful_cycle.specs.Issue.{operation_at_place, outcome_at, address_at, Place, id_in, no_place, no_issue, HasLag, IsReadyIn, IsIssue}
 use Rattle.lawful_cycle.specs.Fetch.{IsStated, IsFetch}
 use Rattle.lawful_cycle.specs.Cycle.{Laws, IsLawfulCycle}
-use Rattle.lawful_cycle.specs.Runs.{Figures, added, IsRun, IsFirstView}
+use Rattle.lawful_cycle.specs.Runs.{Figures, added, IsRun}
 use Rattle.lawful_cycle.specs.Stamps.{flight_in, IsStamped}
 use Rattle.lawful_cycle.specs.SameAnswers.{HaveSameLags, HaveSameGuesses, StateOne}
 use Rattle.lawful_cycle.proofs.Stamped.{one_place}
 use Rattle.lawful_cycle.proofs.UniqueIssue.{ready_within, join_place, count_chosen}
-use Rattle.lawful_cycle.proofs.UniqueCycle.{empty_stamped, run_stamped, one_cycle as the_cycle}
+use Rattle.lawful_cycle.proofs.UniqueCycle.{run_stamped, one_cycle as the_cycle}
 
 module _ (laws : Laws) (one : StateOne laws) where
   -- ---- lags
@@ -65,7 +62,7 @@ module _ (laws : Laws) (one : StateOne laws) where
       let other : HasLag laws.delays t p (get_or b j no_issue) = subst (λ r. HasLag laws.delays t r (get_or b j no_issue)) (sym places) (g.lags j lj) in
       let c = context_in t p.context in
       let lags = lag_of p.context (kind_of (operation_at_place c p.place)) (address_at c p.place) (outcome_at c p.place)
-          (record { cycles = (get_or a i no_issue).latency; miss = (get_or a i no_issue).miss }) (record { cycles = (get_or b j no_issue).latency; miss = (get_or b j no_issue).miss }) (h.lags i li) other in
+      (record { cycles = (get_or a i no_issue).latency; miss = (get_or a i no_issue).miss }) (record { cycles = (get_or b j no_issue).latency; miss = (get_or b j no_issue).miss }) (h.lags i li) other in
       (ap (λ (l : Lag). l.cycles) lags, ap (λ (l : Lag). l.miss) lags)
 
   -- ---- guesses
@@ -94,7 +91,7 @@ module _ (laws : Laws) (one : StateOne laws) where
           → is_guessed (entry_at (context_in x c) i).operation ≡ true → (entry_at (context_in x c) i).followed ≡ (entry_at (context_in y c) i).followed
       fresh j lj lk i at pc gx =
           subst (λ n. (entry_at (context_in x c) n).pc ≡ (entry_at (context_in y c) n).pc → is_guessed (entry_at (context_in x c) n).operation ≡ true → (entry_at (context_in x c) n).followed ≡ (entry_at (context_in y c) n).followed) at
-              (λ pcs guessed. here pcs guessed) pc gx
+          (λ pcs guessed. here pcs guessed) pc gx
         where
           here : (entry_at (context_in x c) (length (flight_in t c) + j)).pc ≡ (entry_at (context_in y c) (length (flight_in t c) + j)).pc → is_guessed (entry_at (context_in x c) (length (flight_in t c) + j)).operation ≡ true
               → (entry_at (context_in x c) (length (flight_in t c) + j)).followed ≡ (entry_at (context_in y c) (length (flight_in t c) + j)).followed

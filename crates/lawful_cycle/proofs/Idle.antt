@@ -1,5 +1,5 @@
 -- A part of a cycle that finds nothing to do leaves a view as it is.
-use Rattle.std.proofs.Common.{◌≡◌, ℕ, suc, ◌+◌, ◌<◌, List, [], ◌∷◌, length, refl, ap, arith}
+use Rattle.std.proofs.Common.{◌≡◌, ℕ, suc, ◌<◌, List, [], ◌∷◌, length, refl, ap, arith}
 use Rattle.rv64_decode.specs.declared.insn.Insn.{Insn}
 use Rattle.std.specs.Prelude.{Bool}
 use Rattle.issue_queue.specs.declared.entry.QueueView.{QueueView}
@@ -9,7 +9,7 @@ use Rattle.fetch_policy.specs.declared.view.FetchView.{FetchView}
 use Rattle.fetch_policy.specs.Lawful.{IsEligible}
 use Rattle.core_view.specs.declared.entry.Entry.{Entry}
 use Rattle.core_view.specs.View.{Context, View}
-use Rattle.lawful_cycle.specs.Views.{context_in, EachContext, ChangesEach}
+use Rattle.lawful_cycle.specs.Views.{context_in, ChangesEach}
 use Rattle.lawful_cycle.specs.Retire.{RetiresBy, KeepsDone, IsRetire}
 use Rattle.lawful_cycle.specs.Issue.{issued_from, IsReadyIn, Place, IsIssue}
 use Rattle.lawful_cycle.specs.Rename.{CanRename, IsRename}

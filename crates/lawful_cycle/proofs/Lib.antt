@@ -17,3 +17,6 @@ pub mod UniqueFetch
 pub mod KeptStamps
 pub mod UniqueCycle
 pub mod Decided
+pub mod Sources
+pub mod WhatIsSeen
+pub mod InFlight

@@ -1,7 +1,7 @@
 -- A whole run by hand: an ECALL stands at context 0's pc, nothing else runs, and the front delay is 1. It is fetched in cycle 0,
 -- renamed in cycle 1 and stops its context in cycle 2, whatever is picked, ordered, guessed and delayed.
 use Rattle.std.specs.Prelude.{◌&&◌, nat_lt}
-use Rattle.std.proofs.Common.{◌≡◌, ℕ, zero, suc, ◌+◌, ◌<◌, ◌≤◌, Bool, true, false, List, [], ◌∷◌, length, take, get_or, Some, None, refl, sym, ap, ◌∙◌, subst, arith, inl}
+use Rattle.std.proofs.Common.{◌≡◌, ℕ, zero, suc, ◌<◌, ◌≤◌, Bool, true, false, List, [], ◌∷◌, length, take, get_or, Some, None, refl, sym, ◌∙◌, subst, arith, inl}
 use Rattle.hart_step.specs.declared.stop.Stop.TheVariants as why
 use Rattle.hart_step.specs.State.{State}
 use Rattle.core_profile.specs.declared.profile.Profile.{Profile}
@@ -9,7 +9,6 @@ use Rattle.core_view.specs.declared.operation.Operation.TheVariants as operation
 use Rattle.core_view.specs.declared.outcome.Outcome.TheVariants as outcome
 use Rattle.core_view.specs.declared.entry.Stage.{Stage}
 use Rattle.core_view.specs.declared.entry.Stage.TheVariants.{Fetched, Done}
-use Rattle.core_view.specs.declared.entry.Entry.{Entry}
 use Rattle.core_view.specs.declared.note.EntryId.{EntryId}
 use Rattle.core_view.specs.declared.note.CycleNote.{CycleNote}
 use Rattle.core_view.specs.declared.status.Status.TheVariants.{Running, Parked, Stopped}
@@ -17,14 +16,14 @@ use Rattle.core_view.specs.Operations.{operation_at}
 use Rattle.core_view.specs.Events.{named_at}
 use Rattle.core_view.specs.View.{Context, View, entry_at}
 use Rattle.fetch_policy.specs.Lawful.{IsEligible}
-use Rattle.lawful_cycle.specs.Views.{no_context, context_in, number_in, stamps_in, stamps_of}
+use Rattle.lawful_cycle.specs.Views.{no_context, context_in}
 use Rattle.lawful_cycle.specs.Retire.{RetiresBy, KeepsDone, IsRetire}
 use Rattle.lawful_cycle.specs.Complete.{IsCompletedTo, completed_in, IsComplete}
 use Rattle.lawful_cycle.specs.Issue.{is_queued, is_ready_on, first_value, second_value, is_ready, IsIssue}
-use Rattle.lawful_cycle.specs.Rename.{oldest_fetched, CanRename, IsNext, renamed_view, no_id, IsRename}
+use Rattle.lawful_cycle.specs.Rename.{oldest_fetched, IsNext, renamed_view, no_id, IsRename}
 use Rattle.lawful_cycle.specs.Fetch.{is_eligible, fetch_view, IsFetch}
-use Rattle.lawful_cycle.specs.Cycle.{Laws, ticked, IsLawfulCycle}
-use Rattle.lawful_cycle.specs.Runs.{Figures, no_figures, added, SomeRuns, IsRun, IsRunTo}
+use Rattle.lawful_cycle.specs.Cycle.{Laws, IsLawfulCycle}
+use Rattle.lawful_cycle.specs.Runs.{Figures, no_figures, added, SomeRuns, IsRunTo}
 use Rattle.lawful_cycle.proofs.OneContext.{view_of, others, each_of, id}
 use Rattle.lawful_cycle.proofs.Idle.{retire_nothing, issue_nothing, rename_nothing, fetch_nothing}
 use Rattle.lawful_cycle.proofs.Examples.{context, ecall, fetch_ecall}
@@ -54,8 +53,8 @@ no_done keeps = let h : false ≡ true = keeps.done in absurd cc
 retire_idle : (p : Profile) (cycle stamp : ℕ) (x : Context) → RetiresBy 0 x x x.status → ¬ KeepsDone x → IsRetire (view_of p cycle stamp x) (view_of p cycle stamp x) []
 retire_idle p cycle stamp x stays none =
     retire_nothing (view_of p cycle stamp x) refl
-        (λ c lc. each_context (λ y. RetiresBy 0 y y y.status) p cycle stamp x stays (refl, refl) c)
-        (λ c lc. each_context (λ y. ¬ KeepsDone y) p cycle stamp x none no_done c)
+    (λ c lc. each_context (λ y. RetiresBy 0 y y y.status) p cycle stamp x stays (refl, refl) c)
+    (λ c lc. each_context (λ y. ¬ KeepsDone y) p cycle stamp x none no_done c)
 
 not_all : (a q b : Bool) → q ≡ false → ¬ ((a && q && b) ≡ true)
 not_all true true b q h = absurd cc
@@ -72,7 +71,7 @@ none_ready x none i h = not_all (nat_lt i (length x.flight)) (is_queued (entry_a
 issue_idle : (laws : Laws) (p : Profile) (cycle stamp : ℕ) (x : Context) → NoneQueued x → IsIssue laws.order laws.delays (view_of p cycle stamp x) (view_of p cycle stamp x) []
 issue_idle laws p cycle stamp x none =
     issue_nothing laws.order laws.delays (view_of p cycle stamp x) refl
-        (λ q is. none_ready (context_in (view_of p cycle stamp x) q.context) (each_context NoneQueued p cycle stamp x none (λ i. refl) q.context) q.place is.1)
+    (λ q is. none_ready (context_in (view_of p cycle stamp x) q.context) (each_context NoneQueued p cycle stamp x none (λ i. refl) q.context) q.place is.1)
 
 complete_idle : (p : Profile) (cycle stamp : ℕ) (x : Context) → IsCompletedTo cycle (length x.flight) x x → completed_in cycle (length x.flight) x ≡ 0 → IsComplete (view_of p cycle stamp x) (view_of p cycle stamp x) 0
 complete_idle p cycle stamp x stays none = record {
@@ -88,7 +87,7 @@ empty_stays cycle x none = rw none (record { cut = record { fits = omega arith; 
 rename_idle : (p : Profile) (cycle stamp : ℕ) (x : Context) → oldest_fetched x ≡ None → IsRename (view_of p cycle stamp x) (view_of p cycle stamp x) []
 rename_idle p cycle stamp x none =
     rename_nothing (view_of p cycle stamp x) refl
-        (λ c e can. each_context (λ y. ¬ (oldest_fetched y ≡ Some e)) p cycle stamp x (λ h. let f : None ≡ Some e = sym none ∙ h in absurd cc) (λ h. let f : None ≡ Some e = h in absurd cc) c can.oldest)
+    (λ c e can. each_context (λ y. ¬ (oldest_fetched y ≡ Some e)) p cycle stamp x (λ h. let f : None ≡ Some e = sym none ∙ h in absurd cc) (λ h. let f : None ≡ Some e = h in absurd cc) c can.oldest)
 
 -- where no context runs to fetch
 fetch_idle : (laws : Laws) (p : Profile) (cycle stamp : ℕ) (x : Context) → is_eligible x ≡ false → IsFetch laws.pick laws.guesses (view_of p cycle stamp x) (view_of p cycle stamp x) []
@@ -239,11 +238,23 @@ module _ (laws : Laws) (s : State) (p : Profile) where
 
   pub lone_ecall : (limit : ℕ) → p.front_delay ≡ 1 → operation_at s.memory s.pc ≡ operation.Stops why.Ecall → 3 ≤ limit → IsRunTo laws limit (view_0 s p) (view_3 s p) ecall_figures true
   lone_ecall limit delay stands within = record {
-    run = (view_2 s p, figures_2, note_of [] [] 1,
-        (view_1 s p, figures_1, note_of [] (id 0 0 ∷ []) 0,
-            (view_0 s p, no_figures, note_of (id 0 0 ∷ []) [] 0, (refl, refl), runs_0, ecall_fetched stands, refl),
-            runs_1, ecall_renamed delay, refl),
-        runs_2, ecall_stopped, refl);
+    run = (
+      view_2 s p,
+      figures_2,
+      note_of [] [] 1,
+      (
+        view_1 s p,
+        figures_1,
+        note_of [] (id 0 0 ∷ []) 0,
+        (view_0 s p, no_figures, note_of (id 0 0 ∷ []) [] 0, (refl, refl), runs_0, ecall_fetched stands, refl),
+        runs_1,
+        ecall_renamed delay,
+        refl,
+      ),
+      runs_2,
+      ecall_stopped,
+      refl,
+    );
     within = within;
     ended = λ told some. nobody some.0 some.2;
     limited = λ h. absurd (let f : true ≡ false = h in cc);

@@ -6,7 +6,6 @@ use Rattle.std.proofs.lemmas.Bool.Decides.{nat_tests}
 use Rattle.core_view.specs.Events.{due_at, named_at, completed_one, completed_if, completed_entry}
 use Rattle.std.proofs.lemmas.List.{length-map, get_or-map}
 use Rattle.rv64_decode.specs.declared.insn.Insn.{Insn}
-use Rattle.core_profile.specs.declared.profile.Profile.{Profile}
 use Rattle.issue_queue.specs.declared.entry.QueueView.{QueueView}
 use Rattle.data_tags.specs.declared.delay.Kind.{Kind}
 use Rattle.data_tags.specs.declared.delay.Lag.{Lag}

@@ -1,6 +1,6 @@
 -- Lists of a note in which contexts come by turn: what names each context decides the list, and how long it is.
-use Rattle.std.proofs.Common.{◌≡◌, ◌≢◌, ℕ, zero, suc, ◌+◌, ◌<◌, ◌≤◌, Bool, true, false, List, [], ◌∷◌, length, map, get_or, refl, sym, ap, ◌∙◌, subst, arith, inl, inr, add-one}
-use Rattle.std.specs.Prelude.{◌==◌, filter, if◌then◌else◌, All, AllPairs}
+use Rattle.std.proofs.Common.{◌≡◌, ◌≢◌, ℕ, zero, suc, ◌+◌, ◌<◌, ◌≤◌, Bool, true, false, List, [], ◌∷◌, length, map, refl, sym, ap, ◌∙◌, arith, inl, inr}
+use Rattle.std.specs.Prelude.{◌==◌, filter, if◌then◌else◌, All}
 use Rattle.std.proofs.lemmas.Bool.{cases_lt, cases_eq}
 use Rattle.std.proofs.lemmas.Bool.Decides.{nat_tests}
 use Rattle.std.proofs.lemmas.List.Elements.{All-tail}
@@ -107,7 +107,7 @@ number_cons d n ids = go (n.context == d)
     go true = omega arith
     go false = omega arith
 
-abbrev all_of : (ℕ → ℕ) → ℕ
+abbrev pub all_of : (ℕ → ℕ) → ℕ
 all_of f = f 0 + f 1 + f 2 + f 3 + f 4 + f 5 + f 6 + f 7
 
 one_in_all : (c : ℕ) → c < 8 → all_of (one_of c) ≡ 1

@@ -1,5 +1,5 @@
 -- A view and the cycle number decide what completes and what is cut.
-use Rattle.std.proofs.Common.{◌≡◌, ℕ, ◌<◌, ◌≤◌, List, length, map, take, refl, sym, ap, ◌∙◌, arith, inl, inr}
+use Rattle.std.proofs.Common.{◌≡◌, ℕ, ◌≤◌, List, length, map, take, sym, ap, ◌∙◌, arith, inl, inr}
 use Rattle.std.specs.Prelude.{sum_by}
 use Rattle.std.proofs.lemmas.Bool.{cases_lt}
 use Rattle.core_view.specs.declared.entry.Entry.{Entry}
@@ -33,4 +33,4 @@ complete_unique v w u m n h g = (same, h.number ∙ ap (λ (t : View). sum_by (�
     same : w ≡ u
     same =
         same_changes (λ c x y. IsCompletedTo v.cycle (length y.flight) x y) (λ c x y. IsCompletedTo v.cycle (length y.flight) x y) v w u h.contexts g.contexts
-            (λ c lc. completed_unique v.cycle (context_in v c) (context_in w c) (context_in u c) (h.contexts.contexts.each c lc) (g.contexts.contexts.each c lc))
+        (λ c lc. completed_unique v.cycle (context_in v c) (context_in w c) (context_in u c) (h.contexts.contexts.each c lc) (g.contexts.contexts.each c lc))

@@ -1,11 +1,11 @@
 -- A view whose stamps are in order decides a lawful cycle, up to the answers of guess and delay; and its stamps stay in order.
-use Rattle.std.proofs.Common.{◌≡◌, ℕ, zero, suc, ◌+◌, ◌<◌, Bool, List, length, refl, sym, ap, ◌∙◌, subst, arith}
+use Rattle.std.proofs.Common.{◌≡◌, ℕ, zero, suc, ◌<◌, List, length, refl, sym, ap, ◌∙◌, subst, arith}
+use Rattle.hart_step.specs.State.{State}
+use Rattle.core_profile.specs.declared.profile.Profile.{Profile}
 use Rattle.core_view.specs.declared.note.CycleNote.{CycleNote}
 use Rattle.core_view.specs.declared.note.EntryId.{EntryId}
 use Rattle.core_view.specs.declared.note.Issue.{Issue}
 use Rattle.core_view.specs.View.{Context, View}
-use Rattle.lawful_cycle.specs.Views.{context_in}
-use Rattle.lawful_cycle.specs.Retire.{IsRetire}
 use Rattle.lawful_cycle.specs.Complete.{IsComplete, in_flight}
 use Rattle.lawful_cycle.specs.Issue.{IsIssue}
 use Rattle.lawful_cycle.specs.Rename.{IsRename}
@@ -14,7 +14,6 @@ use Rattle.lawful_cycle.specs.Cycle.{Laws, ticked, IsLawfulCycle}
 use Rattle.lawful_cycle.specs.Runs.{Figures, IsRun, IsFirstView}
 use Rattle.lawful_cycle.specs.Stamps.{flight_in, IsStamped}
 use Rattle.lawful_cycle.specs.SameAnswers.{HaveSameLags, HaveSameGuesses}
-use Rattle.lawful_cycle.proofs.Stamped.{stamped_through}
 use Rattle.lawful_cycle.proofs.KeptStamps.{retire_stamped, complete_stamped, issue_stamped, rename_stamped, fetch_stamped}
 use Rattle.lawful_cycle.proofs.UniqueRetire.{retire_unique}
 use Rattle.lawful_cycle.proofs.UniqueComplete.{complete_unique}
@@ -31,6 +30,9 @@ empty_stamped v none = record {
   below = λ c i lc lt. let e = none c lc in absurd (omega (arith, e, lt));
   apart = λ c d i j lc ld li lj same. let e = none c lc in absurd (omega (arith, e, li));
 }
+
+pub first_stamped : (p : Profile) (starts : ℕ → State) (counts targets : ℕ → ℕ) (v : View) → IsFirstView p starts counts targets v → IsStamped v
+first_stamped p starts counts targets v h = empty_stamped v (λ c lc. ap (λ (x : Context). length x.flight) (h.contexts c lc))
 
 ticked_stamped : (v : View) → IsStamped v → IsStamped (ticked v)
 ticked_stamped v h = record { growing = h.growing; below = h.below; apart = h.apart }
@@ -71,44 +73,44 @@ module _ (laws : Laws) (v w u : View) (n m : CycleNote) (h : IsLawfulCycle laws 
     (lags : (t x y : View) → IsStamped t → IsIssue laws.order laws.delays t x n.issued.items → IsIssue laws.order laws.delays t y m.issued.items → HaveSameLags n.issued.items m.issued.items)
     (guessed : (t x y : View) → t.cycle ≡ v.cycle → w ≡ ticked x → u ≡ ticked y → IsFetch laws.pick laws.guesses t x n.fetched.items → IsFetch laws.pick laws.guesses t y m.fetched.items → HaveSameGuesses t.cycle x y)
   where
-  retires : (h.retired ≡ g.retired) × (n.retired.items ≡ m.retired.items)
-  retires = retire_unique v h.retired g.retired n.retired.items m.retired.items h.retire g.retire
+    retires : (h.retired ≡ g.retired) × (n.retired.items ≡ m.retired.items)
+    retires = retire_unique v h.retired g.retired n.retired.items m.retired.items h.retire g.retire
 
-  completes : (h.completed ≡ g.completed) × (n.completed ≡ m.completed)
-  completes = complete_unique h.retired h.completed g.completed n.completed m.completed h.complete (subst (λ t. IsComplete t g.completed m.completed) (sym retires.0) g.complete)
+    completes : (h.completed ≡ g.completed) × (n.completed ≡ m.completed)
+    completes = complete_unique h.retired h.completed g.completed n.completed m.completed h.complete (subst (λ t. IsComplete t g.completed m.completed) (sym retires.0) g.complete)
 
-  kept : IsStamped h.completed × IsStamped h.issued × IsStamped h.renamed
-  kept = renamed_is_stamped laws v w n h stamped
+    kept : IsStamped h.completed × IsStamped h.issued × IsStamped h.renamed
+    kept = renamed_is_stamped laws v w n h stamped
 
-  issues : (h.issued ≡ g.issued) × (n.issued.items ≡ m.issued.items)
-  issues =
-      let also : IsIssue laws.order laws.delays h.completed g.issued m.issued.items = subst (λ t. IsIssue laws.order laws.delays t g.issued m.issued.items) (sym completes.0) g.issue in
-      issue_unique laws.order laws.delays h.completed h.issued g.issued n.issued.items m.issued.items kept.0 h.issue also (lags h.completed h.issued g.issued kept.0 h.issue also)
+    issues : (h.issued ≡ g.issued) × (n.issued.items ≡ m.issued.items)
+    issues =
+        let also : IsIssue laws.order laws.delays h.completed g.issued m.issued.items = subst (λ t. IsIssue laws.order laws.delays t g.issued m.issued.items) (sym completes.0) g.issue in
+        issue_unique laws.order laws.delays h.completed h.issued g.issued n.issued.items m.issued.items kept.0 h.issue also (lags h.completed h.issued g.issued kept.0 h.issue also)
 
-  renames : (h.renamed ≡ g.renamed) × (n.renamed.items ≡ m.renamed.items)
-  renames = rename_unique h.issued h.renamed g.renamed n.renamed.items m.renamed.items kept.1 h.rename (subst (λ t. IsRename t g.renamed m.renamed.items) (sym issues.0) g.rename)
+    renames : (h.renamed ≡ g.renamed) × (n.renamed.items ≡ m.renamed.items)
+    renames = rename_unique h.issued h.renamed g.renamed n.renamed.items m.renamed.items kept.1 h.rename (subst (λ t. IsRename t g.renamed m.renamed.items) (sym issues.0) g.rename)
 
-  fetches : (h.fetched ≡ g.fetched) × (n.fetched.items ≡ m.fetched.items)
-  fetches =
-      let also : IsFetch laws.pick laws.guesses h.renamed g.fetched m.fetched.items = subst (λ t. IsFetch laws.pick laws.guesses t g.fetched m.fetched.items) (sym renames.0) g.fetch in
-      fetch_unique laws.pick laws.guesses h.renamed h.fetched g.fetched n.fetched.items m.fetched.items h.fetch also (guessed h.renamed h.fetched g.fetched (same_cycle laws v w n h) h.next g.next h.fetch also)
+    fetches : (h.fetched ≡ g.fetched) × (n.fetched.items ≡ m.fetched.items)
+    fetches =
+        let also : IsFetch laws.pick laws.guesses h.renamed g.fetched m.fetched.items = subst (λ t. IsFetch laws.pick laws.guesses t g.fetched m.fetched.items) (sym renames.0) g.fetch in
+        fetch_unique laws.pick laws.guesses h.renamed h.fetched g.fetched n.fetched.items m.fetched.items h.fetch also (guessed h.renamed h.fetched g.fetched (same_cycle laws v w n h) h.next g.next h.fetch also)
 
-  cuts : n.cut ≡ m.cut
-  cuts =
-      let a = h.cut in
-      let b = g.cut in
-      let left : in_flight h.completed ≡ in_flight g.completed = ap in_flight completes.0 in
-      let gone : length n.retired.items ≡ length m.retired.items = ap (λ (ns : List EntryId). length ns) retires.1 in
-      omega (arith, a, b, left, gone)
+    cuts : n.cut ≡ m.cut
+    cuts =
+        let a = h.cut in
+        let b = g.cut in
+        let left : in_flight h.completed ≡ in_flight g.completed = ap in_flight completes.0 in
+        let gone : length n.retired.items ≡ length m.retired.items = ap (λ (ns : List EntryId). length ns) retires.1 in
+        omega (arith, a, b, left, gone)
 
-  pub one_cycle : (w ≡ u) × (n ≡ m)
-  one_cycle = (h.next ∙ ap ticked fetches.0 ∙ sym g.next, same_note n m fetches.1 renames.1 issues.1 retires.1 completes.1 cuts)
+    pub one_cycle : (w ≡ u) × (n ≡ m)
+    one_cycle = (h.next ∙ ap ticked fetches.0 ∙ sym g.next, same_note n m fetches.1 renames.1 issues.1 retires.1 completes.1 cuts)
 
 -- two lawful cycles from one view that were answered alike lead to one view, with one note
 pub cycle_unique : (laws : Laws) (v w u : View) (n m : CycleNote) → IsStamped v → IsLawfulCycle laws v w n → IsLawfulCycle laws v u m → HaveSameLags n.issued.items m.issued.items → HaveSameGuesses v.cycle w u → (w ≡ u) × (n ≡ m)
 cycle_unique laws v w u n m stamped h g lags guessed =
     one_cycle laws v w u n m h g stamped (λ t x y s a b. lags)
-        (λ t x y at wx uy a b. told t.cycle x y at wx uy)
+    (λ t x y at wx uy a b. told t.cycle x y at wx uy)
   where
     told : (cycle : ℕ) (x y : View) → cycle ≡ v.cycle → w ≡ ticked x → u ≡ ticked y → HaveSameGuesses cycle x y
     told cycle x y at wx uy =

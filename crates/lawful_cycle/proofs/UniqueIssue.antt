@@ -1,7 +1,7 @@
 -- A view whose stamps are in order decides what issues, up to the lags.
-use Rattle.std.proofs.Common.{◌≡◌, ◌≢◌, ℕ, zero, suc, ◌+◌, ◌<◌, ◌≤◌, Bool, true, false, List, length, map, get_or, refl, sym, ap, ◌∙◌, subst, arith, inl, inr}
-use Rattle.std.specs.Prelude.{◌⊎◌, ◌==◌, ◌&&◌, nat_lt, AllPairs, Contains}
-use Rattle.std.proofs.lemmas.Bool.{cases_lt, cases_eq}
+use Rattle.std.proofs.Common.{◌≡◌, ◌≢◌, ℕ, ◌<◌, Bool, true, false, List, length, map, get_or, refl, sym, ap, ◌∙◌, subst, arith, inl, inr}
+use Rattle.std.specs.Prelude.{◌⊎◌, ◌==◌, ◌&&◌, nat_lt}
+use Rattle.std.proofs.lemmas.Bool.{cases_eq}
 use Rattle.std.proofs.lemmas.Bool.Decides.{nat_tests}
 use Rattle.std.proofs.lemmas.List.{length-map, get_or-map, ext_get_or}
 use Rattle.issue_queue.specs.declared.entry.QueueView.{QueueView}
@@ -10,9 +10,9 @@ use Rattle.data_tags.specs.declared.delay.Lag.{Lag}
 use Rattle.core_view.specs.declared.note.EntryId.{EntryId}
 use Rattle.core_view.specs.declared.note.Issue.{Issue}
 use Rattle.core_view.specs.Events.{with_flight}
-use Rattle.core_view.specs.View.{Context, View, entry_at}
+use Rattle.core_view.specs.View.{View, entry_at}
 use Rattle.lawful_cycle.specs.Views.{context_in, is_id}
-use Rattle.lawful_cycle.specs.Issue.{is_queued, is_ready, is_ready_on, first_value, second_value, Place, entry_in, id_in, queue_view, IsReadyIn, IsNotAfter, issued_from, no_issue, no_place, IsIssue}
+use Rattle.lawful_cycle.specs.Issue.{is_queued, is_ready_on, first_value, second_value, Place, entry_in, id_in, queue_view, IsReadyIn, IsNotAfter, issued_from, no_issue, no_place, IsIssue}
 use Rattle.lawful_cycle.specs.Stamps.{flight_in, IsStamped}
 use Rattle.lawful_cycle.specs.SameAnswers.{HaveSameLags}
 use Rattle.lawful_cycle.proofs.SameViews.{same_changes}
@@ -110,8 +110,8 @@ module _ (key : QueueView → ℕ) (delays : ℕ → Kind → ℕ → Lag → Bo
       entries : (i : ℕ) → i < length a → (get_or a i no_issue).entry ≡ (get_or b i no_issue).entry
       entries i lt =
           sym (get_or-map (λ (n : Issue). n.entry) a i no_issue no_issue.entry lt)
-              ∙ ap (λ (ns : List EntryId). get_or ns i no_issue.entry) names
-              ∙ get_or-map (λ (n : Issue). n.entry) b i no_issue no_issue.entry (omega (arith, lt, count))
+          ∙ ap (λ (ns : List EntryId). get_or ns i no_issue.entry) names
+          ∙ get_or-map (λ (n : Issue). n.entry) b i no_issue no_issue.entry (omega (arith, lt, count))
 
       issues : a ≡ b
       issues = ext_get_or no_issue a b count (λ i lt. let lag = lags i i lt (omega (arith, lt, count)) (entries i lt) in same_issue (get_or a i no_issue) (get_or b i no_issue) (entries i lt) lag.0 lag.1)
@@ -119,4 +119,4 @@ module _ (key : QueueView → ℕ) (delays : ℕ → Kind → ℕ → Lag → Bo
       views : w ≡ u
       views =
           same_changes (λ c x y. y ≡ with_flight x (issued_from v.cycle c a x 0 x.flight)) (λ c x y. y ≡ with_flight x (issued_from v.cycle c b x 0 x.flight)) v w u h.contexts g.contexts
-              (λ c lc. let x = context_in v c in h.contexts.contexts.each c lc ∙ ap (λ ns. with_flight x (issued_from v.cycle c ns x 0 x.flight)) issues ∙ sym (g.contexts.contexts.each c lc))
+          (λ c lc. let x = context_in v c in h.contexts.contexts.each c lc ∙ ap (λ ns. with_flight x (issued_from v.cycle c ns x 0 x.flight)) issues ∙ sym (g.contexts.contexts.each c lc))

@@ -1,15 +1,13 @@
 -- A view decides what retires: a front is left only where the width was used up, and then none after it retires.
-use Rattle.std.proofs.Common.{◌≡◌, ◌≢◌, ℕ, zero, suc, ◌+◌, ◌<◌, ◌≤◌, Bool, true, false, List, [], ◌∷◌, length, get_or, take, drop, Option, Some, None, refl, sym, ap, ◌∙◌, subst, arith, inl, inr}
-use Rattle.std.specs.Prelude.{◌==◌, All, if◌then◌else◌}
+use Rattle.std.proofs.Common.{◌≡◌, ◌≢◌, ℕ, zero, suc, ◌+◌, ◌<◌, ◌≤◌, true, false, List, [], ◌∷◌, length, get_or, take, drop, Some, None, refl, sym, ap, ◌∙◌, subst, arith, inl, inr}
+use Rattle.std.specs.Prelude.{◌==◌, if◌then◌else◌}
 use Rattle.std.specs.Option.{option_map_or}
 use Rattle.std.proofs.lemmas.Bool.{cases_lt}
 use Rattle.std.proofs.lemmas.Bool.Decides.{nat_tests}
 use Rattle.std.proofs.lemmas.List.{drop_more, get_or-take}
 use Rattle.hart_step.specs.State.{State}
-use Rattle.hart_step.specs.declared.stop.Stop.{Stop}
 use Rattle.core_view.specs.declared.outcome.Outcome.{Outcome}
 use Rattle.core_view.specs.declared.outcome.Outcome.TheVariants.{Goes, Stops}
-use Rattle.core_view.specs.declared.entry.Execution.{Execution}
 use Rattle.core_view.specs.declared.entry.Stage.{Stage}
 use Rattle.core_view.specs.declared.entry.Stage.TheVariants.{Fetched, Queued, Issued, Done}
 use Rattle.core_view.specs.declared.entry.Entry.{Entry}
@@ -76,8 +74,8 @@ keeps m n x y z a b less = record {
     running : status_past x m ≡ Running
     running =
         ap (λ t. if t then Parked else option_map_or (λ why. Stopped why) (stop_at_front (drop m x.flight)) Running) below
-            ∙ ap (λ es. option_map_or (λ why. Stopped why) (stop_at_front es) Running) flight
-            ∙ ap (λ o. option_map_or (λ why. Stopped why) o Running) (no_stop e.stage done)
+        ∙ ap (λ es. option_map_or (λ why. Stopped why) (stop_at_front es) Running) flight
+        ∙ ap (λ o. option_map_or (λ why. Stopped why) o Running) (no_stop e.stage done)
 
 keeps_by : (m n : ℕ) (x y z : Context) (s : Status) → RetiresBy m x y s → RetiresBy n x z s → m < n → KeepsDone y
 keeps_by m n x y z Running a b less = keeps m n x y z a b less
@@ -133,6 +131,6 @@ retire_unique v w u a b h g = (views, same_turns v.cycle a b h.turns g.turns sta
     views : w ≡ u
     views =
         same_changes (λ c x y. RetiresBy (number_in c a) x y x.status) (λ c x y. RetiresBy (number_in c b) x y x.status) v w u h.contexts g.contexts
-            (λ c lc.
-                let x = context_in v c in
-                retired_unique (number_in c b) x (context_in w c) (context_in u c) x.status (subst (λ n. RetiresBy n x (context_in w c) x.status) (number c lc) (h.contexts.contexts.each c lc)) (g.contexts.contexts.each c lc))
+        (λ c lc.
+        let x = context_in v c in
+        retired_unique (number_in c b) x (context_in w c) (context_in u c) x.status (subst (λ n. RetiresBy n x (context_in w c) x.status) (number c lc) (h.contexts.contexts.each c lc)) (g.contexts.contexts.each c lc))
