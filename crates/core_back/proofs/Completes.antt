@@ -17,7 +17,8 @@ use Rattle.core_view.proofs.RingForm.{complete_take}
 use Rattle.core_view.proofs.Live.{complete_live}
 use Rattle.data_flow.specs.Flow.{Node, Lane, Flow, no_node, node_at, lane, with_result, result_for, cut_from, cut_flow, waits_in}
 use Rattle.core_back.specs.Track.{Track, left_by, completed}
-use Rattle.core_back.specs.Queued.{is_queued, queued_at}
+use Rattle.lawful_cycle.specs.Issue.{is_queued}
+use Rattle.core_back.specs.Queued.{queued_at}
 use Rattle.core_back.specs.Steps.{cut_if, finished_flow, completed_flow}
 use Rattle.core_back.specs.Cores.{operands_of, node_of_entry, AllFetched, IsCore}
 use Rattle.core_back.proofs.Waiting.{or_none, growing_at, growing_set, none_below, below-take, below-nodes, queued-below, queued-same, waits-cut}

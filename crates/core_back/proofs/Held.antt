@@ -24,7 +24,8 @@ use Rattle.core_view.specs.View.{Context, entry_at, no_entry}
 use Rattle.core_view.proofs.Accesses.{is_load_effect, effect_loads}
 use Rattle.core_view.proofs.Queues.{queue_sharing}
 use Rattle.data_flow.specs.Flow.{Flow, Waiter, lane, sources_at, waits_in, is_waiter, with_held}
-use Rattle.core_back.specs.Issuable.{IsAnswered, may_perform, may_issue_at, IsHeld, AreHeld, IsClear}
+use Rattle.lawful_cycle.specs.Issue.{is_clear_on}
+use Rattle.core_back.specs.Issuable.{IsAnswered, may_issue_at, IsHeld, AreHeld, IsClear}
 use Rattle.core_back.specs.Steps.{IsRemarked}
 use Rattle.core_back.specs.Track.{Track, issued}
 use Rattle.core_back.proofs.Remarks.{remark_none}
@@ -101,11 +102,11 @@ effect_may es (effect.Loads kind address) h = absurd cc
 effect_may es e h = refl
 
 -- what isn't a load may issue
-pub plain_may : (es : List Entry) (o : Operation) (pc a b : ℕ) → is_load o ≡ false → may_perform es o pc a b ≡ true
+pub plain_may : (es : List Entry) (o : Operation) (pc a b : ℕ) → is_load o ≡ false → is_clear_on es o pc a b ≡ true
 plain_may es (Performs insn) pc a b h = effect_may es (effect_of insn pc a b) (effect_loads insn pc a b ∙ h)
 plain_may es (Stops why) pc a b h = refl
 
-clear_may : (es : List Entry) (o : Operation) (pc a b : ℕ) → ((s : Span) → is_clear es s ≡ true) → may_perform es o pc a b ≡ true
+clear_may : (es : List Entry) (o : Operation) (pc a b : ℕ) → ((s : Span) → is_clear es s ≡ true) → is_clear_on es o pc a b ≡ true
 clear_may es (Performs insn) pc a b clear = by_effect (effect_of insn pc a b)
   where
     by_effect : (e : Effect) → may_issue es e ≡ true
@@ -193,7 +194,7 @@ issued_entry (e ∷ es) zero (suc j) x = refl
 issued_entry (e ∷ es) (suc i) zero x = refl
 issued_entry (e ∷ es) (suc i) (suc j) x = issued_entry es i j x
 
-same_may : (es fs : List Entry) (o : Operation) (pc a b : ℕ) → ((s : Span) → is_clear es s ≡ is_clear fs s) → may_perform es o pc a b ≡ may_perform fs o pc a b
+same_may : (es fs : List Entry) (o : Operation) (pc a b : ℕ) → ((s : Span) → is_clear es s ≡ is_clear fs s) → is_clear_on es o pc a b ≡ is_clear_on fs o pc a b
 same_may es fs (Performs insn) pc a b same = by_effect (effect_of insn pc a b)
   where
     by_effect : (e : Effect) → may_issue es e ≡ may_issue fs e
@@ -207,7 +208,7 @@ issued_may t i j x a b stage =
     let same = issued_entry t.context.flight i j x in
     let e = entry_at (issued t i x).context j in
     same_may (take j (issued t i x).context.flight) (take j t.context.flight) e.operation e.pc a b clear
-    ∙ ap (λ (n : Entry). may_perform (take j t.context.flight) n.operation n.pc a b) same
+    ∙ ap (λ (n : Entry). is_clear_on (take j t.context.flight) n.operation n.pc a b) same
   where
     clear : (s : Span) → is_clear (take j (issued t i x).context.flight) s ≡ is_clear (take j t.context.flight) s
     clear s = rw (issued_newest _ j t.context.flight i x stage) refl

@@ -25,7 +25,7 @@ use Rattle.core_view.proofs.Live.{issue_live}
 use Rattle.data_flow.specs.Flow.{Flow, lane, no_node, waits_in, both, sources_at}
 use Rattle.core_back.specs.Queued.{queued_at}
 use Rattle.core_back.specs.Track.{Track, issued}
-use Rattle.core_back.specs.Issuable.{IsAnswered, may_perform, may_issue_at}
+use Rattle.core_back.specs.Issuable.{IsAnswered, may_issue_at}
 use Rattle.core_back.specs.Cores.{node_of_entry, is_selected, IsCore}
 use Rattle.core_back.proofs.Flights.{renamed-set, renamed-take, fetched_after}
 use Rattle.core_back.proofs.Others.{other_core}
@@ -49,14 +49,20 @@ both_some None y a b h = absurd cc
 both_some (Some v) None a b h = absurd cc
 both_some (Some v) (Some w) a b h = let same : (v, w) ≡ (a, b) = cc in (ap (λ (p : ℕ × ℕ). Some p.0) same, ap (λ (p : ℕ × ℕ). Some p.1) same)
 
+-- the values of the data flow are those of the entry's sources
+pub core_sources : {start : State} {stamp reorder c : ℕ} {f : Flow} {names : List EntryId} {t : Track} → IsCore start stamp reorder f names c t → (i : ℕ) → i < t.renamed → (a b : ℕ) → sources_at (lane f c) i ≡ Some (a, b)
+    → (source_value (flight_seen_at t.context i).registers (first_source_of (entry_at t.context i).operation) ≡ Some a) × (source_value (flight_seen_at t.context i).registers (second_source_of (entry_at t.context i).operation) ≡ Some b)
+core_sources {t = t} core i lt a b sources =
+    let seen = flight_seen_at t.context i in
+    let e = entry_at t.context i in
+    both_some (source_value seen.registers (first_source_of e.operation)) (source_value seen.registers (second_source_of e.operation)) a b (sym (sources_are core i lt) ∙ sources)
+
 -- an outcome on the values of the data flow, over the bytes that are seen, is that of the entry
 pub core_outcome : {start : State} {stamp reorder c : ℕ} {f : Flow} {names : List EntryId} {t : Track} → IsCore start stamp reorder f names c t → (i : ℕ) → i < t.renamed → (a b : ℕ) (outcome : Outcome)
     → sources_at (lane f c) i ≡ Some (a, b) → outcome ≡ outcome_in (image_of t.context.state) (flight_seen_at t.context i).bytes (entry_at t.context i).operation (entry_at t.context i).pc a b
     → IsOutcome (image_of t.context.state) (flight_seen_at t.context i) (entry_at t.context i).operation (entry_at t.context i).pc outcome
 core_outcome {t = t} core i lt a b outcome sources is =
-    let seen = flight_seen_at t.context i in
-    let e = entry_at t.context i in
-    let ready = both_some (source_value seen.registers (first_source_of e.operation)) (source_value seen.registers (second_source_of e.operation)) a b (sym (sources_are core i lt) ∙ sources) in
+    let ready = core_sources core i lt a b sources in
     record { first = a; second = b; first_ready = ready.0; second_ready = ready.1; is = is }
 
 -- ---- the entry that was selected

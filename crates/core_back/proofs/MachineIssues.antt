@@ -1,7 +1,7 @@
 -- A selection, and the issue of the first entry that was selected, in the machine.
 use Rattle.std.proofs.Common.{◌≡◌, ◌≢◌, ℕ, zero, suc, ◌+◌, ◌<◌, ◌≤◌, Bool, true, false, List, [], ◌∷◌, length, get_or, drop, map, Option, Some, refl, sym, ap, subst, ◌∙◌, arith, inl, inr}
 use Rattle.std.specs.Prelude.{◌==◌, set, All, AllPairs, IfSome, is_some}
-use Rattle.std.proofs.lemmas.Bool.{cases_lt}
+use Rattle.std.proofs.lemmas.Bool.{cases_lt, lt-ltb}
 use Rattle.std.proofs.lemmas.Bool.Decides.{nat_tests}
 use Rattle.std.specs.Arc.{arc_value}
 use Rattle.std.proofs.lemmas.List.{get_or-set_same, get_or-set_other, get_or_past, set-get_or, length-set, map-set}
@@ -16,13 +16,17 @@ use Rattle.core_back.specs.declared.machine.Machine.TheInside.{Inside}
 use Rattle.data_flow.specs.Flow.{Flow, lane, queued, waits_in, sources_at}
 use Rattle.core_back.specs.Track.{Track, issued}
 use Rattle.core_back.specs.Issuable.{may_issue_at, IsHeld, AreHeld, IsClear}
-use Rattle.core_back.specs.Issued.{IsIssued}
+use Rattle.data_tags.specs.declared.delay.Kind.{Kind}
+use Rattle.data_tags.specs.declared.delay.Lag.{Lag}
+use Rattle.lawful_cycle.specs.Delays.{kind_of, address_in, IsLagOf}
+use Rattle.lawful_cycle.specs.Issue.{first_value, second_value, outcome_at, address_at}
+use Rattle.core_back.specs.Issued.{IsPerformed, IsIssued}
 use Rattle.core_back.specs.Steps.{IsRemarked}
 use Rattle.core_back.specs.Cores.{is_selected, IsCore}
 use Rattle.core_back.specs.Machine.{Machine, context_at, with_context, no_track}
 use Rattle.core_back.specs.Shown.{machine_of, IsMachine, AreApart, IsSuppliedIn}
 use Rattle.core_back.proofs.Held.{remarked_twice, remarked_lane, held_kept, issued_clear}
-use Rattle.core_back.proofs.Issues.{issue_core, issue_other}
+use Rattle.core_back.proofs.Issues.{core_sources, issue_core, issue_other}
 use Rattle.core_back.proofs.Machines.{At, at_context, idle_names, room_after}
 use Rattle.core_back.proofs.Remarks.{remark_none}
 use Rattle.core_back.proofs.Selections.{first_apart, rest_apart, ready_place, name_selected, remarked_core, select_core, select_apart, select_supplied, select_free, select_clear, select_idle}
@@ -162,16 +166,38 @@ module _ {A : Type 0} where
       } in v) ≡ record (with_context now c x) { names = rest }
   issued_shown m now c k rest u x shows same context = rw (same, map-set (λ (t : Track). t.context) m.tracks.items c u, context, ← shows) refl
 
+  -- what is known of it
+  pub is_performed : (m : Inside A) (now : Machine) (n : EntryId) (rest : List EntryId) (t : Track) → IsFirstName m now n rest t → (i : ℕ) (x : Execution) (values : ℕ × ℕ) (sources : Option (ℕ × ℕ)) (delays : Kind → ℕ → Lag → Bool) (kind : Kind) (address latency : ℕ)
+      → i < length t.context.flight → (entry_at t.context i).stamp ≡ n.stamp → sources ≡ sources_at (lane m.flow n.context) i → sources ≡ Some values
+      → x.outcome ≡ outcome_in (image_of t.context.state) (seen_at t.context i).bytes (entry_at t.context i).operation (entry_at t.context i).pc values.0 values.1
+      → kind ≡ kind_of (entry_at t.context i).operation → address ≡ address_in (entry_at t.context i).operation (entry_at t.context i).pc values.0 values.1
+      → IsLagOf delays kind address x.outcome (record { cycles = latency; miss = x.miss }) → IsPerformed delays t.context i latency x
+  is_performed m now n rest t h i x values sources delays kind address latency lt is read some outcome kind-is address-is lag =
+      let place = ready_place h.core n.stamp i h.selected h.supplied lt is in
+      let both_known = core_sources h.core i place.renamed values.0 values.1 (sym read ∙ some) in
+      let first : first_value t.context i ≡ Some values.0 = both_known.0 in
+      let second : second_value t.context i ≡ Some values.1 = both_known.1 in
+      let clear = first_clear m now n rest t h i values sources lt is read some in
+      let same : x.outcome ≡ outcome_at t.context i = rw (first, second) outcome in
+      let at : address ≡ address_at t.context i = rw (first, second) address-is in
+      record {
+        ready = rw (lt-ltb i (length t.context.flight) lt, place.stage, first, second) clear;
+        outcome = same;
+        lag = subst (λ o. IsLagOf delays (kind_of (entry_at t.context i).operation) (address_at t.context i) o (record { cycles = latency; miss = x.miss })) same
+            (subst (λ a. IsLagOf delays (kind_of (entry_at t.context i).operation) a x.outcome (record { cycles = latency; miss = x.miss })) at
+            (subst (λ k. IsLagOf delays k address x.outcome (record { cycles = latency; miss = x.miss })) kind-is lag));
+      }
+
   -- the entry of the first name has issued
-  pub is_issued : (m : Inside A) (now : Machine) (n : EntryId) (k : ℕ) (rest : List EntryId) (t u : Track) (i : ℕ) (x : Execution) (latency : ℕ) (left : List EntryId) → machine_of m ≡ now → IsFirstName m now n rest t → k ≡ n.context
-      → i < length t.context.flight → (entry_at t.context i).stamp ≡ n.stamp → u ≡ issued t i x → x.due ≡ m.cycle + latency → left ≡ rest
-      → IsIssued now (record {
+  pub is_issued : {delays : ℕ → Kind → ℕ → Lag → Bool} (m : Inside A) (now : Machine) (n : EntryId) (k : ℕ) (rest : List EntryId) (t u : Track) (i : ℕ) (x : Execution) (latency : ℕ) (left : List EntryId) → machine_of m ≡ now → IsFirstName m now n rest t → k ≡ n.context
+      → i < length t.context.flight → (entry_at t.context i).stamp ≡ n.stamp → u ≡ issued t i x → x.due ≡ m.cycle + latency → left ≡ rest → IsPerformed (delays n.context) t.context i latency x
+      → IsIssued delays now (record {
         origin = arc_value m.origins.c0;
         view = record { profile = m.profile; cycle = m.cycle; stamp = m.stamp; contexts = map (λ (v : Track). v.context) (set m.tracks.items k u) };
         names = left;
         fetch_room = m.fetch_room;
       }) (record { entry = n; latency = latency; miss = x.miss })
-  is_issued m now n k rest t u i x latency left shows h same lt is new due names =
+  is_issued {delays = delays} m now n k rest t u i x latency left shows h same lt is new due names performed =
       let context : t.context ≡ context_at now n.context = h.shown.context in
       record {
         place = i;
@@ -179,6 +205,7 @@ module _ {A : Type 0} where
         within = subst (λ (v : Context). i < length v.flight) context lt;
         stamp = subst (λ (v : Context). (entry_at v i).stamp ≡ n.stamp) context is;
         queued = subst (λ (v : Context). (entry_at v i).stage ≡ Queued) context (ready_place h.core n.stamp i h.selected h.supplied lt is).stage;
+        performed = subst (λ (v : Context). IsPerformed (delays n.context) v i latency x) context performed;
         due = due ∙ ap (λ (v : Machine). v.view.cycle + latency) shows;
         miss = refl;
         names = sym (ap (λ (v : Machine). v.names) shows) ∙ h.names ∙ ap (λ ns. n ∷ ns) (sym names);

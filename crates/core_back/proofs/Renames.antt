@@ -17,7 +17,8 @@ use Rattle.core_view.specs.Queues.{is_renamed}
 use Rattle.core_view.specs.View.{entry_at, no_entry}
 use Rattle.core_view.proofs.Live.{rename_live}
 use Rattle.data_flow.specs.Flow.{Node, Lane, Flow, Waiter, lane, with_lane, with_node, waits_in}
-use Rattle.core_back.specs.Queued.{is_queued, queued_at}
+use Rattle.lawful_cycle.specs.Issue.{is_queued}
+use Rattle.core_back.specs.Queued.{queued_at}
 use Rattle.core_back.specs.Track.{Track, renamed_one}
 use Rattle.core_back.specs.Cores.{operands_of, node_of_entry, is_selected, IsCore}
 use Rattle.core_back.specs.Steps.{renamed_flow}

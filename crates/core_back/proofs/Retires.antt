@@ -22,7 +22,8 @@ use Rattle.core_view.proofs.Steps.{IsOutcomeSized}
 use Rattle.core_view.proofs.Live.{retire_live, stop_live, flight_running, done_sized}
 use Rattle.data_flow.specs.Flow.{Node, Lane, Flow, no_node, node_at, lane, with_lane, without_oldest, cut_from, cut_flow, waits_in}
 use Rattle.core_back.specs.Track.{Track, is_last, retired, stopped}
-use Rattle.core_back.specs.Queued.{is_queued, queued_at}
+use Rattle.lawful_cycle.specs.Issue.{is_queued}
+use Rattle.core_back.specs.Queued.{queued_at}
 use Rattle.core_back.specs.Steps.{retired_flow}
 use Rattle.core_back.specs.Machine.{done_outcome, first_done}
 use Rattle.core_back.specs.Cores.{node_of_entry, AllFetched, IsCore}

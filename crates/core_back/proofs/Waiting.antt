@@ -11,7 +11,8 @@ use Rattle.core_view.specs.declared.entry.Entry.{Entry}
 use Rattle.core_view.specs.Flight.{IsGrowing}
 use Rattle.core_view.specs.View.{no_entry}
 use Rattle.data_flow.specs.Flow.{Node, Flow, Waiter, waits_in, is_waiter, is_waiter_from, cut_flow}
-use Rattle.core_back.specs.Queued.{is_queued, queued_at}
+use Rattle.lawful_cycle.specs.Issue.{is_queued}
+use Rattle.core_back.specs.Queued.{queued_at}
 use Rattle.core_back.specs.Cores.{node_of_entry}
 
 -- ---- tests

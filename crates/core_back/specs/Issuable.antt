@@ -1,26 +1,17 @@
--- Which entries may issue: a load waits for older stores that have not completed, and where one has only some of its bytes.
-use Rattle.std.specs.Prelude.{◌≡◌, ℕ, ◌<◌, Bool, true, false, List, take, All, Some}
-use Rattle.hart_step.specs.Effects.{effect_of}
-use Rattle.core_view.specs.declared.operation.Operation.{Operation}
-use Rattle.core_view.specs.declared.operation.Operation.TheVariants.{Performs, Stops}
+-- Which entries may issue: a load waits where the newest older store that has completed and shares a byte with it has only some of its bytes.
+use Rattle.std.specs.Prelude.{◌≡◌, ℕ, ◌<◌, Bool, true, false, take, All, Some}
 use Rattle.core_view.specs.declared.entry.Stage.TheVariants.{Queued}
-use Rattle.core_view.specs.declared.entry.Entry.{Entry}
 use Rattle.core_view.specs.Outcomes.{image_of}
 use Rattle.core_view.specs.Flight.{seen_of, IsSound, IsGrowing}
-use Rattle.core_view.specs.Loads.{may_issue}
 use Rattle.core_view.specs.Queues.{AllRenamed}
 use Rattle.core_view.specs.View.{Context, entry_at}
+use Rattle.lawful_cycle.specs.Issue.{is_clear_on}
 use Rattle.data_flow.specs.Flow.{Flow, Waiter, is_waiter, lane, sources_at}
 use Rattle.core_back.specs.Track.{Track}
 
--- an operation may be performed after these entries on the values of its sources: a load is clear
-abbrev pub may_perform : List Entry → Operation → ℕ → ℕ → ℕ → Bool
-may_perform es (Performs insn) pc a b = may_issue es (effect_of insn pc a b)
-may_perform es (Stops why) pc a b = true
-
 -- the entry at a place may issue on the values of its sources
 abbrev pub may_issue_at : Context → ℕ → ℕ → ℕ → Bool
-may_issue_at x i a b = may_perform (take i x.flight) (entry_at x i).operation (entry_at x i).pc a b
+may_issue_at x i a b = is_clear_on (take i x.flight) (entry_at x i).operation (entry_at x i).pc a b
 
 -- the queues of loads and stores answer what the flight says of the entry at a place
 pub record IsAnswered (x : Context) (i : ℕ) : Type 0 where

@@ -5,7 +5,7 @@ ghost use Rattle.paged_memory.specs.Cells.{byte_at};
 ghost use Rattle.core_view.specs.Outcomes.{image_of, outcome_in};
 ghost use Rattle.core_view.specs.View.{entry_at};
 ghost use Rattle.data_tags.specs.Latency.{IsWithin};
-ghost use Rattle.core_back.specs.Issued.{kind_of_insn, address_of as address_of_effect, IsLagOf};
+ghost use Rattle.lawful_cycle.specs.Delays.{kind_of_insn, address_of as address_of_effect, IsLagOf};
 
 use crate::track::Performed;
 use core_view::Outcome;

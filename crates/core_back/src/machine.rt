@@ -281,7 +281,7 @@ impl<A: Allocator> Machine<A> {
     pub fn issue_next<D: Delay>(&mut self, delay: &mut D) -> Option<Issue>
         requires { self.old.view.cycle < 2 ^ 56 }
         ensures none { result ≡ None → (self.old.names ≡ []) × (self.new ≡ self.old) }
-        ensures issued { IfSome result (IsIssued self.old self.new) }
+        ensures issued { IfSome result (IsIssued (D.may_answer delay.old) self.old self.new) }
         ensures keeps { D.may_answer delay.new ≡ D.may_answer delay.old }
         ensures keeps_greatest { D.greatest_lag delay.new ≡ D.greatest_lag delay.old }
     {

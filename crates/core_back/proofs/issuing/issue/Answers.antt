@@ -33,7 +33,7 @@ push-requires g c = omega (arith, c.loop-place.invariant.room, c.loop-place-test
 
 pub loop-place-preserved : goal.loop-place-preserved
 loop-place-preserved g c =
-    let step : IsIssued c.loop-place.machine c.issue_next.new.self c.in-Some.issue = c.in-Some.ensures.issued in
+    let step : IsIssued (g.D.Delay.may_answer c.loop-place.delay) c.loop-place.machine c.issue_next.new.self c.in-Some.issue = c.in-Some.ensures.issued in
     record {
       alike = alike_chain c.args.machine.now c.loop-place.machine c.issue_next.new.self c.loop-place.invariant.alike (issue_alike c.loop-place.machine c.issue_next.new.self c.in-Some.issue step);
       flights = in_flight_issued c.loop-place.machine c.issue_next.new.self c.in-Some.issue step ∙ c.loop-place.invariant.flights;

@@ -4,7 +4,7 @@ use Rattle.core_view.specs.declared.entry.Execution.{Execution}
 use Rattle.data_flow.specs.Flow.{lane, sources_at}
 use Rattle.core_back.proofs.Issues.{core_answered, selected_known}
 use Rattle.core_back.proofs.Selections.{ready_place}
-use Rattle.core_back.proofs.MachineIssues.{first_name, some_names, found_place, some_sources, first_clear, issued_core, issued_machine, is_issued}
+use Rattle.core_back.proofs.MachineIssues.{first_name, some_names, found_place, some_sources, first_clear, issued_core, issued_machine, is_performed, is_issued}
 use Rattle.core_back.proofs.machine.Machine.issue_next.Goals as goal
 
 pub unwrap-place-requires : goal.unwrap-place-requires
@@ -58,5 +58,7 @@ returns-clause-issued g c =
     let h = first_name c.self.inside c.args.self.now c.remove-name.result c.index.result c.index_mut-track.result.now c.self.view_is c.self.invariant (some_names c.self.inside.selected.items c.is_empty.result c.is_empty.ensures c.if-is_empty.false) c.remove-name.ensures.value (omega (arith, c.index.ensures)) c.index.ensures.value c.index_mut-track.ensures.value in
     let p = found_place c.index_mut-track.result.now c.remove-name.result.stamp c.place_of.result c.unwrap-place.result c.place_of.ensures.found c.unwrap-place.ensures in
     let x : Execution = record { due = c.self.inside.cycle + c.from.result; miss = c.lag_of-lag.result.miss; outcome = c.perform-performed.result.outcome } in
+    let performed = is_performed c.self.inside c.args.self.now c.remove-name.result (drop 1 c.self.inside.selected.items) c.index_mut-track.result.now h c.unwrap-place.result x c.unwrap-first.result c.sources.result (g.D.Delay.may_answer c.args.delay.now c.remove-name.result.context)
+    c.perform-performed.result.kind c.perform-performed.result.address c.lag_of-lag.result.cycles p.0 p.1 c.sources.ensures c.unwrap-first.ensures c.perform-performed.ensures.outcome c.perform-performed.ensures.kind c.perform-performed.ensures.address c.lag_of-lag.ensures.lag in
     is_issued c.self.inside c.args.self.now c.remove-name.result c.index.result (drop 1 c.self.inside.selected.items) c.index_mut-track.result.now c.issue.new.self c.unwrap-place.result x c.lag_of-lag.result.cycles c.remove-name.new.self.items
-    c.self.view_is h c.index.ensures.value p.0 p.1 c.issue.ensures (ap (λ k. c.self.inside.cycle + k) c.from.ensures) c.remove-name.ensures.items
+    c.self.view_is h c.index.ensures.value p.0 p.1 c.issue.ensures (ap (λ k. c.self.inside.cycle + k) c.from.ensures) c.remove-name.ensures.items performed
