@@ -202,6 +202,80 @@ fn countdown_of_wrong_guesses(rt: HostRuntime) -> Result<(), Fail> {
     Ok(())
 }
 
+#[test]
+fn countdown_by_tables(rt: HostRuntime) -> Result<(), Fail> {
+    let end = end_by_tables(rt.alloc(), &COUNTDOWN, &ONE)?;
+    assert_eq!(rt; end, ends([27, 32, 28, 22, 21, 11], 21, [0; 9], 1));
+    Ok(())
+}
+
+/// A call, a call by register, and a function that goes on by register and returns.
+///
+/// | pc | Instruction | |
+/// |---|---|---|
+/// | 0x10000 | `lui x7, 0x10` | |
+/// | 0x10004 | `jal x1, 0x10010` | pushes 0x10008 |
+/// | 0x10008 | `jalr x1, 16(x7)` | pushes 0x1000c, and is guessed to go there |
+/// | 0x1000c | `ecall` | |
+/// | 0x10010 | `jalr x0, 24(x7)` | guessed to go to 0x10014, then, once one retired, to 0x10018 |
+/// | 0x10014 | `ecall` | reached by a wrong guess alone |
+/// | 0x10018 | `jalr x0, 0(x1)` | a return |
+///
+/// Cycle by cycle: 0x10010 is cut in 5 and 0x10008 in 10, each with one ECALL behind it; the second 0x10010 is fetched
+/// in 10, the second return in 11 and the ECALL in 12, all by right guesses; that is the head in 16. A predictor that
+/// isn't shown the JAL guesses the first return wrong, and one that never learns the second 0x10010: both take 20
+/// cycles, in which 11 are fetched and 4 cut.
+const CALLS_AND_RETURNS: [u32; 7] = [
+    0x0001_03B7,
+    0x00C0_00EF,
+    0x0103_80E7,
+    0x0000_0073,
+    0x0183_8067,
+    0x0000_0073,
+    0x0000_8067,
+];
+
+#[test]
+fn calls_and_returns(rt: HostRuntime) -> Result<(), Fail> {
+    let end = end_by_tables(rt.alloc(), &CALLS_AND_RETURNS, &ONE)?;
+    let registers = [0, 0x1_000C, 0, 0, 0, 0, 0, 0x1_0000, 0];
+    assert_eq!(rt; end, ends([17, 10, 10, 7, 7, 3], 7, registers, 1));
+    Ok(())
+}
+
+/// The same with two sums in the function, the first of which is passed over: so a return is fetched behind the first
+/// wrong guess too, and takes what the call has pushed.
+///
+/// | pc | Instruction | |
+/// |---|---|---|
+/// | 0x10010 | `jalr x0, 24(x7)` | as above |
+/// | 0x10014 | `addi x6, x6, 16` | reached by a wrong guess alone |
+/// | 0x10018 | `addi x6, x6, 1` | |
+/// | 0x1001c | `jalr x0, 0(x1)` | a return |
+///
+/// Cycle by cycle: in 1 the return behind the wrong guess pops 0x10008, in 2 the call there pushes 0x1000c; in 5 five
+/// are cut, but not what the stack holds: the first return that stays pops 0x1000c, so one is cut in 9. One more is
+/// cut behind the call by register in 13, and the last return, fetched in 14, is guessed right. The ECALL is the head
+/// in 19. A predictor that isn't shown the JAL fetches 16, of which 7 are cut; one that never learns takes 25 cycles.
+const RETURN_ON_A_WRONG_PATH: [u32; 8] = [
+    0x0001_03B7,
+    0x00C0_00EF,
+    0x0103_80E7,
+    0x0000_0073,
+    0x0183_8067,
+    0x0103_0313,
+    0x0013_0313,
+    0x0000_8067,
+];
+
+#[test]
+fn return_on_a_wrong_path(rt: HostRuntime) -> Result<(), Fail> {
+    let end = end_by_tables(rt.alloc(), &RETURN_ON_A_WRONG_PATH, &ONE)?;
+    let registers = [0, 0x1_000C, 0, 0, 0, 0, 2, 0x1_0000, 0];
+    assert_eq!(rt; end, ends([20, 17, 17, 11, 9, 8], 9, registers, 1));
+    Ok(())
+}
+
 /// A store behind a branch that is guessed not taken, and a load behind it.
 const WRONG_PATH: [u32; 6] = [
     0x0070_0313,
@@ -216,7 +290,7 @@ const WRONG_PATH: [u32; 6] = [
 fn wrong_path_store(rt: HostRuntime) -> Result<(), Fail> {
     let end = end_by_tables(rt.alloc(), &WRONG_PATH, &ONE)?;
     let registers = [0, 0, 0, 0, 0, 0x10_0000, 7, 0, 0];
-    assert_eq!(rt; end, ends([8, 7, 7, 3, 3, 4], 3, registers, 1));
+    assert_eq!(rt; end, ends([8, 7, 7, 4, 3, 4], 3, registers, 1));
     Ok(())
 }
 
@@ -235,7 +309,7 @@ fn load_of_more_than_a_store_has(rt: HostRuntime) -> Result<(), Fail> {
     let end = end_by_tables(rt.alloc(), &PARTIAL_FORWARD, &data)?;
     let loaded = 0x1122_3344_5566_77FF;
     let registers = [0, 0, 0, 0, 0, 0x10_0000, 255, loaded, 0];
-    assert_eq!(rt; end, ends([28, 5, 5, 4, 4, 1], 4, registers, loaded));
+    assert_eq!(rt; end, ends([11, 7, 7, 5, 4, 3], 4, registers, loaded));
     Ok(())
 }
 
@@ -254,6 +328,6 @@ fn load_behind_a_late_store(rt: HostRuntime) -> Result<(), Fail> {
     let data = [8, 0, 0x10, 0, 0, 0, 0, 0, 1, 0, 0, 0, 0, 0, 0, 0];
     let end = end_by_tables(rt.alloc(), &LATE_STORE, &data)?;
     let registers = [0, 0, 0, 0, 0, 0x10_0000, 7, 0x10_0008, 7];
-    assert_eq!(rt; end, ends([28, 6, 6, 5, 5, 1], 5, registers, 0x10_0008));
+    assert_eq!(rt; end, ends([31, 8, 8, 6, 5, 3], 5, registers, 0x10_0008));
     Ok(())
 }
