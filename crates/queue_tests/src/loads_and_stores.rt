@@ -198,13 +198,9 @@ fn the_oldest_retire_and_the_youngest_are_dropped(rt: HostRuntime) -> Result<(),
     assert!(rt; !queue.has_load_place());
     queue.retire(2);
     assert!(rt; queue.has_load_place());
-    // Store 3 stays, so load 4 waits; then it retires.
-    assert_loads(
-        &rt,
-        &queue,
-        &memory,
-        &[(4, DATA, Width::Byte, LoadAnswer::Wait)],
-    );
+    // Store 3 stays: once it has completed it answers load 4. Then it retires.
+    assert_eq!(rt; queue.resolve_store(3, bytes(DATA, 1, 1)), None);
+    assert_loads(&rt, &queue, &memory, &[(4, DATA, Width::Byte, ready(1))]);
     queue.retire(3);
     assert_loads(&rt, &queue, &memory, &[(4, DATA, Width::Byte, ready(0x88))]);
     Ok(())
