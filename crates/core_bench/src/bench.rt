@@ -8,10 +8,11 @@ use branch_predict::Tables;
 use checkpoint::{Mark, starts};
 use core_cycle::Core;
 use core_profile::Profile;
+use core_view::CycleNote;
 use data_tags::{Latencies, Tags};
 use fetch_policy::NamedPick;
 use issue_queue::NamedOrder;
-use join_law::{Ctx, Eight};
+use join_law::Eight;
 use origin_set::Origin;
 use std::alloc::Global;
 use std::rt::Files;
@@ -73,22 +74,46 @@ impl<'a> Bench<'a> {
     }
 
     /// Runs a core for the cycles.
-    pub fn run(&self, core: &mut Measured) {
+    pub fn run(&self, core: &mut Measured) -> Figures {
+        let mut figures = Figures::default();
         for _cycle in 0..self.cycles {
             if core.cycles() < MOST_CYCLES {
-                let _note = core.cycle();
+                let note = core.cycle();
+                figures.count(&note);
             }
         }
+        figures
     }
 }
 
-/// How many instructions the contexts of a core retired.
-pub fn retired(core: &Measured) -> u64 {
-    let mut retired = 0u64;
-    for context in Ctx::all() {
-        retired = retired.saturating_add(core.retired(context));
+/// What happened in the cycles of a run: how many cycles there were, and how many entries were fetched, renamed,
+/// issued, retired and squashed.
+#[derive(Clone, Copy, Debug, Default, PartialEq, Eq)]
+pub struct Figures {
+    /// Cycles.
+    pub cycles: u64,
+    /// Entries that were fetched.
+    pub fetched: u64,
+    /// Entries that were renamed.
+    pub renamed: u64,
+    /// Entries that were issued.
+    pub issued: u64,
+    /// Entries that retired.
+    pub retired: u64,
+    /// Entries that left without retiring.
+    pub squashed: u64,
+}
+
+impl Figures {
+    /// Counts one more cycle.
+    fn count(&mut self, note: &CycleNote) {
+        self.cycles = self.cycles.saturating_add(1);
+        self.fetched = self.fetched.saturating_add(note.fetched.len() as u64);
+        self.renamed = self.renamed.saturating_add(note.renamed.len() as u64);
+        self.issued = self.issued.saturating_add(note.issued.len() as u64);
+        self.retired = self.retired.saturating_add(note.retired.len() as u64);
+        self.squashed = self.squashed.saturating_add(u64::from(note.cut));
     }
-    retired
 }
 
 /// The starts of an origin.

@@ -1,5 +1,7 @@
 //! Why nothing is measured.
-ghost use Rattle.std.specs.Prelude.{◌≡◌, ◌≢◌};
+ghost use Rattle.std.specs.Prelude.{◌≡◌, IfSome, OnOk};
+ghost use Rattle.std.specs.Io.KnownBytes.{Appends};
+ghost use Rattle.core_bench.specs.Refusals.{fault_line, fault_status};
 
 use checkpoint::MarkFault;
 use core_cycle::CoreFault;
@@ -7,7 +9,8 @@ use origin_set::OriginFault;
 use rv64_asm::AsmFault;
 use std::alloc::{AllocError, AllocFailed};
 use std::error::Error;
-use std::fmt;
+use std::io::Write;
+use std::{fmt, io};
 
 /// Why nothing is measured.
 #[derive(Clone, Copy, Debug, PartialEq, Eq)]
@@ -33,8 +36,7 @@ pub enum BenchFault {
 impl BenchFault {
     /// What the program ends with: 2 for wrong words, else 1.
     pub fn status(&self) -> u8
-        ensures words { self.now ≡ BenchFault.Words → result ≡ 2 }
-        ensures refused { self.now ≢ BenchFault.Words → result ≡ 1 }
+        ensures { result ≡ fault_status self.now }
     {
         match self {
             BenchFault::Words => 2,
@@ -43,7 +45,18 @@ impl BenchFault {
     }
 }
 
+/// Prints the line of a fault.
+pub fn tell<E: Write>(fault: &BenchFault, errors: &mut E) -> io::Result<()>
+    ensures { OnOk result (IfSome (fault_line fault.now) (Appends (E.contents errors.old) (E.contents errors.new))) }
+{
+    write!(errors, "{fault}\n")
+}
+
 impl fmt::Display for BenchFault {
+    ghost use Rattle.core_bench.specs.Refusals.{fault_text};
+
+    ghost output = { fault_text };
+
     fn fmt<W: fmt::Write>(&self, f: &mut fmt::Formatter<W>) -> fmt::Result {
         match self {
             BenchFault::Words => write!(f, "usage: core_bench CYCLES FILE.. (one to eight)"),

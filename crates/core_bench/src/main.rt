@@ -1,14 +1,14 @@
 //! The program `core_bench CYCLES FILE..`: runs programs on the out-of-order core for so many cycles, to measure how
-//! fast it is. Context I runs the file I of one to eight, taken in turn. It prints the cycles and how many
-//! instructions all contexts retired; the time is for the caller to take.
+//! fast it is. Context I runs the file I of one to eight, taken in turn. It prints six figures: the cycles, and how
+//! many entries of all contexts were fetched, renamed, issued, retired and squashed. The time is for the caller to take.
 #![tactic(auto)]
 
 mod bench;
 mod fault;
 mod programs;
 
-use bench::{Bench, retired};
-use fault::BenchFault;
+use bench::{Bench, Figures};
+use fault::{BenchFault, tell};
 use std::alloc::Global;
 use std::env;
 use std::process::ExitCode;
@@ -18,7 +18,7 @@ fn main(rt: HostRuntime) -> ExitCode {
     match answer(&rt) {
         Ok(()) => ExitCode::SUCCESS,
         Err(fault) => {
-            let _ = eprintln!(rt; "{fault}");
+            let _ = tell(&fault, &mut rt.stderr());
             ExitCode::from(fault.status())
         }
     }
@@ -30,18 +30,25 @@ fn answer<R: Env + Files + Print + AllocGlobal>(rt: &R) -> Result<(), BenchFault
     let words = env::args(rt).map_err(|_| BenchFault::Words)?;
     let words: Vec<String> = words.skip(1).collect(alloc)?;
     let bench = Bench::from_words(words.as_slice())?;
-    let (cycles, retired) = measure(rt, alloc, &bench)?;
-    println!(rt; "cycles {cycles}").map_err(|_| BenchFault::Output)?;
-    println!(rt; "retired {retired}").map_err(|_| BenchFault::Output)
+    let figures = measure(rt, alloc, &bench)?;
+    let Figures {
+        cycles,
+        fetched,
+        renamed,
+        issued,
+        retired,
+        squashed,
+    } = figures;
+    println!(rt; "{cycles} {fetched} {renamed} {issued} {retired} {squashed}")
+        .map_err(|_| BenchFault::Output)
 }
 
-/// How many cycles a core ran, and how many instructions it retired.
+/// The figures of a run.
 fn measure<R: Files + AllocGlobal>(
     rt: &R,
     alloc: Global,
     bench: &Bench,
-) -> Result<(u64, u64), BenchFault> {
+) -> Result<Figures, BenchFault> {
     let mut core = bench.core(rt, alloc)?;
-    bench.run(&mut core);
-    Ok((core.cycles(), retired(&core)))
+    Ok(bench.run(&mut core))
 }
