@@ -46,6 +46,20 @@ impl<E: Stamped, A: Allocator> Ring<E, A> {
     }
 }
 """
+CONSTANTS = """\
+pub const MOST: [usize; 2] = [
+    256,
+    3,
+];
+
+fn has_room(n: usize) -> bool {
+    n <= MOST[0]
+}
+
+fn other() -> usize {
+    64;
+}
+"""
 LEN, BELOW, CUT = (f"reorder_buffer::ring::Ring::{it}" for it in ("len", "count_below", "cut_from"))
 KNOWN = [LEN, BELOW, CUT]
 
@@ -165,6 +179,30 @@ class SourceTest(unittest.TestCase):
         self.assertTrue(source.calls("(count_below(stamp))", "count_below"))
         self.assertFalse(source.calls("self.buffer.len()", "len"))
         self.assertFalse(source.calls("recount_below(stamp)", "count_below"))
+
+    def test_calls_itself(self) -> None:
+        for body, well in (("fall(n - 1)", True), ("ring.fall(n)", False), ("ring::fall(n)", False)):
+            text = f"fn fall(n: usize) {{\n    {body}\n}}\n"
+            self.assertEqual(source.calls_itself(text, source.functions(text)[0]), well)
+
+    def test_constants(self) -> None:
+        at = CONSTANTS.index("256")
+        self.assertEqual(source.constant_at(CONSTANTS, at, at + 3), "MOST")
+        at = CONSTANTS.index("64;")
+        self.assertEqual(source.constant_at(CONSTANTS, at, at), "")
+
+    def test_near_a_constant(self) -> None:
+        with tempfile.TemporaryDirectory() as room:
+            os.makedirs(f"{room}/src/low")
+            for file, text in (("lib.rt", CONSTANTS), ("low/more.rt", "fn more() -> usize {\n    MOST + 1\n}\n")):
+                with open(f"{room}/src/{file}", "w", encoding="utf-8") as it:
+                    it.write(text)
+            known = ["pages::other", "pages::has_room", "pages::low::more::more"]
+            near = edits.functions_near("pages", room, {"src/lib.rt": CONSTANTS.replace("256", "255")}, known)
+            self.assertEqual(near, ["pages::has_room", "pages::low::more::more"])
+            # (where the name of one isn't certain, the file's functions are tried)
+            near = edits.functions_near("pages", room, {"src/lib.rt": CONSTANTS.replace("256", "255")}, known[:2])
+            self.assertEqual(near, ["pages::has_room", "pages::other"])
 
 
 class FakeKit:
@@ -301,11 +339,24 @@ class RoundsTest(unittest.TestCase):
         self.assertIn("BAD EDIT", tried.results[0].said)
 
     def test_outside_a_body_goes_alone(self) -> None:
-        said = NOTE.format(5) + BY_ITSELF.format(LEN) + "only=3 proved=2\n"
+        said = NOTE.format(5) + BY_ITSELF.format(LEN) + "only=1 proved=0\n"
         made, tried = self.trial([said, "logic=proved\n"], {"clause": ("length self.now", "0")})
         self.assertEqual([it.refused for it in tried.results], [True])
-        self.assertEqual(made.only, [sorted(KNOWN), sorted(KNOWN)])
+        self.assertEqual(made.only, [[LEN], [LEN]])
         self.assertEqual(made.tried, [])
+
+    def test_outside_all_functions_goes_alone_over_the_file(self) -> None:
+        said = NOTE.format(5) + BY_ITSELF.format(LEN) + "only=3 proved=2\n"
+        made, tried = self.trial([said, "logic=proved\n"], {"head": ("//! A ring.", "//! Another.")})
+        self.assertEqual([it.refused for it in tried.results], [True])
+        self.assertEqual(made.only, [sorted(KNOWN), sorted(KNOWN)])
+
+    def test_answers_that_name_what_is_gone_go_alone(self) -> None:
+        said = ANSWER_NAMES + BARE.format(BELOW) + NOT_PROVED
+        made, tried = self.trial([said, BARE.format(BELOW) + "only=1 proved=0\n", "logic=proved\n"],
+                                 {"below": self.BELOW_EDIT})
+        self.assertEqual([it.refused for it in tried.results], [True])
+        self.assertEqual((made.only, made.tried), ([[BELOW]] * 3, []))
 
     def test_outside_a_body_and_its_file(self) -> None:
         made, tried = self.trial(["logic=proved\n", "logic=proved\n"], {"clause": ("length self.now", "0")}, clause=True)

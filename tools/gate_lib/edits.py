@@ -45,12 +45,42 @@ def in_one_function(crate: str, folder: str, file: str, label: str, texts: Dict[
     for function in source.functions(before):
         if not function.body <= start <= end <= function.end or function.cycle:
             continue
+        if source.calls_itself(before, function):
+            return None
         name = known_name(crate, path, function, known)
         if name is None:
             return None
         text = after[function.start:len(after) - (len(before) - function.end)]
         return Edit(file, label, path, name, closures_of(crate, path, name), function.start, function.end, text)
     return None
+
+
+def functions_near(crate: str, folder: str, texts: Dict[str, str], known: Sequence[str]) -> List[str]:
+    """The functions that most likely show an edit which isn't one of a single body: those that it lies in, or those
+    that name the constant that it changes, or else those of its files; none where a file is no source file."""
+    if len(texts) == 1:
+        (path, after), = texts.items()
+        if path.startswith("src/"):
+            before = read(f"{folder}/{path}")
+            start, end = changed(before, after)
+            here = [known_name(crate, path, it, known) for it in source.functions(before)
+                    if it.start < end and start < it.end]
+            constant = source.constant_at(before, start, end)
+            named = here or (functions_that_name(crate, folder, constant, known) if constant else [])
+            if named and None not in named:
+                return sorted(it for it in named if it)
+    return functions_of_files(crate, texts, known)
+
+
+def functions_that_name(crate: str, folder: str, word: str, known: Sequence[str]) -> List[Optional[str]]:
+    """The functions of a crate that have a word in them; None stands for one that the prover names in a way that isn't
+    certain."""
+    found: List[Optional[str]] = []
+    for path, text in sources(folder).items():
+        for function in source.functions(text):
+            if re.search(rf"\b{word}\b", text[function.start:function.end]):
+                found.append(known_name(crate, path, function, known))
+    return found
 
 
 def functions_of_files(crate: str, texts: Dict[str, str], known: Sequence[str]) -> List[str]:
@@ -107,8 +137,7 @@ def together(folder: str, edits: Sequence[Edit]) -> Tuple[Dict[str, str], List[P
 def harmless(crate: str, folder: str, room: str, edits: Sequence[Edit], known: Sequence[str]) -> Optional[Edit]:
     """An edit, written to a file in a folder, that changes nothing, in a function that calls an edited one; one in a
     function without edits of its own where there is such a function."""
-    files = [os.path.join(at, it) for at, _, names in os.walk(f"{folder}/src") for it in names if it.endswith(".rt")]
-    texts = {os.path.relpath(it, folder): read(it) for it in sorted(files)}
+    texts = sources(folder)
     all_functions = [(path, it) for path, text in texts.items() for it in source.functions(text)]
     names = [it.name for _, it in all_functions]
     edited = {it.function for it in edits}
@@ -129,6 +158,12 @@ def harmless(crate: str, folder: str, room: str, edits: Sequence[Edit], known: S
             if made.function not in edited:
                 break
     return found
+
+
+def sources(folder: str) -> Dict[str, str]:
+    """The texts of a crate's source files."""
+    files = [os.path.join(at, it) for at, _, names in os.walk(f"{folder}/src") for it in names if it.endswith(".rt")]
+    return {os.path.relpath(it, folder): read(it) for it in sorted(files)}
 
 
 def marked_line(text: str, body: str) -> str:

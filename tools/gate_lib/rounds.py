@@ -4,8 +4,8 @@ A round's check has at most one edit of each function. An edit is refused there 
 a reason of its own: what a function calls is cited by its contract, which an edit of a body leaves as it is. What isn't
 certified so is tried in another round, and at last alone; so is each edit that isn't one of a single function's body,
 and each of a function in a cycle of calls, whose proofs are one. Alone, an edit is refused where anything isn't proved:
-first its function, or the functions of its file, are checked, and where these are proved the whole crate is, in the
-toolchain's own way.
+first the functions that most likely show it are checked (its own, those that name the constant that it changes, or
+those of its file), and where these are proved the whole crate is, in the toolchain's own way.
 """
 
 import os
@@ -80,7 +80,7 @@ class Trial:
                 self.near[file] = [edit.function]
             else:
                 self.alone.append(file)
-                self.near[file] = edits_of_text.functions_of_files(self.crate, texts, known)
+                self.near[file] = edits_of_text.functions_near(self.crate, self.folder, texts, known)
 
     def put_plant(self, room: str, known: Sequence[str]) -> bool:
         """Puts an edit that changes nothing before the others; tells whether the crate has a place for one."""
@@ -118,7 +118,7 @@ class Trial:
             elif is_judged and self.certify(it, said):
                 self.over_kept |= {it.edit.function} if number > 1 else set()
             else:
-                self.wait(it.edit, is_judged)
+                self.wait(it.edit, is_judged and not is_settled(said.get(it.edit.function)))
         refused = sum(it.refused for it in self.results)
         self.tell(f"round {number}: {len(now)} edits tried, {refused} refused so far, {len(self.together)} to come, "
                   f"{len(self.alone)} to be tried alone")
@@ -137,10 +137,10 @@ class Trial:
                 return True
         return False
 
-    def wait(self, edit: Edit, is_judged: bool) -> None:
+    def wait(self, edit: Edit, may_change: bool) -> None:
         """Puts an edit that wasn't certified behind the others, or gives it up for the rounds."""
         tries = self.tries[edit.file] = self.tries.get(edit.file, 0) + 1
-        if is_judged and tries < TRIES and not (edit is self.plant and self.was_beside):
+        if may_change and tries < TRIES and not (edit is self.plant and self.was_beside):
             self.together.append(edit)
         else:
             self.alone.append(edit.file)
@@ -192,6 +192,12 @@ class Trial:
             if label in refused:
                 well, said = self.kit.must_fail(self.crate, file, None)
                 self.results.append(Result(label, well, said.partition(": ")[2]))
+
+
+def is_settled(said: Optional[output.Said]) -> bool:
+    """Whether what is said of a function would be said in another round too: it isn't proved and calls nothing that
+    isn't, but no goal of its own was refused, as where its answers name what an edit took away."""
+    return said is not None and said.line == "not proved" and not said.goals and not said.refused_answer
 
 
 def functions_in_cycles(crate: str, kept: str) -> Set[str]:

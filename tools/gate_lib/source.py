@@ -9,6 +9,7 @@ from typing import List, NamedTuple, Optional, Tuple
 
 HEAD = re.compile(r"^( *)(?:pub(?:\([a-z ]+\))? )?(?:final )?(?:const )?(?:unsafe )?fn (\w+)")
 CYCLE = re.compile(r"^ *#\[cycle\((\w+)\)\]")
+CONSTANT = re.compile(r"^(?:pub(?:\([a-z ]+\))? )?(?:const|static) (\w+):", re.M)
 
 
 class Function(NamedTuple):
@@ -144,3 +145,17 @@ def spelled(kind: str, parameters: List[str], with_arguments: bool = True) -> st
 def calls(text: str, name: str) -> bool:
     """Whether a text calls a function of this name with nothing before it, or by `self.` or `Self::`."""
     return re.search(rf"(?:(?<![\w.:])|\bself\.|\bSelf::){name}\(", text) is not None
+
+
+def calls_itself(text: str, function: Function) -> bool:
+    """Whether a function that stands outside an impl calls one of its own name."""
+    body = text[function.body:function.end]
+    return not function.owner and re.search(rf"(?<![\w.:]){function.name}\(", body) is not None
+
+
+def constant_at(text: str, start: int, end: int) -> str:
+    """The name of the constant outside functions in whose text a part of a file lies; "" where it lies in none."""
+    for it in CONSTANT.finditer(text):
+        if it.start() <= start and end <= text.find(";\n", it.end()):
+            return it[1]
+    return ""
