@@ -8,7 +8,7 @@ use rv64_decode::Insn;
 use std::alloc::Allocator;
 
 /// The words of the line that shows an instruction at the start of the text: the word of the
-/// instruction alone. Nothing but want of memory refuses them.
+/// instruction alone. They are refused only where memory runs out.
 pub fn shown_words<A: Allocator + Copy>(alloc: A, insn: &Insn) -> Result<Vec<u32, A>, AsmFault>
     ensures word { IfOk result (λ words. IsOneWord insn.now words.items) }
     ensures refused { IfErr result (λ e. e ≡ AsmFault.OutOfMemory) }

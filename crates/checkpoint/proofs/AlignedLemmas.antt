@@ -1,5 +1,5 @@
 -- Marks of one origin: place by place, and as kin.
-use Rattle.std.proofs.Common.{ℕ, zero, suc, ◌<◌, ◌↔◌, List, All, sym, ◌∙◌, arith}
+use Rattle.std.proofs.Common.{ℕ, ◌<◌, ◌↔◌, List, All, sym, ◌∙◌, arith}
 use Rattle.std.proofs.lemmas.List.Elements.{All-contains}
 use Rattle.checkpoint.specs.Aligned.{AreMarksOf, IsMarkOf}
 use Rattle.checkpoint.specs.AlignedParts.{EachIsMarkOf}
@@ -8,18 +8,11 @@ use Rattle.checkpoint.specs.MarkValue.{MarkValue}
 use Rattle.join_law.specs.Eight.{EightKin, place_of}
 use Rattle.join_law.specs.JoinOf.{AllKin}
 use Rattle.join_law.specs.declared.places.Eight.{Eight}
+use Rattle.join_law.proofs.Laws.{each_place}
 use Rattle.origin_set.specs.OriginValue.{OriginValue}
 
 from_parts : (origin : OriginValue) (marks : Eight MarkValue) → EachIsMarkOf origin marks → (i : ℕ) → i < 8 → IsMarkOf origin i (place_of marks i)
-from_parts origin marks p zero h = p.at_0
-from_parts origin marks p (suc zero) h = p.at_1
-from_parts origin marks p (suc (suc zero)) h = p.at_2
-from_parts origin marks p (suc (suc (suc zero))) h = p.at_3
-from_parts origin marks p (suc (suc (suc (suc zero)))) h = p.at_4
-from_parts origin marks p (suc (suc (suc (suc (suc zero))))) h = p.at_5
-from_parts origin marks p (suc (suc (suc (suc (suc (suc zero)))))) h = p.at_6
-from_parts origin marks p (suc (suc (suc (suc (suc (suc (suc zero))))))) h = p.at_7
-from_parts origin marks p (suc (suc (suc (suc (suc (suc (suc (suc i)))))))) h = absurd (omega arith)
+from_parts origin marks p = each_place (λ i. IsMarkOf origin i (place_of marks i)) p.at_0 p.at_1 p.at_2 p.at_3 p.at_4 p.at_5 p.at_6 p.at_7
 
 to_parts : (origin : OriginValue) (marks : Eight MarkValue) → AreMarksOf origin marks → EachIsMarkOf origin marks
 to_parts origin marks a = record {

@@ -3,3 +3,4 @@ pub mod Advanced
 pub mod FurthestLemmas
 pub mod AlignedLemmas
 pub mod BestLemmas
+pub mod Laws

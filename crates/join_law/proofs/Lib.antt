@@ -1,6 +1,7 @@
 pub mod JoinLemmas
 pub mod MergedTree
-pub mod Taken
+pub mod JoinOfOneMore
 pub mod EightKinParts
 pub mod EightPlaces
 pub mod Listed
+pub mod Laws

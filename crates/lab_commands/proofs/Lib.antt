@@ -1,5 +1,5 @@
 pub mod CommandWords
 pub mod GoodRows
-pub mod Puts
+pub mod PutOneMore
 pub mod StepBlocks
 pub mod Subcommands

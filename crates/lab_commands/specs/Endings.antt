@@ -1,5 +1,6 @@
 -- How the program ends: its text on standard error, and its status.
-use Rattle.std.specs.Prelude.{ℕ, ◌≡◌, ◌⊎◌, List, [], ◌∷◌, ◌++◌, codes, Option, Some, None, Result, Ok, Err, option_map, string_bytes, ⊤}
+use Rattle.std.specs.Prelude.{ℕ, ◌≡◌, ◌⊎◌, Bool, true, false, List, [], ◌∷◌, ◌++◌, codes, Option, Some, None, Result, Ok, Err, option_map, string_bytes, ⊤}
+use Rattle.std.specs.Io.KnownBytes.{Appends}
 use Rattle.clap.specs.declared.error.kind.ErrorKind.{ErrorKind}
 use Rattle.clap.specs.declared.error.kind.ErrorKind.TheVariants as kinds
 use Rattle.lab_commands.specs.Refusals.{printed_name, refusal_text}
@@ -34,8 +35,12 @@ status (Err failure) = failure_status failure
 abbrev pub IsShown : ErrorKind → Type 0
 IsShown kind = (kind ≡ kinds.DisplayHelp) ⊎ (kind ≡ kinds.DisplayVersion)
 
--- the help can't be written to the sink of this name, or there was no memory for it
-abbrev pub IsUnshown : {A : Type 0} → List ℕ → Failure A → Type 0
-IsUnshown name (Refused refusals.OutOfMemory) = ⊤
-IsUnshown name (Refused (refusals.Unwritten text)) = string_bytes text ≡ printed_name name
-IsUnshown name _ = ⊥
+-- some text was written, which `clap` doesn't state, and the sink hasn't failed
+abbrev pub IsWritten : Bool → Option (List ℕ) → Option (List ℕ) → Type 0
+IsWritten failed old new = (failed ≡ false) × ((text : List ℕ) × Appends old new text)
+
+-- the help can't be written, since the sink of this name has failed, or there was no memory for it
+abbrev pub IsUnshown : {A : Type 0} → Bool → List ℕ → Failure A → Type 0
+IsUnshown failed name (Refused refusals.OutOfMemory) = ⊤
+IsUnshown failed name (Refused (refusals.Unwritten text)) = (failed ≡ true) × (string_bytes text ≡ printed_name name)
+IsUnshown failed name _ = ⊥

@@ -38,7 +38,7 @@ fn output_of<'a, A: Allocator>(
 }
 
 /// Serves a request: reads the text of its FILE from `input` and writes to `output` what the
-/// command gives for it. Where a refusal is answered nothing was written, or, where the sink
+/// command gives for it. Where it refuses, nothing was written, or, where the sink
 /// failed, a beginning of that.
 pub fn serve<'a, A: Allocator, R: Source, W: Sink>(
     alloc: &'a A,

@@ -1,4 +1,4 @@
-//! The refusals for want of memory, over heaps of every size up to the one that suffices.
+//! The refusals where memory runs out, over heaps of every size up to the one that suffices.
 
 ghost use Rattle.lab_commands.specs.CommandLine.{IsBounded};
 

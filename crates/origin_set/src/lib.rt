@@ -42,7 +42,7 @@ impl<A: Allocator> Model for Origin<A> {
 }
 
 impl<A: Allocator> Origin<A> {
-    /// The origin of the programs of contexts 0 to 7. O1 is answered exactly where one of them has too many pages;
+    /// The origin of the programs of contexts 0 to 7. O1 is returned exactly where one of them has too many pages;
     /// nothing grows.
     pub fn new(
         programs: [Option<Program<A>>; 8],

@@ -8,3 +8,4 @@ pub mod Started
 pub mod Stored
 pub mod Tabulated
 pub mod Writes
+pub mod Laws

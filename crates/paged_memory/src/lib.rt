@@ -91,11 +91,11 @@ impl<A: Allocator> Model for Memory<A> {
 impl<A: Allocator> Memory<A> {
     /// The memory of a program before its first step: its text words from `TEXT_START` on, least
     /// byte first, and its data bytes from `DATA_START` on. The rest of a last page is 0. `has_room`
-    /// tells whether a program is small enough.
+    /// says whether a program is small enough.
     ///
     /// # Errors
     ///
-    /// Want of memory (M6), where a growth was refused.
+    /// Memory ran out (M6): a growth was refused.
     pub fn new(alloc: A, words: &[u32], bytes: &[u8]) -> Result<Self, AllocError>
         requires words { length words.now ≤ most_words }
         requires bytes { length bytes.now ≤ most_bytes }
@@ -109,7 +109,7 @@ impl<A: Allocator> Memory<A> {
     ///
     /// # Errors
     ///
-    /// Want of memory (M6), where a growth was refused.
+    /// Memory ran out (M6): a growth was refused.
     pub fn try_clone(&self, alloc: A) -> Result<Self, AllocError>
         ensures { IfOk result (λ m. m ≡ self.now) }
     {

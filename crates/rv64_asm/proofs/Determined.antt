@@ -2,7 +2,7 @@
 use Rattle.std.proofs.Common.{◌≡◌, ℕ, zero, suc, ◌<◌, ◌≤◌, ◌+◌, List, [], ◌∷◌, ◌++◌, length, take, get_or, Ok, refl, sym, ap, ◌∙◌, arith, take-add, add-one}
 use Rattle.std.proofs.lemmas.Option.{get_or_from_slice_get, same_Some}
 use Rattle.std.proofs.Math.Seq.{take-length}
-use Rattle.rv64_decode.proofs.SpellingLemmas.{word_spelled}
+use Rattle.rv64_decode.proofs.Laws.{word_spelled}
 use Rattle.rv64_asm.specs.declared.statement.Item.{Item}
 use Rattle.rv64_asm.specs.declared.statement.Item.TheVariants.{Nothing, Instruction, Word, Number, Zeros}
 use Rattle.rv64_asm.specs.ProgramValue.{ProgramValue}
@@ -11,9 +11,9 @@ use Rattle.rv64_asm.specs.Statements.{label_of}
 use Rattle.rv64_asm.specs.Places.{Layout, behind, next_place, with_label, address, StandBelow}
 use Rattle.rv64_asm.specs.Written.{resolve, item_of, IsPiece, StandsAt, IsWritten, WrittenBelow, place_of_line}
 use Rattle.rv64_asm.specs.Assembled.{IsProgram}
-use Rattle.rv64_asm.proofs.Turns.{behind_more, stepped}
+use Rattle.rv64_asm.proofs.LayoutOfOneMore.{behind_more, stepped}
 use Rattle.rv64_asm.proofs.Emitting.{Grows, statement_grows, says, goes}
-use Rattle.rv64_asm.proofs.Writes.{ok_of}
+use Rattle.rv64_asm.proofs.WritingOfOneMore.{ok_of}
 
 -- an item has one piece
 one_piece : (item : Item) (words bytes others more : List ℕ) → IsPiece item words bytes → IsPiece item others more → (words ≡ others) × (bytes ≡ more)

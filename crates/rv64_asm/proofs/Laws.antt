@@ -42,7 +42,7 @@ module _ (text : List ℕ) (insn : Insn) (r : Rereads text insn 0x10000) where
   pub shown_gives_its_word : (program : ProgramValue) (labels : List Label) → IsAssembly (lines text) program labels → IsPiece (Instruction insn) program.words program.bytes
   shown_gives_its_word program labels a = one_line_gives text insn r program labels (rw r.one_line at a)
 
-  -- and is refused for want of memory alone
+  -- and is refused only where memory runs out
   pub shown_has_no_fault : (refusal : AsmFault) → IsRefusal (lines text) refusal → refusal ≡ OutOfMemory
   shown_has_no_fault (At fault number) h = absurd (one_line_stands text insn r fault number (rw r.one_line at h))
   shown_has_no_fault OutOfMemory h = refl

@@ -1,9 +1,9 @@
 pub mod Splits
 pub mod LabelMap
-pub mod Turns
+pub mod LayoutOfOneMore
 pub mod Emitting
 pub mod Refusals
-pub mod Writes
+pub mod WritingOfOneMore
 pub mod Determined
 pub mod Outcomes
 pub mod Appended

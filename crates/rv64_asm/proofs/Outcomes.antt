@@ -10,7 +10,7 @@ use Rattle.rv64_asm.specs.Label.{Label}
 use Rattle.rv64_asm.specs.Places.{behind, next_place, HasFault, StandBelow, IsLowestFault}
 use Rattle.rv64_asm.specs.Written.{item_of, place_of_line, HasTargetFault}
 use Rattle.rv64_asm.specs.Assembled.{IsAssembly, IsTargetFault, IsRefusal}
-use Rattle.rv64_asm.proofs.Writes.{reached}
+use Rattle.rv64_asm.proofs.WritingOfOneMore.{reached}
 
 one_fault : (lines : List (List ℕ)) (k : ℕ) (f g : Option LineFault) → HasFault lines k f → HasFault lines k g → f ≡ g
 one_fault lines k f g h i =

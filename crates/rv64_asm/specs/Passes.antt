@@ -30,7 +30,7 @@ pub record Appends (item : Item) (words new_words bytes new_bytes : List ℕ) : 
   pub words_grow : new_words ≡ words ++ piece_words
   pub bytes_grow : new_bytes ≡ bytes ++ piece_bytes
 
--- a refusal by a line itself and those before it; want of memory says nothing
+-- a refusal by a line itself and those before it; where memory runs out nothing is said
 abbrev pub IsOwnRefusal : List (List ℕ) → AsmFault → Type 0
 IsOwnRefusal lines (At fault number) = (k : ℕ) × (number ≡ k + 1) × IsLowestFault lines fault k
 IsOwnRefusal lines OutOfMemory = Unit {0}

@@ -19,7 +19,7 @@ pub struct Assembly<A: Allocator = Global> {
     pub labels: Labels<A>,
 }
 
-/// Assembles a text. The refusal is the text's own fault, or want of memory.
+/// Assembles a text. It is refused for a fault of the text, or because memory ran out (A8).
 ///
 /// The fault of a text is that of the lowest line with A1, A2, A3, A5 or A7, the first of these
 /// that the line has; where there is none, that of the lowest line with A4 or A6.

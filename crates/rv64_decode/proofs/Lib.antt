@@ -1,2 +1,3 @@
 pub mod SpellingLemmas
 pub mod TableLemmas
+pub mod Laws

@@ -190,7 +190,7 @@ fn parse<'a, S: AsStr>(alloc: Global, words: &'a [S]) -> Result<ArgMatches<'a>, 
 }
 
 /// What the words of a command line ask for, those after the program's name. The error is `clap`'s:
-/// it tells what is wrong with the words, or holds the help that they ask for, or memory ran out.
+/// it says what is wrong with the words, or holds the help that they ask for, or says that memory ran out.
 pub fn words<'a, S: AsStr>(alloc: Global, words: &'a [S]) -> Result<Request<'a>, Error>
     ensures ok { IfOk result (spec.Asks (map S.text words.entry.now)) }
     ensures bounds { IfOk result spec.IsBounded }

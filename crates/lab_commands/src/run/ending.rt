@@ -17,7 +17,7 @@ use std::{fmt, io};
 /// Why the program doesn't end with status 0. It is printed on standard error, with its line end.
 #[derive(Debug, Drop)]
 pub enum Failure<A: Allocator = Global> {
-    /// A command refuses, or memory is wanted for its words or its help: status 1.
+    /// A command refuses, or memory ran out for its words or its help: status 1.
     Refused(Refusal<A>),
     /// The words are wrong: status 2, with `clap`'s text.
     WrongWords(clap::Error),
@@ -81,9 +81,10 @@ pub fn explain<'a, A: Allocator, W: Sink>(
     ensures wrong { (kind_of error ≡ ErrorKind.OutOfMemory → ⊥) → (spec.IsShown (kind_of error) → ⊥)
         → (result ≡ Err (Failure.WrongWords error))
         × (W.contents output.new ≡ W.contents output.old) }
-    ensures shown { spec.IsShown (kind_of error) → OnOk result (W.has_failed output.new ≡ false) }
+    ensures shown { spec.IsShown (kind_of error) → OnOk result (spec.IsWritten
+        (W.has_failed output.new) (W.contents output.old) (W.contents output.new)) }
     ensures unshown { spec.IsShown (kind_of error)
-        → IfErr result (spec.IsUnshown (W.name_of output.old)) }
+        → IfErr result (spec.IsUnshown (W.has_failed output.new) (W.name_of output.old)) }
 {
     if error.kind() == ErrorKind::OutOfMemory {
         return Err(Failure::Refused(Refusal::OutOfMemory));

@@ -18,7 +18,7 @@ pub enum Refusal<A: Allocator = Global> {
     /// C3: there is no memory for a mark. A command joins marks of one origin and context, so
     /// that C1 and C2 don't come.
     Mark(MarkFault),
-    /// E1: memory was asked for and refused, where no other code tells it.
+    /// E1: memory ran out where no other code says so.
     OutOfMemory,
     /// S1: the file of this name can't be read, is too long or is no UTF-8.
     Unread(String<A>),

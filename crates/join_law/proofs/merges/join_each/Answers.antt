@@ -1,6 +1,6 @@
 use Rattle.std.proofs.Common.{sym, ◌∙◌, ap, ◌≡◌, ◌++◌, ◌∷◌}
 use Rattle.join_law.proofs.JoinLemmas.{IsJoinOf-one}
-use Rattle.join_law.proofs.Taken.{taken_front, next_kin, next_joined}
+use Rattle.join_law.proofs.JoinOfOneMore.{taken_front, next_kin, next_joined}
 use Rattle.join_law.proofs.merges.join_each.Goals as goal
 use Rattle.join_law.proofs.merges.join_each.Goals.{In-Some}
 

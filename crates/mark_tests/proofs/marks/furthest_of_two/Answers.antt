@@ -1,7 +1,7 @@
 use Rattle.std.proofs.Common.{[], ◌∷◌}
 use Rattle.std.proofs.lemmas.List.Elements.{All-cons, All-nil}
 use Rattle.std.specs.Arc.{arc_value}
-use Rattle.checkpoint.proofs.AlignedLemmas.{AreMarksOf-kin}
+use Rattle.checkpoint.proofs.Laws.{AreMarksOf-kin}
 use Rattle.checkpoint.specs.Aligned.{AreMarksOf}
 use Rattle.mark_tests.proofs.marks.furthest_of_two.Goals as goal
 

@@ -6,7 +6,7 @@ use Rattle.std.proofs.lemmas.Iterator.Splits.{YieldsList-from_lines}
 use Rattle.std.proofs.lemmas.Iterator.Consumers.{YieldsList-turn, YieldsList-end}
 use Rattle.rv64_asm.specs.Statements.{label_of}
 use Rattle.rv64_asm.specs.Places.{Layout, behind, next_place, with_label, address}
-use Rattle.rv64_asm.proofs.Turns.{next_is, behind_more, stand_more, lowest, stepped, no_fault, a_fault}
+use Rattle.rv64_asm.proofs.LayoutOfOneMore.{next_is, behind_more, stand_more, lowest, stepped, no_fault, a_fault}
 use Rattle.rv64_asm.proofs.layout.lay_out.Goals as goal
 
 pub loop-line-preserved : goal.loop-line-preserved

@@ -6,7 +6,7 @@ use Rattle.std.proofs.lemmas.Iterator.Splits.{YieldsList-from_lines}
 use Rattle.std.proofs.lemmas.Iterator.Consumers.{YieldsList-turn, YieldsList-end}
 use Rattle.rv64_asm.specs.Places.{behind}
 use Rattle.rv64_asm.specs.Passes.{emit}
-use Rattle.rv64_asm.proofs.Writes.{turned, fault_here}
+use Rattle.rv64_asm.proofs.WritingOfOneMore.{turned, fault_here}
 use Rattle.rv64_asm.proofs.writing.write_lines.Goals as goal
 
 pub loop-line-preserved : goal.loop-line-preserved

@@ -1,6 +1,6 @@
 use Rattle.std.proofs.Common.{arith}
 use Rattle.std.proofs.lemmas.Grind.{common_steps}
-use Rattle.lab_commands.proofs.Puts.{has_put_more}
+use Rattle.lab_commands.proofs.PutOneMore.{has_put_more}
 use Rattle.lab_commands.proofs.device.sink.put_all.Goals as goal
 
 pub loop-rest-preserved : goal.loop-rest-preserved

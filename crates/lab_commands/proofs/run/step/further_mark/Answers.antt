@@ -1,4 +1,4 @@
-use Rattle.checkpoint.proofs.FurthestLemmas.{IsFurthest-further}
+use Rattle.checkpoint.proofs.Laws.{IsFurthest-further}
 use Rattle.lab_commands.proofs.run.step.further_mark.Goals as goal
 
 pub returns-in_ok-mark_after-in-Some-clause-ok : goal.returns-in_ok-mark_after-in-Some-clause-ok

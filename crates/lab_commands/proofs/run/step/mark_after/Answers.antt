@@ -1,4 +1,4 @@
-use Rattle.checkpoint.proofs.FurthestLemmas.{IsFurthest-advanced}
+use Rattle.checkpoint.proofs.Laws.{IsFurthest-advanced}
 use Rattle.lab_commands.proofs.run.step.mark_after.Goals as goal
 
 pub returns-clause-ok : goal.returns-clause-ok

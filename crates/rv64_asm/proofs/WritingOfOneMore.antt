@@ -1,4 +1,4 @@
--- The second pass, from line to line.
+-- What the second pass has written behind one line more.
 use Rattle.std.proofs.Common.{◌≡◌, ℕ, ◌<◌, ◌+◌, List, ◌++◌, length, get_or, take, Some, None, Result, Ok, Err, refl, sym, ap, ◌∙◌, arith, below_more}
 use Rattle.std.specs.Result.{result_err}
 use Rattle.std.proofs.lemmas.List.{length-append}
@@ -11,7 +11,7 @@ use Rattle.rv64_asm.specs.Places.{Layout, behind, next_place, with_label, addres
 use Rattle.rv64_asm.specs.Written.{item_of, IsWritten, WrittenBelow, HasTargetFault}
 use Rattle.rv64_asm.specs.Passes.{emit, Appends}
 use Rattle.rv64_asm.specs.Assembled.{IsTargetFault}
-use Rattle.rv64_asm.proofs.Turns.{behind_more, line_here, stepped}
+use Rattle.rv64_asm.proofs.LayoutOfOneMore.{behind_more, line_here, stepped}
 use Rattle.rv64_asm.proofs.Emitting.{stands_new, written_on, statement_grows, emitted, goes, target_fault, item_is}
 
 -- a result without a fault has a value

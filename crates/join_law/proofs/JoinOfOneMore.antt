@@ -1,4 +1,4 @@
--- One more value of a list of kin.
+-- The join of one more value of a list of kin.
 use Rattle.std.proofs.Common.{◌≡◌, List, [], ◌∷◌, ◌++◌, Contains, ap, ◌∙◌}
 use Rattle.std.specs.Iterator.{Yields}
 use Rattle.std.proofs.lemmas.List.Elements.{Contains-append_right}

@@ -1,4 +1,4 @@
--- One line more.
+-- The layout of one line more.
 use Rattle.std.proofs.Common.{◌≡◌, ℕ, ◌<◌, ◌+◌, List, [], ◌∷◌, ◌++◌, length, get_or, take, Option, Some, None, Result, Ok, Err, refl, sym, ap, ◌∙◌, below_more}
 use Rattle.std.specs.List.{slice_get}
 use Rattle.std.specs.Result.{result_unwrap_or, result_err}
