@@ -1,15 +1,17 @@
 //! The effect of an instruction on the values of its sources.
 
-ghost use Rattle.std.specs.Prelude.{◌≡◌, ◌%◌};
+ghost use Rattle.std.specs.Prelude.{◌≡◌, ◌*◌, ◌/◌, ◌%◌, ◌^◌, if◌then◌else◌};
 ghost use Rattle.hart_step.specs.State.{following as following_of};
-ghost use Rattle.hart_step.specs.Values.{offset_from};
+ghost use Rattle.hart_step.specs.Values.{bits, low as low_of, extended as extended_of, sum, offset_from, condition_holds};
 ghost use Rattle.hart_step.specs.Effects.{first_source as first_source_of, second_source as second_source_of, destination as destination_of, went_to as went_to_of, linked_to as linked_to_of, value_at as value_at_of, effect_of, LeadsToAligned};
 
 use crate::stop::Stop;
 use crate::values::{
     alu_value, extended, holds, imm_value, low, shift_value, shift_word_value, word_value,
 };
-use rv64_decode::{Insn, LoadKind, Register, StoreWidth};
+use rv64_decode::{
+    BranchCondition, BranchOffset, Immediate, Insn, LoadKind, Register, StoreWidth, UpperImmediate,
+};
 
 /// What an instruction does, once its sources have values and before memory is asked.
 #[derive(Clone, Copy, Debug, PartialEq, Eq)]
@@ -162,6 +164,45 @@ pub fn offset_by(base: u64, offset: i64) -> u64
     base.wrapping_add(offset.cast_unsigned())
 }
 
+/// The value of an upper immediate, with its sign.
+#[inline(always)]
+fn upper(immediate: UpperImmediate) -> u64
+    ensures { result ≡ extended_of (immediate * 2 ^ 12) }
+{
+    extended(immediate.value() << 12)
+}
+
+/// The target of `jalr`, whose bit 0 is cleared.
+#[inline(always)]
+fn register_target(a: u64, immediate: Immediate) -> u64
+    ensures { result ≡ offset_from a immediate / 2 * 2 }
+{
+    offset_by(a, i64::from(immediate.value())) / 2 * 2
+}
+
+/// The low 32 bits of a sum, with their sign.
+#[inline(always)]
+fn word_sum(a: u64, immediate: Immediate) -> u64
+    ensures { result ≡ extended_of (low_of (sum a (bits immediate))) }
+{
+    extended(low(offset_by(a, i64::from(immediate.value()))))
+}
+
+/// On at the target of a branch where its condition holds, else at the next instruction in line.
+#[inline(always)]
+fn branched(condition: BranchCondition, offset: BranchOffset, pc: u64, a: u64, b: u64) -> Effect
+    ensures effect { result ≡ (if condition_holds condition a b then went_to_of (offset_from pc offset) else Effect.Goes (following_of pc)) }
+    ensures aligned { pc % 4 ≡ 0 → LeadsToAligned result }
+{
+    if holds(condition, a, b) {
+        went_to(offset_by(pc, i64::from(offset.value())))
+    } else {
+        Effect::Goes {
+            target: following(pc),
+        }
+    }
+}
+
 /// The effect of an instruction at a pc, where its sources have the values `a` and `b`.
 #[inline(always)]
 pub fn execute(insn: &Insn, pc: u64, a: u64, b: u64) -> Effect
@@ -169,28 +210,15 @@ pub fn execute(insn: &Insn, pc: u64, a: u64, b: u64) -> Effect
     ensures aligned { pc % 4 ≡ 0 → LeadsToAligned result }
 {
     match *insn {
-        Insn::Lui { immediate, .. } => value_at(pc, extended(immediate.value() << 12)),
-        Insn::Auipc { immediate, .. } => value_at(
-            pc,
-            pc.wrapping_add(extended(immediate.value() << 12)),
-        ),
+        Insn::Lui { immediate, .. } => value_at(pc, upper(immediate)),
+        Insn::Auipc { immediate, .. } => value_at(pc, pc.wrapping_add(upper(immediate))),
         Insn::Jal { offset, .. } => linked_to(pc, offset_by(pc, i64::from(offset.value()))),
-        Insn::Jalr { immediate, .. } => {
-            linked_to(pc, offset_by(a, i64::from(immediate.value())) / 2 * 2)
-        }
+        Insn::Jalr { immediate, .. } => linked_to(pc, register_target(a, immediate)),
         Insn::Branch {
             condition,
             offset,
             ..
-        } => {
-            if holds(condition, a, b) {
-                went_to(offset_by(pc, i64::from(offset.value())))
-            } else {
-                Effect::Goes {
-                    target: following(pc),
-                }
-            }
-        }
+        } => branched(condition, offset, pc, a, b),
         Insn::Load {
             kind,
             immediate,
@@ -216,10 +244,7 @@ pub fn execute(insn: &Insn, pc: u64, a: u64, b: u64) -> Effect
             value_at(pc, shift_value(op, a, u32::from(amount.value())))
         }
         Insn::Alu { op, .. } => value_at(pc, alu_value(op, a, b)),
-        Insn::AddImmWord { immediate, .. } => value_at(
-            pc,
-            extended(low(offset_by(a, i64::from(immediate.value())))),
-        ),
+        Insn::AddImmWord { immediate, .. } => value_at(pc, word_sum(a, immediate)),
         Insn::ShiftImmWord { op, amount, .. } => value_at(
             pc,
             extended(shift_word_value(op, low(a), u32::from(amount.value()))),
