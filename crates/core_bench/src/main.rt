@@ -39,8 +39,9 @@ fn answer<R: Env + Files + Print + AllocGlobal>(rt: &R) -> Result<(), BenchFault
         retired,
         squashed,
     } = figures;
-    println!(rt; "{cycles} {fetched} {renamed} {issued} {retired} {squashed}")
-        .map_err(|_| BenchFault::Output)
+    println!(rt; "{cycles} {fetched} {renamed} {issued} {retired} {squashed}").map_err(
+        |_| BenchFault::Output,
+    )
 }
 
 /// The figures of a run.

@@ -110,10 +110,7 @@ impl<A: Allocator> LoadStoreQueue<A> {
         ensures ok { OnOk result (self.new ≡ record self.old { stores = self.old.stores ++ record { stamp = stamp; bytes = None } ∷ [] }) }
         ensures err { OnErr result ((result ≡ Err QueueFault.Full) × (self.new ≡ self.old)) }
     {
-        match self.stores.push(StorePlace {
-            stamp,
-            bytes: None,
-        }) {
+        match self.stores.push(StorePlace { stamp, bytes: None }) {
             Ok(()) => Ok(()),
             Err(_) => Err(QueueFault::Full),
         }

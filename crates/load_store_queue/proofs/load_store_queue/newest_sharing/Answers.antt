@@ -7,8 +7,8 @@ pub returns-in-Some : goal.returns-in-Some
 returns-in-Some g c =
     let read : slice_get c.args.stores.now.items (c.loop-place.place - 1) ≡ Some c.unwrap-store.result.now = search rules in
     let here : sharing_in (drop (c.loop-place.place - 1) c.args.stores.now.items) c.args.stamp c.args.span ≡ Some c.in-Some.bytes =
-        sharing_more c.args.stores.now.items c.loop-place.place c.unwrap-store.result.now c.args.stamp c.args.span c.loop-place-test.true read
-        ∙ rw (c.loop-place.invariant.past, ← c.shared_with.ensures) c.in-Some.is in
+    sharing_more c.args.stores.now.items c.loop-place.place c.unwrap-store.result.now c.args.stamp c.args.span c.loop-place-test.true read
+    ∙ rw (c.loop-place.invariant.past, ← c.shared_with.ensures) c.in-Some.is in
     sym (sharing_found c.args.stores.now.items (c.loop-place.place - 1) c.args.stamp c.args.span c.in-Some.bytes here)
 
 pub loop-place-preserved : goal.loop-place-preserved
