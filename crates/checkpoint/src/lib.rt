@@ -1,7 +1,7 @@
 //! Marks: how far contexts have come, each always on its trajectory of plain RV64I.
 #![tactic(auto)]
 
-ghost use Rattle.std.specs.Prelude.{◌≡◌, ◌↔◌, ◌+◌, ◌^◌, ◌≤◌, ℕ, max, IsTrue, IfOk, IfErr, OnErr, Some, Err};
+ghost use Rattle.std.specs.Prelude.{◌≡◌, ◌↔◌, ◌+◌, ◌^◌, ◌≤◌, ℕ, max, IsTrue, IfOk, IfErr, IfNone, IfSome, OnErr, Some, Err};
 ghost use Rattle.std.specs.Arc.{arc_value};
 ghost use Rattle.checkpoint.specs.Further.{MarkKin, IsUnjoinable, further, mark_laws};
 ghost use Rattle.checkpoint.specs.Furthest.{IsFurthest};
@@ -163,13 +163,24 @@ impl<A: Allocator> Mark<A> {
             IsFurthest origin context (max n m) mark) }
         ensures refused { IfErr result (λ back. (back.0 ≡ self) × (back.1 ≡ other) × IsUnjoinable self other back.2) }
     {
-        if !self.same_origin(&other) {
-            return Err((self, other, MarkFault::ForeignOrigin));
+        match self.unjoinable(&other) {
+            Some(fault) => Err((self, other, fault)),
+            None => Ok(self.join(other)),
+        }
+    }
+
+    // Why another mark isn't joined with this one, if it isn't.
+    fn unjoinable(&self, other: &Mark<A>) -> Option<MarkFault>
+        ensures some { IfSome result (IsUnjoinable self.now other.now) }
+        ensures none { IfNone result (MarkKin self.now other.now) }
+    {
+        if !self.same_origin(other) {
+            return Some(MarkFault::ForeignOrigin);
         }
         if self.context != other.context {
-            return Err((self, other, MarkFault::OtherContext));
+            return Some(MarkFault::OtherContext);
         }
-        Ok(self.join(other))
+        None
     }
 }
 

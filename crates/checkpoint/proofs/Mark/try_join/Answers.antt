@@ -1,5 +1,5 @@
 use Rattle.checkpoint.proofs.FurthestLemmas.{IsFurthest-further}
 use Rattle.checkpoint.proofs.Mark.try_join.Goals as goal
 
-pub returns-clause-furthest : goal.returns-clause-furthest
-returns-clause-furthest g c = λ origin context n m p q. rw c.join.ensures (IsFurthest-further origin context n m _ _ p q)
+pub returns-in-None-clause-furthest : goal.returns-in-None-clause-furthest
+returns-in-None-clause-furthest g c = λ origin context n m p q. rw c.join.ensures (IsFurthest-further origin context n m _ _ p q)
