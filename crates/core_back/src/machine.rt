@@ -263,7 +263,7 @@ impl<A: Allocator> Machine<A> {
         events::settle_speculation(&mut self.flow, track, context);
     }
 
-    /// Selects the first ready entries by an order, at most so many. A load that has to wait for an older store isn't ready.
+    /// Selects the first ready entries by an order, at most so many. A load that isn't clear isn't ready.
     pub fn select<O: Order>(&mut self, order: &O, width: usize)
         requires width { width ≤ 8 }
         requires idle { self.old.names ≡ [] }

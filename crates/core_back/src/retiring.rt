@@ -15,10 +15,10 @@ use join_law::Ctx;
 use rv64_decode::Insn;
 use std::alloc::Allocator;
 
-/// The oldest entries retire, at most as many as the retire width in all. Contexts are taken from the cycle's number upwards, and each goes
-/// on while its oldest entry is done. One that is done with a stop stops its context, and takes no place of the width.
-/// What retires is listed in order. Answers how many entries were dropped: all of a context that stops, and what is left
-/// of one that is parked.
+/// The oldest entries retire, at most as many as the retire width in all. Contexts are taken from the cycle's number
+/// upwards, and each goes on while its oldest entry is done. One that is done with a stop stops its context, and takes no
+/// place of the width. What retires is listed in order. Returns how many entries were dropped: all of a context that
+/// stops, and what is left of one that is parked.
 pub fn retire<A: Allocator, G: Guess>(
     machine: &mut Machine<A>,
     guess: &mut G,

@@ -134,12 +134,8 @@ impl<G: Guess + Drop, P: Pick + Drop, O: Order + Drop, D: Delay + Drop, A: Alloc
         ensures order { self.new.order ≡ self.old.order }
         ensures flights { result.cut + array_vec_len result.retired + in_flight (shown self.new) ≡ in_flight (shown self.old) + array_vec_len result.fetched }
     {
-        self.contexts.cycle(
-            &mut self.guess,
-            &self.pick,
-            &self.order,
-            &mut self.delay,
-        )
+        self.contexts
+            .cycle(&mut self.guess, &self.pick, &self.order, &mut self.delay)
     }
 
     /// The number of the cycle that comes.

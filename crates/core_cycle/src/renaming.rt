@@ -9,12 +9,9 @@ use core_view::EntryId;
 use join_law::Ctx;
 use std::alloc::Allocator;
 
-/// Entries are renamed, one by one, at most as many as the rename width: each is the one with the least stamp of the contexts' oldest
-/// fetched entries that can be renamed then. What is renamed is listed in order.
-pub(crate) fn rename<A: Allocator>(
-    machine: &mut Machine<A>,
-    renamed: &mut ArrayVec<EntryId, 8>,
-)
+/// Entries are renamed, one by one, at most as many as the rename width: each is the one with the least stamp of the
+/// contexts' oldest fetched entries that can be renamed then. What is renamed is listed in order.
+pub(crate) fn rename<A: Allocator>(machine: &mut Machine<A>, renamed: &mut ArrayVec<EntryId, 8>)
     requires idle { machine.old.names ≡ [] }
     requires fresh { renamed.old.items ≡ [] }
     ensures alike { IsAlike machine.old machine.new }
