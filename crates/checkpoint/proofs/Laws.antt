@@ -3,3 +3,5 @@
 pub use Rattle.checkpoint.proofs.FurthestLemmas.{IsFurthest-advanced, IsFurthest-further}
 -- eights of marks of one origin are kin
 pub use Rattle.checkpoint.proofs.AlignedLemmas.{AreMarksOf-kin}
+-- so many steps and then some more are as many as both
+pub use Rattle.checkpoint.proofs.Trajectory.{after-+}

@@ -7,7 +7,7 @@ use Rattle.std.proofs.lemmas.List.Elements.{All-push, All-append}
 use Rattle.std.proofs.lemmas.List.Quantifiers.{all_pairs_push}
 use Rattle.hart_step.specs.State.{State}
 use Rattle.hart_step.specs.Next.{after}
-use Rattle.checkpoint.proofs.Trajectory.{after-+}
+use Rattle.checkpoint.proofs.Laws.{after-+}
 use Rattle.origin_set.specs.Start.{start}
 use Rattle.fetch_policy.specs.Lawful.{turn}
 use Rattle.core_view.specs.declared.entry.Entry.{Entry}
