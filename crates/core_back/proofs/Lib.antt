@@ -23,3 +23,4 @@ pub mod Waiting
 pub mod Fronts
 pub mod RetireTurns
 pub mod Counted
+pub mod Ahead

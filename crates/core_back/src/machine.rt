@@ -1,10 +1,12 @@
 //! Eight contexts, and the data flow that they share.
 
-ghost use Rattle.std.specs.Prelude.{◌≡◌, ◌≢◌, ◌↔◌, ℕ, ◌+◌, ◌-◌, ◌<◌, ◌≤◌, ◌%◌, ◌^◌, ◌==◌, ◌&&◌, true, false, not, length, slice_get, slice_index, [], ◌∷◌, IfOk, IfSome, IsSome, IsTrue, Some, None, Err};
+ghost use Rattle.std.specs.Prelude.{◌≡◌, ◌≢◌, ◌↔◌, ℕ, ◌+◌, ◌-◌, ◌<◌, ◌≤◌, ◌%◌, ◌^◌, ◌==◌, ◌&&◌, true, false, not, length, count_by, slice_get, slice_index, [], ◌∷◌, IfOk, IfSome, IsSome, IsTrue, Some, None, Err};
 ghost use Rattle.core_view.specs.declared.outcome.Outcome.TheVariants.{Goes, Stops};
 ghost use Rattle.core_view.specs.declared.entry.Stage.TheVariants.{Issued};
 ghost use Rattle.core_view.specs.Events.{retire_event, stop_event, complete_event};
+ghost use Rattle.core_view.specs.Operations.{is_guessed, is_load};
 ghost use Rattle.core_view.specs.View.{entry_at, IsLive};
+ghost use Rattle.lawful_cycle.specs.Fetch.{is_fetched, is_missing, is_eligible};
 ghost use Rattle.origin_set.specs.Start.{start};
 ghost use Rattle.core_back.specs.Machine.{IsAlike, context_at, in_flight, with_context, with_cycle, first_done, due_in};
 ghost use Rattle.core_back.specs.Issued.{IsIssued};
@@ -331,7 +333,8 @@ impl<A: Allocator> Machine<A> {
 
     /// How many entries of a context are fetched and not yet renamed.
     pub fn fetched_count(&self, context: Ctx) -> usize
-        ensures { result ≤ 80 }
+        ensures value { result ≡ count_by is_fetched (context_at self.now context).flight }
+        ensures bound { result ≤ 80 }
     {
         let track = &self.tracks[context.index()];
         track.len() - track.renamed_count()
@@ -339,7 +342,8 @@ impl<A: Allocator> Machine<A> {
 
     /// How many of these are guessed.
     pub fn guessed_ahead(&self, context: Ctx) -> usize
-        ensures { result ≤ 80 }
+        ensures value { result ≡ count_by (λ e. is_fetched e && is_guessed e.operation) (context_at self.now context).flight }
+        ensures bound { result ≤ 80 }
     {
         let track = &self.tracks[context.index()];
         track.guessed_ahead()
@@ -347,7 +351,8 @@ impl<A: Allocator> Machine<A> {
 
     /// How many loads of a context were issued, have not completed, and missed.
     pub fn missed_loads(&self, context: Ctx) -> usize
-        ensures { result ≤ 80 }
+        ensures value { result ≡ count_by (λ e. is_load e.operation && is_missing e.stage) (context_at self.now context).flight }
+        ensures bound { result ≤ 80 }
     {
         let track = &self.tracks[context.index()];
         track.missed_loads()
@@ -378,7 +383,9 @@ impl<A: Allocator> Machine<A> {
     }
 
     /// Whether one more entry of a context can be fetched: it runs, doesn't wait, and its front list has room.
-    pub fn can_fetch(&self, context: Ctx) -> bool {
+    pub fn can_fetch(&self, context: Ctx) -> bool
+        ensures { result ≡ is_eligible (context_at self.now context) }
+    {
         let track = &self.tracks[context.index()];
         track.can_fetch()
     }
