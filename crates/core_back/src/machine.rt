@@ -386,8 +386,8 @@ impl<A: Allocator> Machine<A> {
     pub fn can_fetch(&self, context: Ctx) -> bool
         ensures { result ≡ is_eligible (context_at self.now context) }
     {
-        let track = &self.tracks[context.index()];
-        track.can_fetch()
+        let asked = &self.tracks[context.index()];
+        asked.can_fetch()
     }
 
     /// One more entry of a context is fetched, if it can be, and followed where a guess says. Answers its stamp, and
@@ -397,6 +397,7 @@ impl<A: Allocator> Machine<A> {
         requires room { 0 < self.old.fetch_room }
         requires cycle { self.old.view.cycle < 2 ^ 56 }
         ensures none { result ≡ None → self.new ≡ self.old }
+        ensures closed { result ≡ None → is_eligible (context_at self.old context) ≡ false }
         ensures fetched { IfSome result (IsFetched (G.may_answer guess.old) self.old self.new context) }
         ensures flights { IfSome result (λ _. in_flight self.new ≡ in_flight self.old + 1) }
         ensures alike { IsAlike self.old self.new }

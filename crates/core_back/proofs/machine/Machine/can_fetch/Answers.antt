@@ -7,5 +7,5 @@ use Rattle.core_back.proofs.machine.Machine.can_fetch.Goals as goal
 
 pub returns : goal.returns
 returns g c =
-    let h = at_context c.self.inside c.args.self.now c.args.context c.index.result c.index-track.result.now c.self.view_is c.self.invariant (omega (arith, c.index.ensures)) c.index.ensures.value c.index-track.ensures in
-    c.can_fetch.ensures.value ∙ eligible_is c.index-track.result.now.context c.index-track.result.now.renamed h.core.are_renamed h.core.are_fetched ∙ ap (λ (x : Context). is_eligible x) h.context
+    let h = at_context c.self.inside c.args.self.now c.args.context c.index.result c.index-asked.result.now c.self.view_is c.self.invariant (omega (arith, c.index.ensures)) c.index.ensures.value c.index-asked.ensures in
+    c.can_fetch.ensures.value ∙ eligible_is c.index-asked.result.now.context c.index-asked.result.now.renamed h.core.are_renamed h.core.are_fetched ∙ ap (λ (x : Context). is_eligible x) h.context

@@ -2,12 +2,13 @@ use Rattle.std.proofs.Common.{ℕ, ◌<◌, length, refl, sym, ap, subst, ◌∙
 use Rattle.std.specs.Prelude.{set, IsTrue}
 use Rattle.core_view.specs.declared.entry.Entry.{Entry}
 use Rattle.core_view.specs.View.{Context}
-use Rattle.core_view.specs.Events.{fetch_event}
+use Rattle.core_view.specs.Events.{fetch_event, fetched_entry}
 use Rattle.core_view.specs.Flight.{is_open, pc_past}
 use Rattle.core_view.specs.Operations.{operation_at}
-use Rattle.core_back.specs.Fetched.{IsFollowedBy}
+use Rattle.lawful_cycle.specs.Fetch.{IsFollowedBy, ends_block, is_eligible}
 use Rattle.core_back.specs.Track.{Track, pushed}
 use Rattle.core_back.specs.Machine.{Machine, context_at}
+use Rattle.core_back.proofs.Ahead.{eligible_is}
 use Rattle.core_back.proofs.Fetches.{entries_older, fetch_room, fetch_aligned, fetch_core}
 use Rattle.core_back.proofs.Turns.{alike_fetched}
 use Rattle.core_back.proofs.InFlight.{in_flight_fetched}
@@ -50,10 +51,19 @@ returns-clause-fetched g c =
       open_ = ap (λ (x : Context). is_open x.flight) (sym h.context) ∙ c.if-not-can_fetch.ensures.open refl;
       follows = subst (λ (x : Context). IsFollowedBy (g.G.Guess.may_answer c.args.guess.now c.args.context (pc_past x.state.pc x.flight)) (operation_at x.state.memory (pc_past x.state.pc x.flight)) (pc_past x.state.pc x.flight) c.next_entry-entry.result.0.followed) h.context c.next_entry-entry.ensures.entry.follows;
       stamp_is = ap (λ (v : Machine). v.view.stamp) c.self.view_is;
+      eligible = sym (c.if-not-can_fetch.ensures.value ∙ eligible_is c.index_mut-track.result.now.context c.index_mut-track.result.now.renamed core.are_renamed core.are_fetched ∙ ap (λ (x : Context). is_eligible x) h.context);
+      ends = c.next_entry-entry.ensures.ends ∙ ap (λ (x : Entry). ends_block x) c.next_entry-entry.ensures.entry.entry
+          ∙ ap (λ (x : Context). ends_block (fetched_entry c.args.self.now.view.stamp c.args.self.now.view.cycle (pc_past x.state.pc x.flight) (operation_at x.state.memory (pc_past x.state.pc x.flight)) c.next_entry-entry.result.0.followed)) h.context;
       after = shown_fetched c.self.inside c.args.self.now c.args.context c.index.result c.push.new.self _ _ c.self.view_is c.index.ensures.value
           (ap (λ (u : Track). u.context) c.push.ensures ∙ ap (λ (x : Entry). (pushed c.index_mut-track.result.now x).context) c.next_entry-entry.ensures.entry.entry ∙ ap (λ (x : Context). fetch_event c.self.inside.stamp c.self.inside.cycle c.next_entry-entry.result.0.followed x) h.context
           ∙ ap (λ (v : Machine). fetch_event v.view.stamp v.view.cycle c.next_entry-entry.result.0.followed (context_at c.args.self.now c.args.context)) c.self.view_is) refl;
     }
+
+pub returns-then-not-can_fetch-clause-closed : goal.returns-then-not-can_fetch-clause-closed
+returns-then-not-can_fetch-clause-closed g c _ =
+    let h = at_context c.self.inside c.args.self.now c.args.context c.index.result c.index_mut-track.result.now c.self.view_is c.self.invariant (omega (arith, c.index.ensures)) c.index.ensures.value c.index_mut-track.ensures.value in
+    let core = idle_core c.self.inside c.args.self.now c.args.context c.index_mut-track.result.now c.self.view_is c.requires.idle h in
+    sym (c.if-not-can_fetch.ensures.value ∙ eligible_is c.index_mut-track.result.now.context c.index_mut-track.result.now.renamed core.are_renamed core.are_fetched ∙ ap (λ (x : Context). is_eligible x) h.context)
 
 pub returns-clause-alike : goal.returns-clause-alike
 returns-clause-alike g c =
