@@ -1,5 +1,5 @@
 use Rattle.std.proofs.Common.{ℕ, ◌<◌, length, refl, sym, ap, subst, ◌∙◌, arith}
-use Rattle.std.specs.Prelude.{set, IsTrue}
+use Rattle.std.specs.Prelude.{set}
 use Rattle.core_view.specs.declared.entry.Entry.{Entry}
 use Rattle.core_view.specs.View.{Context}
 use Rattle.core_view.specs.Events.{fetch_event, fetched_entry}

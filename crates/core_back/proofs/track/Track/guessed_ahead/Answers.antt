@@ -1,6 +1,5 @@
-use Rattle.std.proofs.Common.{rules, Bool, true, false, cond, ◌≡◌, ◌+◌, ◌≤◌, length, take, drop, slice_get, Some, sym, ◌∙◌, arith}
-use Rattle.std.specs.Prelude.{◌&&◌, count_by}
-use Rattle.core_view.specs.declared.entry.Entry.{Entry}
+use Rattle.std.proofs.Common.{rules, true, false, ◌≡◌, ◌+◌, drop, slice_get, Some, sym, ◌∙◌, arith}
+use Rattle.std.specs.Prelude.{count_by}
 use Rattle.core_view.specs.Operations.{is_guessed}
 use Rattle.core_back.proofs.Ahead.{left_more, left_most}
 use Rattle.core_back.proofs.track.Track.guessed_ahead.Goals as goal

@@ -1,5 +1,5 @@
-use Rattle.std.proofs.Common.{◌≡◌, ◌+◌, take, drop}
-use Rattle.std.specs.Prelude.{◌&&◌, count_by}
+use Rattle.std.proofs.Common.{◌≡◌, ◌+◌, drop}
+use Rattle.std.specs.Prelude.{count_by}
 use Rattle.core_view.specs.Operations.{is_guessed}
 use Rattle.core_back.proofs.track.Track.guessed_ahead.Given as goal
 

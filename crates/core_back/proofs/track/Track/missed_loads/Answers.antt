@@ -1,6 +1,5 @@
-use Rattle.std.proofs.Common.{rules, Bool, true, false, cond, ◌≡◌, ◌+◌, ◌≤◌, length, take, drop, slice_get, Some, sym, ◌∙◌, arith}
+use Rattle.std.proofs.Common.{rules, true, false, ◌≡◌, ◌+◌, take, slice_get, Some, sym, ◌∙◌, arith}
 use Rattle.std.specs.Prelude.{◌&&◌, count_by}
-use Rattle.core_view.specs.declared.entry.Entry.{Entry}
 use Rattle.core_view.specs.Operations.{is_load}
 use Rattle.lawful_cycle.specs.Fetch.{is_missing}
 use Rattle.core_back.proofs.Ahead.{first_more}

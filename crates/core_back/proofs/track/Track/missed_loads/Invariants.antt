@@ -1,4 +1,4 @@
-use Rattle.std.proofs.Common.{◌≡◌, ◌+◌, take, drop}
+use Rattle.std.proofs.Common.{◌≡◌, take}
 use Rattle.std.specs.Prelude.{◌&&◌, count_by}
 use Rattle.core_view.specs.Operations.{is_load}
 use Rattle.lawful_cycle.specs.Fetch.{is_missing}
