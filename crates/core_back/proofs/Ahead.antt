@@ -18,14 +18,6 @@ use Rattle.lawful_cycle.specs.Fetch.{is_fetched, is_missing, is_running, is_elig
 use Rattle.core_back.specs.Cores.{AllFetched, front_room}
 use Rattle.core_back.proofs.Tracks.{within}
 
--- ---- whether a context runs
-
-pub running_is : (r : Bool) (s : Status) → (IsTrue r ↔ (s ≡ Running)) → r ≡ is_running s
-running_is true s h = sym (ap is_running (h.0 refl))
-running_is false Running h = h.1 refl
-running_is false Parked h = refl
-running_is false (Stopped why) h = refl
-
 -- ---- counts of a flight
 
 count_cons : (p : Entry → Bool) (e : Entry) (es : List Entry) (b : Bool) → p e ≡ b → count_by p (e ∷ es) ≡ cond b 1 0 + count_by p es
