@@ -8,19 +8,16 @@ use Rattle.std.proofs.lemmas.List.Folds.{list_any_at}
 use Rattle.std.proofs.lemmas.List.{length-set, length-take-le, map-set, set-get_or, get_or-map, get_or-take, take-take, drop-set-lt}
 use Rattle.hart_step.specs.State.{State}
 use Rattle.core_view.specs.declared.note.EntryId.{EntryId}
-use Rattle.core_view.specs.declared.operation.Operation.{Operation}
-use Rattle.core_view.specs.declared.operation.Operation.TheVariants as operation
 use Rattle.core_view.specs.declared.outcome.Outcome.{Outcome}
 use Rattle.core_view.specs.declared.entry.Execution.{Execution}
 use Rattle.core_view.specs.declared.entry.Stage.TheVariants.{Fetched, Queued, Issued}
 use Rattle.core_view.specs.declared.entry.Entry.{Entry}
-use Rattle.core_view.specs.Operations.{stops_at_fetch, first_source_of, second_source_of}
-use Rattle.core_view.specs.Outcomes.{Image, image_of, outcome_in}
-use Rattle.core_view.specs.Flight.{seen_of, source_value, IsOutcome, HasOutcome}
+use Rattle.core_view.specs.Operations.{first_source_of, second_source_of}
+use Rattle.core_view.specs.Outcomes.{image_of, outcome_in}
+use Rattle.core_view.specs.Flight.{source_value, IsOutcome}
 use Rattle.core_view.specs.Events.{with_stage}
 use Rattle.core_view.specs.Queues.{AllRenamed}
 use Rattle.core_view.specs.View.{entry_at, no_entry, seen_at as flight_seen_at}
-use Rattle.core_view.proofs.Sound.{sound_at}
 use Rattle.core_view.proofs.Live.{issue_live}
 use Rattle.data_flow.specs.Flow.{Flow, lane, no_node, waits_in, both, sources_at}
 use Rattle.core_back.specs.Queued.{queued_at}

@@ -1,4 +1,4 @@
-use Rattle.std.proofs.Common.{rules, ◌≡◌, ◌++◌, ◌∷◌, [], ◌+◌}
+use Rattle.std.proofs.Common.{rules, ◌≡◌, ◌++◌, ◌∷◌, []}
 use Rattle.core_back.proofs.Starts.{first_tracks_more}
 use Rattle.core_back.proofs.first.first_tracks.Goals as goal
 

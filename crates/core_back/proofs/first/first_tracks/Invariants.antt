@@ -1,4 +1,3 @@
-use Rattle.std.proofs.Common.{◌+◌}
 use Rattle.core_back.specs.First.{AreFirstTracks}
 use Rattle.core_back.proofs.first.first_tracks.Given as goal
 

@@ -1,4 +1,4 @@
-use Rattle.std.proofs.Common.{rules, arith, refl, sym, ap, subst, ◌≡◌, [], ◌+◌, List, get_or, slice_index, ◌∙◌, All, false}
+use Rattle.std.proofs.Common.{rules, arith, refl, sym, ap, subst, ◌≡◌, [], List, get_or, slice_index, ◌∙◌, All, false}
 use Rattle.std.specs.Prelude.{AllPairs}
 use Rattle.std.specs.Arc.{arc_value}
 use Rattle.join_law.specs.Eight.{place_of}
