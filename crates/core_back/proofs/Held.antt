@@ -1,4 +1,4 @@
--- Loads that are held in the issue queue while they wait for older stores.
+-- Loads that are held in the issue queue until they are clear.
 use Rattle.std.proofs.Common.{◌≡◌, ◌≢◌, ℕ, zero, suc, ◌+◌, ◌<◌, ◌≤◌, Bool, true, false, not, List, [], ◌∷◌, length, get_or, take, map, Option, Some, None, refl, sym, ap, ◌∙◌, arith, inl, inr}
 use Rattle.std.specs.Prelude.{◌==◌, set, if◌then◌else◌}
 use Rattle.std.specs.List.{list_any}
