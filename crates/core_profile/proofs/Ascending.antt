@@ -1,12 +1,11 @@
 -- Lists whose names come one after another in byte order.
-use Rattle.std.proofs.Common.{◌≡◌, ℕ, suc, ◌<◌, Bool, true, false, not, List, [], ◌∷◌, length, get_or, cond, Option, Some, None, option_map, Ordering, Less, Equal, refl, sym, subst, ◌∙◌, arith}
+use Rattle.std.proofs.Common.{◌≡◌, ℕ, suc, Bool, true, false, not, List, [], ◌∷◌, get_or, cond, Option, Some, None, option_map, Less, Equal, refl, sym, subst, ◌∙◌, arith}
 use Rattle.std.specs.Prelude.{All, AllPairs, Contains, find}
 use Rattle.std.specs.Cmp.{tied_itself}
 use Rattle.std.proofs.lemmas.Cmp.{nat_list_cmp_total}
 use Rattle.std.proofs.lemmas.List.Elements.{All-cons, All-contains}
 use Rattle.std.proofs.lemmas.List.Kept.{AllPairs-cons}
 use Rattle.core_profile.specs.declared.key.Key.{Key}
-use Rattle.core_profile.specs.declared.key.Key.TheVariants.{AluLatency}
 use Rattle.core_profile.specs.declared.fields.ProfileFields.{ProfileFields}
 use Rattle.core_profile.specs.Fields.{IsFirstOutside, first_outside, numbers}
 use Rattle.core_profile.specs.Tables.{AreInOrder, IsBefore, allows, keys, name_of, range_of}

@@ -4,7 +4,6 @@ use Rattle.std.proofs.lemmas.Cmp.{nat_list_cmp_total}
 use Rattle.std.proofs.lemmas.Map.Lookups.{exact_bytes}
 use Rattle.std.specs.Cmp.{tied_itself}
 use Rattle.std.specs.Cmp.Lexicographic.{slice_cmp}
-use Rattle.std.specs.List.{AllByRecursion}
 use Rattle.std.specs.List.Sorted.{IsStrictlySortedBy}
 use Rattle.std.specs.Map.{keys_of}
 use Rattle.std.specs.Ordering.{match_ordering}
@@ -16,6 +15,7 @@ use Rattle.core_profile.specs.declared.key.Key.{Key}
 use Rattle.core_profile.specs.declared.wrong.Wrong.{Wrong}
 use Rattle.core_profile.specs.Refusals.{Fault, unknown_key, wrong_at, IsFaultless, IsFirstFault, fault_of, key_fault, wrong_value}
 use Rattle.core_profile.specs.Tables.{IsBefore, key_named, range_of}
+use Rattle.core_profile.proofs.Laws.{AreAfter, not_there, not_earlier}
 
 -- a fault, or else a later one
 abbrev pub or_later : Option Fault → Option Fault → Option Fault
@@ -43,22 +43,6 @@ none_met (member l e ms) h name d g =
         let eq : e ≡ d = cc in
         subst (λ (n : List ℕ). fault_of n d ≡ None) (sym (exact_bytes name l q)) (subst (λ (x : Data). fault_of l x ≡ None) eq here)
     by Greater q here g more = more g
-
--- each key of the entries comes after a name
-abbrev AreAfter : List ℕ → List Entry → Type 0
-AreAfter name es = AllByRecursion (λ k. IsBefore name (string_bytes k)) (keys_of es)
-
-are_after : (name other : List ℕ) (es : List Entry) → IsBefore name other → AreAfter other es → AreAfter name es
-are_after name other [] less h = tt
-are_after name other (e ∷ es) less h = (nat_list_cmp_total.trans name other (string_bytes e.0) less h.0, are_after name other es less h.1)
-
-not_there : (name : List ℕ) (es : List Entry) → AreAfter name es → get_member name (members_view es) ≡ None
-not_there name [] h = refl
-not_there name (e ∷ es) h = rw h.0 (not_there name es h.1)
-
--- a name that comes before a key is no name of an entry at that key or later
-not_earlier : (name : List ℕ) (e : Entry) (es : List Entry) → AreAfter (string_bytes e.0) es → IsBefore name (string_bytes e.0) → get_member name (members_view (e ∷ es)) ≡ None
-not_earlier name e es later less = not_there name (e ∷ es) (less, are_after name (string_bytes e.0) es less later)
 
 at_once : (e : Entry) (es : List Entry) (f : Fault) → AreAfter (string_bytes e.0) es → fault_of (string_bytes e.0) (view e.1) ≡ Some f → IsFirstFault (members_view (e ∷ es)) f
 at_once e es f later q = record {

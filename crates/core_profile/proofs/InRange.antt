@@ -8,7 +8,6 @@ use Rattle.core_profile.specs.declared.key.Key.TheVariants.{AluLatency, BranchLa
 use Rattle.core_profile.specs.Fields.{as_natural, number_at, fields_at, first_outside}
 use Rattle.core_profile.specs.Refusals.{IsFaultless, key_fault, wrong_at, wrong_number, wrong_value}
 use Rattle.core_profile.specs.Tables.{Range, fetch_policy, issue_policy, one_two_four, from_to, key_named, name_of, range_of, allows, default_of}
-use Rattle.core_profile.specs.declared.wrong.Wrong.{Wrong}
 use Rattle.core_profile.specs.declared.wrong.Wrong.TheVariants.{Range as OutOfRange}
 
 -- a number may stand at the key

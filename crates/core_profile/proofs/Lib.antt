@@ -2,3 +2,4 @@ pub mod Allowed
 pub mod Ascending
 pub mod FirstFault
 pub mod InRange
+pub mod Laws

@@ -4,7 +4,6 @@ use Rattle.std.proofs.lemmas.Cmp.{nat_list_cmp_total}
 use Rattle.std.proofs.lemmas.Map.Lookups.{exact_bytes}
 use Rattle.std.specs.Cmp.{tied_itself}
 use Rattle.std.specs.Cmp.Lexicographic.{slice_cmp}
-use Rattle.std.specs.List.{AllByRecursion}
 use Rattle.std.specs.List.Sorted.{IsStrictlySortedBy}
 use Rattle.std.specs.Map.{keys_of}
 use Rattle.std.specs.Ordering.{match_ordering}
@@ -13,27 +12,11 @@ use Rattle.std.specs.String.{string_cmp}
 use Rattle.toml.proofs.Views.{Entry}
 use Rattle.toml.specs.Data.{Data, get_member}
 use Rattle.toml.specs.View.{view, members_view}
-use Rattle.core_profile.specs.Tables.{IsBefore}
+use Rattle.core_profile.proofs.Laws.{AreAfter, not_there, not_earlier}
 use Rattle.rv64_asm.specs.declared.fault.LineFault.{LineFault}
 use Rattle.rv64_asm.specs.declared.fault.AsmFault.TheVariants.{At}
 use Rattle.rv64_asm.specs.Assembled.{IsRefusal}
 use Rattle.lab_plan.specs.Programs.{AllAssemble, Assembles, IsFirstProgramFault, text_of}
-
--- each key of the entries comes after a name
-abbrev AreAfter : List ℕ → List Entry → Type 0
-AreAfter name es = AllByRecursion (λ k. IsBefore name (string_bytes k)) (keys_of es)
-
-are_after : (name other : List ℕ) (es : List Entry) → IsBefore name other → AreAfter other es → AreAfter name es
-are_after name other [] less h = tt
-are_after name other (e ∷ es) less h = (nat_list_cmp_total.trans name other (string_bytes e.0) less h.0, are_after name other es less h.1)
-
-not_there : (name : List ℕ) (es : List Entry) → AreAfter name es → get_member name (members_view es) ≡ None
-not_there name [] h = refl
-not_there name (e ∷ es) h = rw h.0 (not_there name es h.1)
-
--- a name that comes before a key is no name of an entry at that key or later
-not_earlier : (name : List ℕ) (e : Entry) (es : List Entry) → AreAfter (string_bytes e.0) es → IsBefore name (string_bytes e.0) → get_member name (members_view (e ∷ es)) ≡ None
-not_earlier name e es later less = not_there name (e ∷ es) (less, are_after name (string_bytes e.0) es less later)
 
 -- a value of the entries is the first one, or one of the others
 either : (P : Data → Type 0) (name : List ℕ) (e : Entry) (es : List Entry) (d : Data) → (o : Ordering) → P (view e.1) → (get_member name (members_view es) ≡ Some d → P d) → match_ordering o (get_member name (members_view es)) (Some (view e.1)) (get_member name (members_view es)) ≡ Some d → P d

@@ -1,4 +1,4 @@
-use Rattle.std.proofs.Common.{◌≡◌, ℕ, List, [], ◌∷◌, None, Some, sym, ap, ◌∙◌}
+use Rattle.std.proofs.Common.{◌≡◌, ℕ, List, [], ◌∷◌, Some, sym, ap, ◌∙◌}
 use Rattle.toml.proofs.Views.{Entry}
 use Rattle.toml.specs.View.{members_view, table_view}
 use Rattle.core_profile.specs.Refusals.{unknown_key, wrong_at}
