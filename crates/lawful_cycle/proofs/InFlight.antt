@@ -1,5 +1,5 @@
 -- How many entries are in flight before and after the parts that let some leave.
-use Rattle.std.proofs.Common.{◌≡◌, ℕ, ◌+◌, ◌-◌, ◌<◌, ◌≤◌, List, length, drop, refl, ap, arith}
+use Rattle.std.proofs.Common.{◌≡◌, ℕ, ◌+◌, ◌-◌, ◌≤◌, List, length, drop, refl, ap, arith}
 use Rattle.std.proofs.lemmas.List.{length-drop}
 use Rattle.core_view.specs.declared.entry.Entry.{Entry}
 use Rattle.core_view.specs.declared.note.EntryId.{EntryId}
@@ -10,23 +10,10 @@ use Rattle.lawful_cycle.specs.Views.{context_in, number_in}
 use Rattle.lawful_cycle.specs.Retire.{status_past, flight_if, RetiresBy, IsRetire}
 use Rattle.lawful_cycle.specs.Complete.{IsCompletedTo, IsComplete, in_flight}
 use Rattle.lawful_cycle.specs.Stamps.{flight_in}
-use Rattle.lawful_cycle.proofs.Turns.{all_of, length_by_context}
+use Rattle.lawful_cycle.proofs.Turns.{all_of, sums_le, length_by_context}
 
 in_flight_of : (v : View) → in_flight v ≡ all_of (λ c. length (flight_in v c))
 in_flight_of v = let is : in_flight v ≡ 0 + length (flight_in v 0) + length (flight_in v 1) + length (flight_in v 2) + length (flight_in v 3) + length (flight_in v 4) + length (flight_in v 5) + length (flight_in v 6) + length (flight_in v 7) = refl in omega (arith, is)
-
--- what holds of each of eight numbers holds of their sums
-sums_le : (f g h : ℕ → ℕ) → ((c : ℕ) → c < 8 → f c + g c ≤ h c) → all_of f + all_of g ≤ all_of h
-sums_le f g h le =
-    let l0 = le 0 (omega arith) in
-    let l1 = le 1 (omega arith) in
-    let l2 = le 2 (omega arith) in
-    let l3 = le 3 (omega arith) in
-    let l4 = le 4 (omega arith) in
-    let l5 = le 5 (omega arith) in
-    let l6 = le 6 (omega arith) in
-    let l7 = le 7 (omega arith) in
-    omega (arith, l0, l1, l2, l3, l4, l5, l6, l7)
 
 left_by : (n : ℕ) (es : List Entry) (s : Status) → n ≤ length es → length (flight_if s (drop n es)) + n ≤ length es
 left_by n es Running le = let count = length-drop n es in omega (arith, count, le)

@@ -1,5 +1,5 @@
 -- Lists of a note in which contexts come by turn: what names each context decides the list, and how long it is.
-use Rattle.std.proofs.Common.{◌≡◌, ◌≢◌, ℕ, zero, suc, ◌+◌, ◌<◌, ◌≤◌, Bool, true, false, List, [], ◌∷◌, length, map, refl, sym, ap, ◌∙◌, arith, inl, inr}
+use Rattle.std.proofs.Common.{◌≡◌, ◌≢◌, ℕ, zero, suc, ◌+◌, ◌<◌, ◌≤◌, Bool, true, false, List, [], ◌∷◌, length, map, refl, sym, ap, subst, ◌∙◌, arith, inl, inr}
 use Rattle.std.specs.Prelude.{◌==◌, filter, if◌then◌else◌, All}
 use Rattle.std.proofs.lemmas.Bool.{cases_lt, cases_eq}
 use Rattle.std.proofs.lemmas.Bool.Decides.{nat_tests}
@@ -136,8 +136,9 @@ length_by_context (n ∷ ids) h =
     let n7 = number_cons 7 n ids in
     omega (arith, ih, one, n0, n1, n2, n3, n4, n5, n6, n7)
 
-all_less : (f g : ℕ → ℕ) (c : ℕ) → ((d : ℕ) → d < 8 → f d ≤ g d) → c < 8 → f c < g c → all_of f < all_of g
-all_less f g c le lc less =
+-- what holds of each of eight numbers holds of their sums
+pub sums_le : (f g h : ℕ → ℕ) → ((c : ℕ) → c < 8 → f c + g c ≤ h c) → all_of f + all_of g ≤ all_of h
+sums_le f g h le =
     let l0 = le 0 (omega arith) in
     let l1 = le 1 (omega arith) in
     let l2 = le 2 (omega arith) in
@@ -146,18 +147,32 @@ all_less f g c le lc less =
     let l5 = le 5 (omega arith) in
     let l6 = le 6 (omega arith) in
     let l7 = le 7 (omega arith) in
-    by_case c lc less l0 l1 l2 l3 l4 l5 l6 l7
+    omega (arith, l0, l1, l2, l3, l4, l5, l6, l7)
+
+-- one at a context, and nothing elsewhere
+abbrev one_at : ℕ → ℕ → ℕ
+one_at c d = if d == c then 1 else 0
+
+one_of_eight : (c : ℕ) → c < 8 → all_of (one_at c) ≡ 1
+one_of_eight zero lc = refl
+one_of_eight (suc zero) lc = refl
+one_of_eight (suc (suc zero)) lc = refl
+one_of_eight (suc (suc (suc zero))) lc = refl
+one_of_eight (suc (suc (suc (suc zero)))) lc = refl
+one_of_eight (suc (suc (suc (suc (suc zero))))) lc = refl
+one_of_eight (suc (suc (suc (suc (suc (suc zero)))))) lc = refl
+one_of_eight (suc (suc (suc (suc (suc (suc (suc zero))))))) lc = refl
+one_of_eight (suc (suc (suc (suc (suc (suc (suc (suc c)))))))) lc = absurd (omega arith)
+
+all_less : (f g : ℕ → ℕ) (c : ℕ) → ((d : ℕ) → d < 8 → f d ≤ g d) → c < 8 → f c < g c → all_of f < all_of g
+all_less f g c le lc less =
+    let sums = sums_le f (one_at c) g (λ d ld. at d (le d ld) (d == c) refl) in
+    let one = one_of_eight c lc in
+    omega (arith, sums, one)
   where
-    by_case : (c : ℕ) → c < 8 → f c < g c → f 0 ≤ g 0 → f 1 ≤ g 1 → f 2 ≤ g 2 → f 3 ≤ g 3 → f 4 ≤ g 4 → f 5 ≤ g 5 → f 6 ≤ g 6 → f 7 ≤ g 7 → all_of f < all_of g
-    by_case zero lc less l0 l1 l2 l3 l4 l5 l6 l7 = omega arith
-    by_case (suc zero) lc less l0 l1 l2 l3 l4 l5 l6 l7 = omega arith
-    by_case (suc (suc zero)) lc less l0 l1 l2 l3 l4 l5 l6 l7 = omega arith
-    by_case (suc (suc (suc zero))) lc less l0 l1 l2 l3 l4 l5 l6 l7 = omega arith
-    by_case (suc (suc (suc (suc zero)))) lc less l0 l1 l2 l3 l4 l5 l6 l7 = omega arith
-    by_case (suc (suc (suc (suc (suc zero))))) lc less l0 l1 l2 l3 l4 l5 l6 l7 = omega arith
-    by_case (suc (suc (suc (suc (suc (suc zero)))))) lc less l0 l1 l2 l3 l4 l5 l6 l7 = omega arith
-    by_case (suc (suc (suc (suc (suc (suc (suc zero))))))) lc less l0 l1 l2 l3 l4 l5 l6 l7 = omega arith
-    by_case (suc (suc (suc (suc (suc (suc (suc (suc c)))))))) lc less l0 l1 l2 l3 l4 l5 l6 l7 = absurd (omega arith)
+    at : (d : ℕ) → f d ≤ g d → (b : Bool) → (d == c) ≡ b → f d + (if b then 1 else 0) ≤ g d
+    at d here true same = let is : d ≡ c = grind (arith, nat_tests, same) in let more = subst (λ (n : ℕ). f n < g n) (sym is) less in omega (arith, more)
+    at d here false other = omega (arith, here)
 
 -- of two lists of which the second names no context less often, and one more often, it is the longer one
 pub longer : (a b : List EntryId) (c : ℕ) → All (λ (n : EntryId). n.context < 8) a → All (λ (n : EntryId). n.context < 8) b → ((d : ℕ) → d < 8 → number_in d a ≤ number_in d b) → c < 8 → number_in c a < number_in c b → length a < length b
