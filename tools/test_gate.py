@@ -409,7 +409,7 @@ esac
 class WholeTest(unittest.TestCase):
     """The gate under a toolchain that isn't the one named: plain `rt ci`, on a copy that has the edits."""
 
-    def run_gate(self, says: str, status: int, program: int = 0) -> "subprocess.CompletedProcess[str]":
+    def run_gate(self, says: str, status: int, program: int = 0, docs: int = 0) -> "subprocess.CompletedProcess[str]":
         here = os.path.dirname(os.path.abspath(__file__))
         with tempfile.TemporaryDirectory() as room:
             os.makedirs(f"{room}/bin")
@@ -420,7 +420,8 @@ class WholeTest(unittest.TestCase):
             shutil.copytree(f"{here}/gate_lib", f"{room}/top/tools/gate_lib")
             for file, text in (("bin/rt", FAKE_RT), ("top/crates/low/says", says),
                                ("top/crates/low/status", str(status)),
-                               ("top/tools/try_program.py", f"raise SystemExit({program})\n")):
+                               ("top/tools/try_program.py", f"raise SystemExit({program})\n"),
+                               ("top/tools/try_docs.py", f"raise SystemExit({docs})\n")):
                 with open(f"{room}/{file}", "w", encoding="utf-8") as it:
                     it.write(text)
             os.chmod(f"{room}/bin/rt", 0o755)
@@ -430,7 +431,7 @@ class WholeTest(unittest.TestCase):
 
     def test_passed(self) -> None:
         ran = self.run_gate("3 passed, 0 failed\n", 0)
-        self.assertEqual((ran.returncode, ran.stdout.splitlines()[-1]), (0, "4 passed, 0 failed"))
+        self.assertEqual((ran.returncode, ran.stdout.splitlines()[-1]), (0, "5 passed, 0 failed"))
         self.assertIn("must-fail\n", ran.stdout)
         self.assertNotIn("out\n", ran.stdout)
         self.assertIn("another kit", ran.stderr)
@@ -443,7 +444,12 @@ class WholeTest(unittest.TestCase):
     def test_the_program_fails(self) -> None:
         ran = self.run_gate("3 passed, 0 failed\n", 0, program=1)
         self.assertEqual((ran.returncode, ran.stdout.splitlines()[-2:]),
-                         (1, ["FAILED: tools/try_program.py", "3 passed, 1 failed"]))
+                         (1, ["FAILED: tools/try_program.py", "4 passed, 1 failed"]))
+
+    def test_the_documents_fail(self) -> None:
+        ran = self.run_gate("3 passed, 0 failed\n", 0, docs=1)
+        self.assertEqual((ran.returncode, ran.stdout.splitlines()[-2:]),
+                         (1, ["FAILED: tools/try_docs.py", "4 passed, 1 failed"]))
 
     def test_failed_without_a_name(self) -> None:
         for says, status, last in (("3 passed, 0 failed\n", 1, "3 passed, 1 failed"),

@@ -1,0 +1,74 @@
+#!/usr/bin/env python3
+"""Tests of try_docs.py, over documents made here and a program that prints its words."""
+
+import io
+import os
+import sys
+import tempfile
+import unittest
+from contextlib import redirect_stdout
+from typing import Tuple
+
+sys.dont_write_bytecode = True
+sys.path.insert(0, os.path.dirname(os.path.abspath(__file__)))
+
+import try_docs  # noqa: E402 (found by the line above)
+
+PROGRAM = "#!/bin/sh\nfor word; do echo \"$word\"; done\n"
+
+
+def tried(document: str) -> Tuple[int, str]:
+    """The status and the output over a folder with one document."""
+    with tempfile.TemporaryDirectory() as folder:
+        program = os.path.join(folder, "program")
+        with open(program, "w", encoding="utf-8") as file:
+            file.write(PROGRAM)
+        os.chmod(program, 0o755)
+        with open(os.path.join(folder, "README.md"), "w", encoding="utf-8") as file:
+            file.write(document)
+        said = io.StringIO()
+        with redirect_stdout(said):
+            status = try_docs.main([program, folder])
+        return status, said.getvalue()
+
+
+def block(*lines: str) -> str:
+    """A document with one block."""
+    return "\n".join(("Text.", "```console") + lines + ("```", "More."))
+
+
+class Documents(unittest.TestCase):
+    """What passes and what fails."""
+
+    def test_a_command_that_prints_what_is_shown(self) -> None:
+        self.assertEqual(tried(block("$ ./smt-lab one two", "one", "two"))[0], 0)
+
+    def test_two_commands_of_a_block(self) -> None:
+        status, said = tried(block("$ ./smt-lab a", "a", "$ ./smt-lab b", "b"))
+        self.assertEqual((status, said), (0, "2 of 2 commands print what the documents show\n"))
+
+    def test_a_command_that_prints_something_else(self) -> None:
+        status, said = tried(block("$ ./smt-lab one", "two"))
+        self.assertEqual(status, 1)
+        self.assertTrue(said.startswith("README.md:3: ./smt-lab one: prints\n    one\n"), said)
+
+    def test_a_line_too_few_and_a_line_too_many(self) -> None:
+        self.assertEqual(tried(block("$ ./smt-lab one two", "one"))[0], 1)
+        self.assertEqual(tried(block("$ ./smt-lab one", "one", "two"))[0], 1)
+
+    def test_lines_left_out(self) -> None:
+        self.assertEqual(tried(block("$ ./smt-lab a b c d", "a", "..", "d"))[0], 0)
+        self.assertEqual(tried(block("$ ./smt-lab a b c d", "a", ".."))[0], 0)
+        self.assertEqual(tried(block("$ ./smt-lab a b c d", "b", ".."))[0], 1)
+        self.assertEqual(tried(block("$ ./smt-lab a b c d", "a", "..", "c"))[0], 1)
+
+    def test_another_command_is_not_run(self) -> None:
+        status, said = tried(block("$ touch file"))
+        self.assertEqual((status, said.splitlines()[0]), (1, "README.md:3: touch file: only ./smt-lab is tried"))
+
+    def test_no_command_at_all(self) -> None:
+        self.assertEqual(tried("Text.\n\n    $ ./smt-lab one\n")[0], 1)
+
+
+if __name__ == "__main__":
+    unittest.main()
