@@ -1,5 +1,5 @@
 -- An event of one context, in the machine.
-use Rattle.std.proofs.Common.{◌≡◌, ◌≢◌, ℕ, ◌+◌, ◌-◌, ◌<◌, List, [], length, get_or, map, refl, sym, ap, subst, ◌∙◌, arith, inl, inr, Bool, true, false}
+use Rattle.std.proofs.Common.{◌≡◌, ◌≢◌, ℕ, ◌+◌, ◌-◌, ◌<◌, ◌≤◌, List, [], length, get_or, map, refl, sym, ap, subst, ◌∙◌, arith, inl, inr, Bool, true, false}
 use Rattle.std.specs.Prelude.{set, ◌==◌}
 use Rattle.std.proofs.lemmas.Bool.{cases_eq}
 use Rattle.std.proofs.lemmas.Bool.Decides.{nat_tests}
@@ -179,3 +179,11 @@ module _ {A : Type 0} where
   all_live m now shows ok c lt =
       let t = get_or m.tracks.items c no_track in
       shown_live m now c t shows (at_context m now c c t shows ok lt refl (get_or_default m.tracks.items c no_track t (omega (arith, lt, ok.tracks))))
+
+  -- and has at most as many entries in flight as a reorder buffer and a front list may hold
+  pub all_few : (m : Inside A) (now : Machine) → machine_of m ≡ now → IsMachine m → (c : ℕ) → c < 8 → length (context_at now c).flight ≤ 80
+  all_few m now shows ok c lt =
+      let t = get_or m.tracks.items c no_track in
+      let at_c = at_context m now c c t shows ok lt refl (get_or_default m.tracks.items c no_track t (omega (arith, lt, ok.tracks))) in
+      let same : length t.context.flight ≡ length (context_at now c).flight = ap (λ (x : Context). length x.flight) at_c.context in
+      omega (arith, same, at_c.core.front, at_c.core.fits, m.profile.reorder_buffer_in_range.1)

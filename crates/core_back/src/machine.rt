@@ -116,6 +116,7 @@ impl<A: Allocator> Machine<A> {
         ensures value { result ≡ self.now.view.cycle }
         ensures live { (c : ℕ) → c < 8 → IsLive (start self.now.origin c) self.now.view.stamp (context_at self.now c) }
         ensures contexts { length self.now.view.contexts ≡ 8 }
+        ensures few { (c : ℕ) → c < 8 → length (context_at self.now c).flight ≤ 80 }
     {
         self.cycle
     }

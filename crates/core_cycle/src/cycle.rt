@@ -138,9 +138,12 @@ impl<G: Guess + Drop, P: Pick + Drop, O: Order + Drop, D: Delay + Drop, A: Alloc
             .cycle(&mut self.guess, &self.pick, &self.order, &mut self.delay)
     }
 
-    /// The number of the cycle that comes.
+    /// The number of the cycle that comes. Each context is live, and at most 80 of its entries are in flight.
     pub fn cycles(&self) -> u64
-        ensures { result ≡ (shown self.now).view.cycle }
+        ensures value { result ≡ (shown self.now).view.cycle }
+        ensures live { (c : ℕ) → c < 8 → IsLive (start (shown self.now).origin c) (shown self.now).view.stamp (context_at (shown self.now) c) }
+        ensures contexts { length (shown self.now).view.contexts ≡ 8 }
+        ensures few { (c : ℕ) → c < 8 → length (context_at (shown self.now) c).flight ≤ 80 }
     {
         self.contexts.machine().cycle()
     }
