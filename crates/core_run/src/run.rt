@@ -1,0 +1,94 @@
+//! A run of a core.
+
+ghost use Rattle.std.specs.Prelude.{◌≡◌, ◌↔◌, ◌+◌, ◌≤◌, ◌^◌, IsTrue};
+ghost use Rattle.lawful_cycle.specs.Runs.{SomeRuns};
+ghost use Rattle.core_cycle.specs.Shown.{shown};
+ghost use Rattle.core_run.specs.Told.{figures_of};
+ghost use Rattle.core_run.specs.Ended.{IsRunFrom, IsRunOf};
+
+use crate::figures::Figures;
+use branch_predict::Guess;
+use checkpoint::Mark;
+use core_cycle::Core;
+use data_tags::Delay;
+use fetch_policy::Pick;
+use issue_queue::Order;
+use join_law::{Ctx, Eight};
+use std::alloc::{Allocator, Global};
+
+/// How a run ended.
+#[derive(Clone, Copy, Debug, PartialEq, Eq)]
+pub enum Outcome {
+    /// No context runs: each has reached its target, or stopped.
+    Reached,
+    /// A context runs, and the limit of cycles is used up.
+    CycleLimit,
+}
+
+/// What a run leaves.
+#[derive(Drop)]
+pub struct Run<A: Allocator = Global> {
+    /// How it ended.
+    pub outcome: Outcome,
+    /// What it did.
+    pub figures: Figures,
+    /// Where its contexts are.
+    pub marks: Eight<Mark<A>>,
+}
+
+/// Runs a core until no context runs, at most so many cycles. It takes no memory.
+pub fn run_to<G: Guess + Drop, P: Pick + Drop, O: Order + Drop, D: Delay + Drop, A: Allocator>(
+    core: Core<G, P, O, D, A>,
+    limit: u64,
+) -> Run<A>
+    requires { (shown core).view.cycle + limit ≤ 2 ^ 56 }
+    ensures { IsRunOf (shown core) limit result.outcome (figures_of result.figures) result.marks }
+{
+    let mut core = core;
+    let (outcome, figures) = advance(&mut core, limit);
+    Run {
+        outcome,
+        figures,
+        marks: core.into_marks(),
+    }
+}
+
+/// Cycles until no context runs, at most so many. Answers how that ended, and what was done.
+fn advance<G: Guess + Drop, P: Pick + Drop, O: Order + Drop, D: Delay + Drop, A: Allocator>(
+    core: &mut Core<G, P, O, D, A>,
+    limit: u64,
+) -> (Outcome, Figures)
+    requires { (shown core.old).view.cycle + limit ≤ 2 ^ 56 }
+    ensures { IsRunFrom (shown core.old) (shown core.new) limit result.0 (figures_of result.1) }
+{
+    // `cycles` ensures that what is in flight can be counted.
+    let _first = core.cycles();
+    let mut figures = Figures::new();
+    for _cycle in 0..limit {
+        if !some_runs(core) {
+            return (Outcome::Reached, figures);
+        }
+        let note = core.cycle();
+        figures.add(&note);
+    }
+    if some_runs(core) {
+        (Outcome::CycleLimit, figures)
+    } else {
+        (Outcome::Reached, figures)
+    }
+}
+
+/// Whether a context runs.
+fn some_runs<G: Guess + Drop, P: Pick + Drop, O: Order + Drop, D: Delay + Drop, A: Allocator>(
+    core: &Core<G, P, O, D, A>,
+) -> bool
+    ensures { IsTrue result ↔ SomeRuns (shown core.now).view }
+{
+    for number in 0..8usize {
+        let context = Ctx::new(number).unwrap();
+        if core.state(context).is_running() {
+            return true;
+        }
+    }
+    false
+}
