@@ -8,8 +8,8 @@ use Rattle.rv64_decode.specs.Table.{instruction_of}
 use Rattle.rv64_decode.specs.declared.insn.Insn.{Insn}
 use Rattle.rv64_asm.specs.ProgramValue.{ProgramValue}
 use Rattle.rv64_asm.specs.Shown.{shown}
+use Rattle.report.specs.Blocks.{word_text}
 use Rattle.rv64_asm.specs.declared.fault.AsmFault.TheVariants as faults
-use Rattle.lab_commands.specs.Blocks.{word_text}
 use Rattle.lab_commands.specs.Programs.{IsProgramOf}
 use Rattle.lab_commands.specs.declared.run.refusal.Refusal.{Refusal}
 use Rattle.lab_commands.specs.declared.run.refusal.Refusal.TheVariants.{Assembly, OutOfMemory}

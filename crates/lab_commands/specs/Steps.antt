@@ -8,7 +8,7 @@ use Rattle.hart_step.specs.declared.environment.Environment.TheVariants.{One}
 use Rattle.hart_step.specs.declared.stop.Stop.{Stop}
 use Rattle.origin_set.specs.OriginValue.{OriginValue}
 use Rattle.origin_set.specs.Start.{start}
-use Rattle.lab_commands.specs.Blocks.{block_text}
+use Rattle.report.specs.Blocks.{block_text}
 use Rattle.lab_commands.specs.Programs.{IsProgramOf}
 
 -- the origin whose only program stands at context 0, in environment 1

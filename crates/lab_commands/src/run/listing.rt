@@ -9,8 +9,8 @@ ghost use Rattle.lab_commands.specs.Listing as spec;
 
 use super::program::program_of;
 use super::refusal::Refusal;
-use crate::context_block::word_text;
 use paged_memory::TEXT_START;
+use report::word_text;
 use rv64_asm::{Program, show};
 use rv64_decode::decode;
 use std::alloc::{AllocError, Allocator};

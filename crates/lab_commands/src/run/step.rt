@@ -9,11 +9,11 @@ ghost use Rattle.lab_commands.specs.Steps as spec;
 
 use super::program::program_of;
 use super::refusal::Refusal;
-use crate::context_block::context_block;
 use checkpoint::{Mark, MarkFault};
 use hart_step::Environment;
 use join_law::{Ctx, Join};
 use origin_set::Origin;
+use report::context_block;
 use rv64_asm::Program;
 use std::alloc::Allocator;
 use std::sync::Arc;
