@@ -18,18 +18,18 @@ use Rattle.core_back.proofs.Tracks.{within}
 
 -- ---- counts of a flight
 
-count_cons : (p : Entry → Bool) (e : Entry) (es : List Entry) (b : Bool) → p e ≡ b → count_by p (e ∷ es) ≡ cond b 1 0 + count_by p es
+pub count_cons : (p : Entry → Bool) (e : Entry) (es : List Entry) (b : Bool) → p e ≡ b → count_by p (e ∷ es) ≡ cond b 1 0 + count_by p es
 count_cons p e es b h = sum_by-cons (λ f. cond (p f) 1 0) e es ∙ ap (λ c. cond c 1 0 + count_by p es) h
 
-count_split : (p : Entry → Bool) (n : ℕ) (es : List Entry) → count_by p es ≡ count_by p (take n es) + count_by p (drop n es)
+pub count_split : (p : Entry → Bool) (n : ℕ) (es : List Entry) → count_by p es ≡ count_by p (take n es) + count_by p (drop n es)
 count_split p n es = ap (count_by p) (sym (take-append-drop n es)) ∙ sum_by-append (λ f. cond (p f) 1 0) (take n es) (drop n es)
 
 -- a test that no entry passes
-renamed_none : (p : Entry → Bool) (es : List Entry) → ((e : Entry) → is_renamed e.stage ≡ true → p e ≡ false) → AllRenamed es → count_by p es ≡ 0
+pub renamed_none : (p : Entry → Bool) (es : List Entry) → ((e : Entry) → is_renamed e.stage ≡ true → p e ≡ false) → AllRenamed es → count_by p es ≡ 0
 renamed_none p [] none a = refl
 renamed_none p (e ∷ es) none a = let one : count_by p (e ∷ es) ≡ 0 + count_by p es = count_cons p e es false (none e a.0) in omega (arith, one, renamed_none p es none a.1)
 
-fetched_none : (p : Entry → Bool) (es : List Entry) → ((e : Entry) → e.stage ≡ Fetched → p e ≡ false) → AllFetched es → count_by p es ≡ 0
+pub fetched_none : (p : Entry → Bool) (es : List Entry) → ((e : Entry) → e.stage ≡ Fetched → p e ≡ false) → AllFetched es → count_by p es ≡ 0
 fetched_none p [] none a = refl
 fetched_none p (e ∷ es) none a = let one : count_by p (e ∷ es) ≡ 0 + count_by p es = count_cons p e es false (none e a.0) in omega (arith, one, fetched_none p es none a.1)
 

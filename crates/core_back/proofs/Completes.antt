@@ -1,5 +1,5 @@
 -- An entry of a context completes, and cuts what it doesn't keep.
-use Rattle.std.proofs.Common.{◌≡◌, ℕ, zero, suc, ◌+◌, ◌<◌, ◌≤◌, Bool, true, false, ◌&&◌, min, List, [], ◌∷◌, length, get_or, take, drop, map, Option, Some, None, refl, sym, ap, subst, ◌∙◌, arith, inl, inr}
+use Rattle.std.proofs.Common.{◌≡◌, ℕ, zero, suc, ◌+◌, ◌<◌, ◌≤◌, Bool, true, false, min, List, [], ◌∷◌, length, get_or, take, drop, map, Option, Some, None, refl, sym, ap, subst, ◌∙◌, arith, inl, inr}
 use Rattle.std.specs.Prelude.{set, ◌==◌, nat_lt, if◌then◌else◌, filter}
 use Rattle.std.proofs.lemmas.Bool.{lt-ltb, le-ltb, ltb-true, ltb-false, cases_lt}
 use Rattle.std.proofs.lemmas.List.{length-map, length-set, length-take, length-take-le, get_or-map, get_or-take, get_or-set_other, set-get_or, map-set, drop_all, take_all, take-take, drop-set-lt}
@@ -15,13 +15,14 @@ use Rattle.core_view.specs.View.{entry_at, no_entry}
 use Rattle.core_view.specs.Events.{completed_entry, complete_in}
 use Rattle.core_view.proofs.RingForm.{complete_take}
 use Rattle.core_view.proofs.Live.{complete_live}
-use Rattle.data_flow.specs.Flow.{Node, Lane, Flow, no_node, node_at, lane, with_result, result_for, cut_from, cut_flow, waits_in}
+use Rattle.data_flow.specs.Flow.{Node, Lane, Flow, no_node, node_at, lane, with_result, result_for, cut_from, cut_flow}
 use Rattle.core_back.specs.Track.{Track, left_by, completed}
 use Rattle.lawful_cycle.specs.Issue.{is_queued}
-use Rattle.core_back.specs.Queued.{queued_at}
+use Rattle.core_back.specs.Queued.{waiting_of}
 use Rattle.core_back.specs.Steps.{cut_if, finished_flow, completed_flow}
-use Rattle.core_back.specs.Cores.{operands_of, node_of_entry, AllFetched, IsCore}
-use Rattle.core_back.proofs.Waiting.{or_none, growing_at, growing_set, none_below, below-take, below-nodes, queued-below, queued-same, waits-cut}
+use Rattle.core_back.specs.Cores.{operands_of, node_of_entry, AllFetched, waiters_of, IsCore}
+use Rattle.core_back.proofs.Waiting.{growing_at, growing_set, none_below, below-take, below-nodes}
+use Rattle.core_back.proofs.Queue.{waiting-cut, waiters-same, waiters-below, none_selected}
 use Rattle.core_back.proofs.Others.{lane-with_same, lane-cut_same, sizes-finished_flow, IsFlightCore, core_from}
 use Rattle.core_back.proofs.Flights.{growing_take}
 use Rattle.core_back.proofs.Stages.{renamed_place, renamed_set, renamed_take, fetched_drop_take}
@@ -109,14 +110,12 @@ module _ (start : State) (stamp reorder : ℕ) (f : Flow) (c : ℕ) (t : Track) 
       let here = lane-with_same f c (with_result (lane f c) i value) within in
       (ap (λ (l : Lane). l.registers) here, ap (λ (l : Lane). l.room) here)
 
-  done_waits : (value : Option ℕ) (k : ℕ) → waits_in (finished_flow f c i value) c k ≡ waits_in f c k
-  done_waits None k = refl
-  done_waits (Some value) k = refl
+  done_waits : (value : Option ℕ) → waiting_of (finished_flow f c i value) c ≡ waiting_of f c
+  done_waits None = refl
+  done_waits (Some value) = refl
 
-  done_waiting : IsCore start stamp reorder f [] c t → i < length t.context.flight → (entry_at t.context i).stage ≡ Issued x → (k : ℕ) → waits_in done_flow c k ≡ queued_at k done_flight
-  done_waiting core lt stage k =
-      done_waits (result_in x.outcome) k ∙ sym (or_none (waits_in f c k)) ∙ core.waiting k
-      ∙ sym (queued-same k t.context.flight i (completed_entry (entry_at t.context i) x) lt refl (sym (ap is_queued stage)))
+  done_waiting : IsCore start stamp reorder f [] c t → (entry_at t.context i).stage ≡ Issued x → waiting_of done_flow c ≡ waiters_of [] c done_flight
+  done_waiting core stage = done_waits (result_in x.outcome) ∙ core.waiting ∙ sym (waiters-same [] c t.context.flight i (completed_entry (entry_at t.context i) x) refl (ap is_queued stage))
 
   -- ---- the cut
 
@@ -125,7 +124,7 @@ module _ (start : State) (stamp reorder : ℕ) (f : Flow) (c : ℕ) (t : Track) 
     nodes : (lane g c).nodes ≡ map node_of_entry (take t.renamed (take n done_flight))
     registers : (lane g c).registers ≡ (lane f c).registers
     room : (lane g c).room ≡ (lane f c).room
-    waits : (k : ℕ) → waits_in g c k ≡ queued_at k (take n done_flight)
+    waits : waiting_of g c ≡ waiters_of [] c (take n done_flight)
 
   -- nothing is cut
   whole : (n : ℕ) → length t.context.flight ≤ n → c < length f.lanes → IsCore start stamp reorder f [] c t → i < length t.context.flight → (entry_at t.context i).stage ≡ Issued x → IsCut done_flow n
@@ -136,7 +135,7 @@ module _ (start : State) (stamp reorder : ℕ) (f : Flow) (c : ℕ) (t : Track) 
         nodes = done_nodes within core lt stage ∙ ap (λ es. map node_of_entry (take t.renamed es)) all;
         registers = kept.0;
         room = kept.1;
-        waits = λ k. done_waiting core lt stage k ∙ ap (queued_at k) all;
+        waits = done_waiting core stage ∙ ap (waiters_of [] c) all;
       }
 
   -- the flight is cut at a place
@@ -155,8 +154,8 @@ module _ (start : State) (stamp reorder : ℕ) (f : Flow) (c : ℕ) (t : Track) 
             ∙ ap (map node_of_entry) (subst (λ z. filter (λ y. nat_lt y.stamp z) (take t.renamed done_flight) ≡ take t.renamed (take n done_flight)) first (below-take_front 0 t.renamed done_flight n grows there));
         registers = ap (λ (l : Lane). l.registers) here ∙ kept.0;
         room = ap (λ (l : Lane). l.room) here ∙ kept.1;
-        waits = λ k. waits-cut done_flow c s k ∙ ap (λ b. b && nat_lt k s) (done_waiting core lt stage k) ∙ sym (queued-below k s done_flight)
-            ∙ ap (queued_at k) (subst (λ z. filter (λ y. nat_lt y.stamp z) done_flight ≡ take n done_flight) first (below-take 0 done_flight n grows there));
+        waits = waiting-cut done_flow c s ∙ ap (filter (λ w. nat_lt w.stamp s)) (done_waiting core stage) ∙ waiters-below [] c s done_flight
+            ∙ ap (waiters_of [] c) (subst (λ z. filter (λ y. nat_lt y.stamp z) done_flight ≡ take n done_flight) first (below-take 0 done_flight n grows there));
       }
 
   is_cut : c < length f.lanes → IsCore start stamp reorder f [] c t → i < length t.context.flight → (entry_at t.context i).stage ≡ Issued x → IsCut (completed_flow f c i x t.context) (left_by t.context i x)
@@ -188,7 +187,8 @@ module _ (start : State) (stamp reorder : ℕ) (f : Flow) (c : ℕ) (t : Track) 
         front = omega (arith, len, core.front);
         are_renamed = subst AllRenamed (sym front) (renamed_take t.renamed n done_flight (renamed_set t.renamed t.context.flight i e refl core.are_renamed));
         are_fetched = fetched_left t.renamed n done_flight (subst AllFetched (sym (drop-set-lt t.renamed t.context.flight i e first)) core.are_fetched);
-        waiting = λ k. or_none (waits_in g c k) ∙ cut.waits k;
+        waiting = cut.waits;
+        selected = none_selected c (take n done_flight);
       }
 
   -- the entry at a place completes

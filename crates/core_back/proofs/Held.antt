@@ -1,7 +1,6 @@
 -- Loads that are held in the issue queue until they are clear.
 use Rattle.std.proofs.Common.{◌≡◌, ◌≢◌, ℕ, zero, suc, ◌+◌, ◌<◌, ◌≤◌, Bool, true, false, not, List, [], ◌∷◌, length, get_or, take, map, Option, Some, None, refl, sym, ap, ◌∙◌, arith, inl, inr}
 use Rattle.std.specs.Prelude.{◌==◌, set, if◌then◌else◌}
-use Rattle.std.specs.List.{list_any}
 use Rattle.std.proofs.lemmas.Bool.{and_parts, eqb-true, cases_lt}
 use Rattle.std.proofs.lemmas.List.Elements.{All-map}
 use Rattle.hart_step.specs.declared.effect.Effect.{Effect}
@@ -23,11 +22,13 @@ use Rattle.core_view.specs.Queues.{stores_of, sharing_in}
 use Rattle.core_view.specs.View.{Context, entry_at, no_entry}
 use Rattle.core_view.proofs.Accesses.{is_load_effect, effect_loads}
 use Rattle.core_view.proofs.Queues.{queue_sharing}
-use Rattle.data_flow.specs.Flow.{Flow, Waiter, lane, sources_at, waits_in, is_waiter, with_held}
+use Rattle.data_flow.specs.Flow.{Flow, Waiter, lane, sources_at, is_waiter, with_held}
 use Rattle.lawful_cycle.specs.Issue.{is_clear_on}
 use Rattle.core_back.specs.Issuable.{IsAnswered, may_issue_at, IsHeld, AreHeld, IsClear}
+use Rattle.core_back.specs.Queued.{unmarked}
 use Rattle.core_back.specs.Steps.{IsRemarked}
 use Rattle.core_back.specs.Track.{Track, issued}
+use Rattle.core_back.proofs.Queue.{unmarked-map}
 use Rattle.core_back.proofs.Remarks.{remark_none}
 use Rattle.core_back.proofs.Waiting.{same_place}
 
@@ -40,9 +41,12 @@ same_waiter c k d j flag w = by_test (is_waiter c k w)
     by_test true = refl
     by_test false = refl
 
-same_waiters : (c k d j : ℕ) (flag : Bool) (ws : List Waiter) → list_any (is_waiter d j) (map (with_held c k flag) ws) ≡ list_any (is_waiter d j) ws
-same_waiters c k d j flag [] = refl
-same_waiters c k d j flag (w ∷ ws) = rw (same_waiter c k d j flag w, same_waiters c k d j flag ws) refl
+same_unmarked : (c k : ℕ) (flag : Bool) (w : Waiter) → unmarked (with_held c k flag w) ≡ unmarked w
+same_unmarked c k flag w = by_test (is_waiter c k w)
+  where
+    by_test : (b : Bool) → unmarked (if b then record w { held = flag } else w) ≡ unmarked w
+    by_test true = refl
+    by_test false = refl
 
 -- an entry is held, or let go, and nothing else has changed
 pub held_remarked : (f g : Flow) (c k : ℕ) (flag : Bool) → g ≡ record f { waiters = map (with_held c k flag) f.waiters } → IsRemarked f g
@@ -50,13 +54,13 @@ held_remarked f g c k flag is =
     let marked : List Waiter = map (with_held c k flag) f.waiters in
     record {
       flow = is ∙ ap (λ (ws : List Waiter). let r : Flow = record f { waiters = ws } in r) (sym (ap (λ (q : Flow). q.waiters) is));
-      waits = λ d j. ap (λ (q : Flow). waits_in q d j) is ∙ same_waiters c k d j flag f.waiters;
+      waits = ap (λ (q : Flow). map unmarked q.waiters) is ∙ unmarked-map (with_held c k flag) (same_unmarked c k flag) f.waiters;
     }
 
 pub remarked_twice : (f g h : Flow) → IsRemarked f g → IsRemarked g h → IsRemarked f h
 remarked_twice f g h one two = record {
   flow = two.flow ∙ ap (λ (q : Flow). let r : Flow = record q { waiters = h.waiters } in r) one.flow;
-  waits = λ c k. two.waits c k ∙ one.waits c k;
+  waits = two.waits ∙ one.waits;
 }
 
 -- marks are none of a context's lane

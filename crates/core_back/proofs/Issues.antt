@@ -3,7 +3,7 @@ use Rattle.std.proofs.Common.{◌≡◌, ◌≢◌, ℕ, ◌<◌, ◌≤◌, Boo
 use Rattle.std.specs.Prelude.{◌==◌, set}
 use Rattle.std.specs.List.{list_any}
 use Rattle.std.proofs.Math.Seq.{take-set-lt}
-use Rattle.std.proofs.lemmas.Bool.{eqb-true, eq-eqb, ne_eqb, cases_lt}
+use Rattle.std.proofs.lemmas.Bool.{eq-eqb, ne_eqb, true≢false, cases_lt}
 use Rattle.std.proofs.lemmas.List.Folds.{list_any_at}
 use Rattle.std.proofs.lemmas.List.{length-set, length-take-le, map-set, set-get_or, get_or-map, get_or-take, take-take, drop-set-lt}
 use Rattle.hart_step.specs.State.{State}
@@ -19,7 +19,7 @@ use Rattle.core_view.specs.Events.{with_stage}
 use Rattle.core_view.specs.Queues.{AllRenamed}
 use Rattle.core_view.specs.View.{entry_at, no_entry, seen_at as flight_seen_at}
 use Rattle.core_view.proofs.Live.{issue_live}
-use Rattle.data_flow.specs.Flow.{Flow, lane, no_node, waits_in, both, sources_at}
+use Rattle.data_flow.specs.Flow.{Flow, lane, no_node, both, sources_at}
 use Rattle.core_back.specs.Queued.{queued_at}
 use Rattle.core_back.specs.Track.{Track, issued}
 use Rattle.core_back.specs.Issuable.{IsAnswered, may_issue_at}
@@ -27,7 +27,8 @@ use Rattle.core_back.specs.Cores.{node_of_entry, is_selected, IsCore}
 use Rattle.core_back.proofs.Flights.{renamed-set, renamed-take, fetched_after}
 use Rattle.core_back.proofs.Others.{other_core}
 use Rattle.core_back.proofs.Seen.{sources_are}
-use Rattle.core_back.proofs.Waiting.{eqb-flip, queued_place, same_place, queued-leaves}
+use Rattle.core_back.proofs.Waiting.{queued_place, same_place, queued-leaves}
+use Rattle.core_back.proofs.Queue.{waiters-issue, waiters-other}
 
 -- ---- what issue asks
 
@@ -79,17 +80,9 @@ pub record IsSelectedPlace (t : Track) (k i : ℕ) : Type 0 where
   pub stamp : (entry_at t.context i).stamp ≡ k
   pub stage : (entry_at t.context i).stage ≡ Queued
 
-or_right_true : (a b : Bool) → b ≡ true → (a || b) ≡ true
-or_right_true true b h = refl
-or_right_true false b h = h
-
--- what was selected is queued
-pub selected_queued : {start : State} {stamp reorder c : ℕ} {f : Flow} {names : List EntryId} {t : Track} → IsCore start stamp reorder f names c t → (k : ℕ) → is_selected names c k ≡ true → queued_at k t.context.flight ≡ true
-selected_queued {c = c} {f = f} {names = names} core k h = sym (core.waiting k) ∙ or_right_true (waits_in f c k) (is_selected names c k) h
-
 pub selected_place : {start : State} {stamp reorder c : ℕ} {f : Flow} {names : List EntryId} {t : Track} → IsCore start stamp reorder f names c t → (k : ℕ) → is_selected names c k ≡ true → (i : ℕ) × IsSelectedPlace t k i
 selected_place {t = t} core k h =
-    let p = queued_place k t.context.flight (selected_queued core k h) in
+    let p = queued_place k t.context.flight (core.selected k h) in
     let q = p.1 in
     (p.0, record { within = q.within; renamed = queued_renamed core p.0 q.within q.stage; stamp = q.stamp; stage = q.stage })
 
@@ -114,19 +107,11 @@ selected_at {t = t} core k i h lt is =
 issued_node : (e : Entry) (x : Execution) → e.stage ≡ Queued → node_of_entry (with_stage e (Issued x)) ≡ node_of_entry e
 issued_node e x stage = rw stage refl
 
-left_over : (u t w s : Bool) → t ≡ u → (u ≡ true → (w ≡ false) × (s ≡ false)) → (w || s) ≡ ((w || (t || s)) && not u)
-left_over true t w s same none = let n = none refl in rw (n.0, n.1, same) refl
-left_over false t w s same none = rw same (sym (kept (w || s)))
-  where
-    kept : (b : Bool) → (b && true) ≡ b
-    kept true = refl
-    kept false = refl
-
 pub issue_core : {start : State} {stamp reorder c k : ℕ} {f : Flow} {names : List EntryId} {t : Track} → IsCore start stamp reorder f (record { context = c; stamp = k } ∷ names) c t → (i : ℕ) (x : Execution) (a b : ℕ)
-    → is_selected names c k ≡ false → waits_in f c k ≡ false → i < length t.context.flight → (entry_at t.context i).stamp ≡ k → (entry_at t.context i).stage ≡ Queued → sources_at (lane f c) i ≡ Some (a, b)
+    → is_selected names c k ≡ false → i < length t.context.flight → (entry_at t.context i).stamp ≡ k → (entry_at t.context i).stage ≡ Queued → sources_at (lane f c) i ≡ Some (a, b)
     → may_issue_at t.context i a b ≡ true → x.outcome ≡ outcome_in (image_of t.context.state) (flight_seen_at t.context i).bytes (entry_at t.context i).operation (entry_at t.context i).pc a b
     → IsCore start stamp reorder f names c (issued t i x)
-issue_core {start = start} {stamp = stamp} {c = c} {k = k} {f = f} {names = names} {t = t} core i x a b other idle lt is stage sources may outcome =
+issue_core {start = start} {stamp = stamp} {c = c} {k = k} {f = f} {names = names} {t = t} core i x a b other lt is stage sources may outcome =
     let e = entry_at t.context i in
     let n = with_stage e (Issued x) in
     let below : i < t.renamed = queued_renamed core i lt stage in
@@ -142,7 +127,8 @@ issue_core {start = start} {stamp = stamp} {c = c} {k = k} {f = f} {names = name
       capacity = core.capacity;
       are_renamed = rw front (renamed-set (take t.renamed t.context.flight) i n refl core.are_renamed);
       are_fetched = rw (drop-set-lt t.renamed t.context.flight i n below) core.are_fetched;
-      waiting = waiting;
+      waiting = core.waiting ∙ sym (waiters-issue names c k 0 t.context.flight i n core.live.flight.growing lt is refl);
+      selected = selected;
     }
   where
     issued_nodes : i < t.renamed → map node_of_entry (set (take t.renamed t.context.flight) i (with_stage (entry_at t.context i) (Issued x))) ≡ map node_of_entry (take t.renamed t.context.flight)
@@ -153,16 +139,19 @@ issue_core {start = start} {stamp = stamp} {c = c} {k = k} {f = f} {names = name
         get_or-map node_of_entry es i no_entry no_node (omega (arith, length-take-le t.renamed t.context.flight core.within)) ∙ ap node_of_entry (get_or-take t.renamed t.context.flight i no_entry below) in
         map-set node_of_entry es i (with_stage e (Issued x)) ∙ ap (set (map node_of_entry es) i) (issued_node e x stage ∙ sym here) ∙ set-get_or (map node_of_entry es) i no_node
 
-    none : (j : ℕ) → (j == k) ≡ true → (waits_in f c j ≡ false) × (is_selected names c j ≡ false)
-    none j h = let same : j ≡ k = eqb-true j k h in rw same (idle, other)
+    apart : (j : ℕ) → is_selected names c j ≡ true → (j == k) ≡ false
+    apart j h = ne_eqb j k (λ same. absurd (true≢false (sym h ∙ ap (is_selected names c) same ∙ other)))
 
-    waiting : (j : ℕ) → (waits_in f c j || is_selected names c j) ≡ queued_at j (set t.context.flight i (with_stage (entry_at t.context i) (Issued x)))
-    waiting j =
-        let e = entry_at t.context i in
-        let leaves = queued-leaves j 0 t.context.flight i (with_stage e (Issued x)) core.live.flight.growing lt (rw stage refl) refl refl in
-        let before : (waits_in f c j || ((j == k) || is_selected names c j)) ≡ queued_at j t.context.flight =
-        ap (λ u. waits_in f c j || (u || is_selected names c j)) (eqb-flip j k) ∙ ap (λ u. waits_in f c j || ((u && (k == j)) || is_selected names c j)) (sym (eq-eqb c c refl)) ∙ core.waiting j in
-        left_over (j == k) (j == k) (waits_in f c j) (is_selected names c j) refl (none j) ∙ ap (λ q. q && not (j == k)) before ∙ ap (λ s. queued_at j t.context.flight && not (j == s)) (sym is) ∙ sym leaves
+    or_right_true : (a b : Bool) → b ≡ true → (a || b) ≡ true
+    or_right_true true b h = refl
+    or_right_true false b h = h
+
+    selected : (j : ℕ) → is_selected names c j ≡ true → queued_at j (set t.context.flight i (with_stage (entry_at t.context i) (Issued x))) ≡ true
+    selected j h =
+        let n = with_stage (entry_at t.context i) (Issued x) in
+        let named : is_selected (record { context = c; stamp = k } ∷ names) c j ≡ true = or_right_true ((c == c) && (k == j)) (is_selected names c j) h in
+        queued-leaves j 0 t.context.flight i n core.live.flight.growing lt (rw stage refl) refl refl
+        ∙ ap (λ b. b && not (j == (entry_at t.context i).stamp)) (core.selected j named) ∙ ap (λ s. not (j == s)) is ∙ ap not (apart j h)
 
 -- ---- the other contexts
 
@@ -173,4 +162,5 @@ selected_other names c k d j ne = let away : (c == d) ≡ false = ne_eqb c d (λ
 -- where an entry of another context issues
 pub issue_other : {start : State} {stamp reorder c k d : ℕ} {f : Flow} {names : List EntryId} {t : Track} → IsCore start stamp reorder f (record { context = c; stamp = k } ∷ names) d t → d ≢ c → IsCore start stamp reorder f names d t
 issue_other {start = start} {stamp = stamp} {reorder = reorder} {c = c} {k = k} {d = d} {f = f} {names = names} {t = t} core ne =
-    other_core start stamp stamp reorder f f (record { context = c; stamp = k } ∷ names) names d t core refl (λ j. ap (λ b. waits_in f d j || b) (sym (selected_other names c k d j ne))) (omega arith)
+    other_core start stamp stamp reorder f f (record { context = c; stamp = k } ∷ names) names d t core refl
+    (core.waiting ∙ waiters-other names c k d t.context.flight ne) (λ j h. core.selected j (selected_other names c k d j ne ∙ h)) (omega arith)

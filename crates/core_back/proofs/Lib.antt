@@ -20,6 +20,9 @@ pub mod Starts
 pub mod Tracks
 pub mod Turns
 pub mod Waiting
+pub mod Queue
+pub mod Counts
+pub mod Renamable
 pub mod Fronts
 pub mod RetireTurns
 pub mod Counted

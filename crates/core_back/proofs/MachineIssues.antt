@@ -1,6 +1,7 @@
 -- A selection, and the issue of the first entry that was selected, in the machine.
 use Rattle.std.proofs.Common.{◌≡◌, ◌≢◌, ℕ, zero, suc, ◌+◌, ◌<◌, ◌≤◌, Bool, true, false, List, [], ◌∷◌, length, get_or, drop, map, Option, Some, refl, sym, ap, subst, ◌∙◌, arith, inl, inr}
-use Rattle.std.specs.Prelude.{◌==◌, set, All, AllPairs, IfSome, is_some}
+use Rattle.std.specs.Prelude.{◌==◌, not, set, All, AllPairs, IfSome, is_some}
+use Rattle.std.proofs.lemmas.List.Elements.{All-filter}
 use Rattle.std.proofs.lemmas.Bool.{cases_lt, lt-ltb}
 use Rattle.std.proofs.lemmas.Bool.Decides.{nat_tests}
 use Rattle.std.specs.Arc.{arc_value}
@@ -29,7 +30,8 @@ use Rattle.core_back.proofs.Held.{remarked_twice, remarked_lane, held_kept, issu
 use Rattle.core_back.proofs.Issues.{core_sources, issue_core, issue_other}
 use Rattle.core_back.proofs.Machines.{At, at_context, idle_names, room_after}
 use Rattle.core_back.proofs.Remarks.{remark_none}
-use Rattle.core_back.proofs.Selections.{first_apart, rest_apart, ready_place, name_selected, remarked_core, select_core, select_apart, select_supplied, select_free, select_clear, select_idle}
+use Rattle.core_back.proofs.Queue.{eight-remarked}
+use Rattle.core_back.proofs.Selections.{first_apart, rest_apart, ready_place, name_selected, remarked_core, select_core, select_waiters, select_apart, select_supplied, select_free, select_clear, select_idle}
 use Rattle.core_back.proofs.Seen.{node_count}
 use Rattle.issue_queue.specs.Entry.{Entry as Waiting}
 use Rattle.issue_queue.specs.IsSelected.{IsSelected}
@@ -110,7 +112,7 @@ module _ {A : Type 0} where
       → IsCore (start (arc_value m.origins.c0) n.context) m.stamp m.profile.reorder_buffer m.flow rest n.context (issued t i x)
   issued_core m now n rest t h i x values sources lt is read some outcome =
       let place = ready_place h.core n.stamp i h.selected h.supplied lt is in
-      issue_core h.core i x values.0 values.1 h.other h.idle lt is place.stage (sym read ∙ some) (first_clear m now n rest t h i values sources lt is read some) outcome
+      issue_core h.core i x values.0 values.1 h.other lt is place.stage (sym read ∙ some) (first_clear m now n rest t h i values sources lt is read some) outcome
 
   -- after the entry of a name has issued, each context is a core
   issued_cores : (m : Inside A) (n : EntryId) (rest : List EntryId) (u : Track) → IsMachine m → m.selected.items ≡ n ∷ rest → n.context < 8
@@ -148,6 +150,7 @@ module _ {A : Type 0} where
         origins = rw origins ok.origins;
         tracks = rw tracks (length-set m.tracks.items n.context u ∙ ok.tracks);
         lanes = rw flow ok.lanes;
+        contexts = rw flow ok.contexts;
         apart = rw selected (rest_apart n rest (subst (AllPairs AreApart) names ok.apart));
         supplied = rw (selected, flow) (λ i d below. supplied (suc i) d (omega (arith, below)));
         clear = rw (selected, flow, tracks) (λ j d below. issued_clear_in m.flow m.tracks.items n.context t i x (get_or rest j d) h.shown.in_tracks h.shown.track stage (clear (suc j) d (omega (arith, below))));
@@ -275,6 +278,30 @@ module _ {A : Type 0} where
     ];
   }
 
+  -- the machine after marks of what waits have changed
+  pub machine_remarked : (m w : Inside A) (now : Machine) → machine_of m ≡ now → IsMachine m → now.names ≡ [] → IsRemarked m.flow w.flow
+      → w.origins ≡ m.origins → w.tracks ≡ m.tracks → w.selected ≡ m.selected → w.cycle ≡ m.cycle → w.stamp ≡ m.stamp → w.fetch_room ≡ m.fetch_room → w.profile ≡ m.profile → IsMachine w
+  machine_remarked m w now shows ok idle marks origins tracks selected cycle stamp room profile =
+      let none = idle_names m now shows idle in
+      record {
+        cores = rw (origins, tracks, stamp, profile, selected) (λ c lt. remarked_core (ok.cores c lt) marks);
+        origins = rw origins ok.origins;
+        tracks = rw tracks ok.tracks;
+        lanes = ap (λ (f : Flow). length f.lanes) marks.flow ∙ ok.lanes;
+        contexts = eight-remarked m.flow w.flow marks ok.contexts;
+        apart = rw (selected, none) (λ i j d lt over. absurd (omega (arith, over)));
+        supplied = rw (selected, none) (λ k d over. absurd (omega (arith, over)));
+        clear = rw (selected, none) (λ k d over. absurd (omega (arith, over)));
+        left = rw (selected, none) (λ k d over. absurd (omega (arith, over)));
+        stamps = rw (stamp, room, cycle) ok.stamps;
+        room = rw (profile, tracks) (record {
+          registers = ap (λ (f : Flow). f.extra) marks.flow ∙ ok.room.registers;
+          waiters = ap (λ (f : Flow). f.places) marks.flow ∙ ok.room.waiters;
+          loads = ok.room.loads;
+          stores = ok.room.stores;
+        });
+      }
+
   -- the machine after a selection among what isn't held
   pub selected_machine : (m h w : Inside A) (now : Machine) (n : ℕ) {key : Waiting → ℕ} {width : ℕ} {names : List EntryId} → machine_of m ≡ now → IsMachine m → now.names ≡ [] → IsHeldTo m h n → 8 ≤ n
       → w.flow ≡ record h.flow { waiters = w.flow.waiters } → IsSelected key width (queued h.flow) (queued w.flow) names
@@ -289,6 +316,7 @@ module _ {A : Type 0} where
         origins = rw origins_m ok.origins;
         tracks = rw tracks_m ok.tracks;
         lanes = ap (λ (f : Flow). length f.lanes) (same ∙ ap (λ (f : Flow). let r : Flow = record f { waiters = w.flow.waiters } in r) so_far.flow.flow) ∙ ok.lanes;
+        contexts = rw (select_waiters h.flow w.flow s) (All-filter (λ v. not (is_selected names v.context v.stamp)) (λ v. v.context < 8) h.flow.waiters (eight-remarked m.flow h.flow so_far.flow ok.contexts));
         apart = rw selected (select_apart s);
         supplied = rw selected (same_supplied h.flow w.flow names same (select_supplied h.flow s));
         clear = rw (selected, tracks_m) clear;

@@ -102,6 +102,7 @@ module _ {A : Type 0} where
         origins = rw origins ok.origins;
         tracks = rw tracks (length-set m.tracks.items c u ∙ ok.tracks);
         lanes = rw flow (sizes.lanes ∙ ok.lanes);
+        contexts = rw flow (sizes.contexts ok.contexts);
         apart = rw (names, none) (λ i j d lt over. absurd (omega (arith, over)));
         supplied = rw (names, none) (λ k d over. absurd (omega (arith, over)));
         clear = rw (names, none) (λ k d over. absurd (omega (arith, over)));
@@ -140,6 +141,7 @@ module _ {A : Type 0} where
         origins = rw origins ok.origins;
         tracks = rw tracks (length-set m.tracks.items c u ∙ ok.tracks);
         lanes = rw flow ok.lanes;
+        contexts = rw flow ok.contexts;
         apart = rw (names, none) (λ i j d lt over. absurd (omega (arith, over)));
         supplied = rw (names, none) (λ k d over. absurd (omega (arith, over)));
         clear = rw (names, none) (λ k d over. absurd (omega (arith, over)));
@@ -162,7 +164,7 @@ module _ {A : Type 0} where
               let other : d ≢ c = λ this. absurd (grind (arith, nat_tests, is, this)) in
               let before : IsCore (start (arc_value m.origins.c0) d) m.stamp m.profile.reorder_buffer m.flow [] d (get_or m.tracks.items d no_track) =
               subst (λ names. IsCore (start (arc_value m.origins.c0) d) m.stamp m.profile.reorder_buffer m.flow names d (get_or m.tracks.items d no_track)) (idle_names m now shows idle) (ok.cores d lt-d) in
-              rw (get_or-set_other m.tracks.items c d u no_track other) (left_core (start (arc_value m.origins.c0) d) m.stamp (m.stamp + 1) m.profile.reorder_buffer m.flow m.flow [] d (get_or m.tracks.items d no_track) before (record { lane = refl; waits = λ k. refl }) (omega arith))
+              rw (get_or-set_other m.tracks.items c d u no_track other) (left_core (start (arc_value m.origins.c0) d) m.stamp (m.stamp + 1) m.profile.reorder_buffer m.flow m.flow [] d (get_or m.tracks.items d no_track) before (record { lane = refl; waits = refl }) (omega arith))
 
   -- and what it shows
   pub shown_fetched : (m : Inside A) (now : Machine) (c k : ℕ) (u : Track) (x : Context) (room : ℕ) → machine_of m ≡ now → k ≡ c → u.context ≡ x → room ≡ m.fetch_room - 1

@@ -1,8 +1,8 @@
 -- The oldest fetched entry is renamed: what that asks, and what it leaves of a core.
-use Rattle.std.proofs.Common.{◌≡◌, ◌≢◌, ℕ, zero, suc, ◌+◌, ◌<◌, Bool, true, false, not, ◌&&◌, ◌||◌, List, [], ◌∷◌, ◌++◌, length, get_or, take, drop, map, Option, None, refl, sym, ap, subst, ◌∙◌, arith}
+use Rattle.std.proofs.Common.{◌≡◌, ◌≢◌, ℕ, zero, suc, ◌+◌, ◌<◌, Bool, true, false, not, ◌&&◌, List, [], ◌∷◌, ◌++◌, length, get_or, take, drop, map, Option, None, refl, sym, ap, subst, ◌∙◌, arith}
 use Rattle.std.specs.Prelude.{◌==◌, set, if◌then◌else◌, All}
-use Rattle.std.proofs.lemmas.Bool.{ne_eqb, eq-eqb, or_parts}
-use Rattle.std.proofs.lemmas.List.Elements.{All-map, All-from_get_or}
+use Rattle.std.proofs.lemmas.Bool.{or_parts}
+use Rattle.std.proofs.lemmas.List.Elements.{All-map, All-push, All-from_get_or}
 use Rattle.std.proofs.lemmas.List.{length-set, length-take-le, get_or-take, take_more_set, drop_more, drop-set-lt, map_push}
 use Rattle.hart_step.specs.State.{State}
 use Rattle.core_view.specs.declared.note.EntryId.{EntryId}
@@ -18,13 +18,14 @@ use Rattle.core_view.specs.View.{entry_at, no_entry}
 use Rattle.core_view.proofs.Live.{rename_live}
 use Rattle.data_flow.specs.Flow.{Node, Lane, Flow, Waiter, lane, with_lane, with_node, waits_in}
 use Rattle.lawful_cycle.specs.Issue.{is_queued}
-use Rattle.core_back.specs.Queued.{queued_at}
+use Rattle.core_back.specs.Queued.{queued_at, unmarked, waiting_of}
 use Rattle.core_back.specs.Track.{Track, renamed_one}
-use Rattle.core_back.specs.Cores.{operands_of, node_of_entry, is_selected, IsCore}
+use Rattle.core_back.specs.Cores.{operands_of, node_of_entry, is_selected, waiters_of, IsCore}
 use Rattle.core_back.specs.Steps.{renamed_flow}
 use Rattle.core_back.proofs.Flights.{renamed-push, fetched_after, fetched-rest}
 use Rattle.core_back.proofs.Others.{IsLeft, lane-with_same, lane-with_other, count-with_lane, with_lane_left, KeepsSizes, sizes-with_lane}
-use Rattle.core_back.proofs.Waiting.{eqb-flip, growing_at, queued_place, same_place, queued-same, queued-enters, waits-push}
+use Rattle.core_back.proofs.Waiting.{growing_at, queued_place, same_place}
+use Rattle.core_back.proofs.Queue.{core_waiting, waiters-same, waiters-enter, waiting-push, waiting-push_other, none_selected}
 
 -- ---- what is renamed
 
@@ -75,7 +76,7 @@ nodes_older {t = t} core some =
 pub not_queued : {start : State} {stamp reorder c : ℕ} {f : Flow} {names : List EntryId} {t : Track} → IsCore start stamp reorder f names c t → (i : ℕ) → i < length t.context.flight → is_queued (entry_at t.context i).stage ≡ false
     → (waits_in f c (entry_at t.context i).stamp ≡ false) × (is_selected names c (entry_at t.context i).stamp ≡ false)
 not_queued {c = c} {f = f} {names = names} {t = t} core i lt stage =
-    or_parts (waits_in f c (entry_at t.context i).stamp) (is_selected names c (entry_at t.context i).stamp) (core.waiting (entry_at t.context i).stamp ∙ none (queued_at (entry_at t.context i).stamp t.context.flight) refl)
+    or_parts (waits_in f c (entry_at t.context i).stamp) (is_selected names c (entry_at t.context i).stamp) (core_waiting core (entry_at t.context i).stamp ∙ none (queued_at (entry_at t.context i).stamp t.context.flight) refl)
   where
     none : (b : Bool) → queued_at (entry_at t.context i).stamp t.context.flight ≡ b → b ≡ false
     none true is =
@@ -93,10 +94,10 @@ first_idle {t = t} core some = (not_queued core t.renamed some (ap is_queued (fi
 -- ---- the core once it is renamed
 
 -- over a data flow that has it, and in which it waits where it is queued
-renamed_over : {start : State} {stamp reorder c : ℕ} {f : Flow} {names : List EntryId} {t : Track} → IsCore start stamp reorder f names c t → (cycle : ℕ) (g : Flow) → t.renamed < length t.context.flight → t.renamed < reorder
+renamed_over : {start : State} {stamp reorder c : ℕ} {f : Flow} {t : Track} → IsCore start stamp reorder f [] c t → (cycle : ℕ) (g : Flow) → t.renamed < length t.context.flight → t.renamed < reorder
     → lane g c ≡ with_node (lane f c) (operands_of (entry_at t.context t.renamed))
-    → ((k : ℕ) → (waits_in g c k || is_selected names c k) ≡ queued_at k (set t.context.flight t.renamed (with_stage (entry_at t.context t.renamed) (renamed_stage cycle (entry_at t.context t.renamed).operation))))
-    → IsCore start stamp reorder g names c (renamed_one cycle t)
+    → waiting_of g c ≡ waiters_of [] c (set t.context.flight t.renamed (with_stage (entry_at t.context t.renamed) (renamed_stage cycle (entry_at t.context t.renamed).operation)))
+    → IsCore start stamp reorder g [] c (renamed_one cycle t)
 renamed_over {start = start} {stamp = stamp} {c = c} {f = f} {t = t} core cycle g some free here waiting =
     let es = t.context.flight in
     let e = entry_at t.context t.renamed in
@@ -116,25 +117,13 @@ renamed_over {start = start} {stamp = stamp} {c = c} {f = f} {t = t} core cycle 
       are_renamed = rw front (renamed-push (take t.renamed es) n core.are_renamed (renamed_renamed cycle e.operation));
       are_fetched = rw rest (fetched-rest e (drop (t.renamed + 1) es) (drop t.renamed es) (drop_more es t.renamed no_entry some) core.are_fetched);
       waiting = waiting;
+      selected = none_selected c (set es t.renamed n);
     }
 
-or_false : (b : Bool) → (b || false) ≡ b
-or_false true = refl
-or_false false = refl
-
-one_waits : (w s q t u : Bool) → (w || s) ≡ q → t ≡ u → ((w || t) || s) ≡ (q || u)
-one_waits true s q t u h same = rw (sym h) refl
-one_waits false true q t u h same = rw (sym h) (or_true t)
-  where
-    or_true : (t : Bool) → (t || true) ≡ true
-    or_true true = refl
-    or_true false = refl
-one_waits false false q t u h same = rw (sym h) (or_false t ∙ same)
-
-pub rename_core : {start : State} {stamp reorder c : ℕ} {f : Flow} {names : List EntryId} {t : Track} → IsCore start stamp reorder f names c t → (cycle : ℕ) (speculative : Bool) → c < length f.lanes
+pub rename_core : {start : State} {stamp reorder c : ℕ} {f : Flow} {t : Track} → IsCore start stamp reorder f [] c t → (cycle : ℕ) (speculative : Bool) → c < length f.lanes
     → t.renamed < length t.context.flight → t.renamed < reorder
-    → IsCore start stamp reorder (renamed_flow f c (entry_at t.context t.renamed) speculative) names c (renamed_one cycle t)
-rename_core {start = start} {stamp = stamp} {reorder = reorder} {c = c} {f = f} {names = names} {t = t} core cycle speculative within some free = by_stop (stops_at_fetch e.operation) refl
+    → IsCore start stamp reorder (renamed_flow f c (entry_at t.context t.renamed) speculative) [] c (renamed_one cycle t)
+rename_core {start = start} {stamp = stamp} {reorder = reorder} {c = c} {f = f} {t = t} core cycle speculative within some free = by_stop (stops_at_fetch e.operation) refl
   where
     e : Entry
     e = entry_at t.context t.renamed
@@ -154,25 +143,16 @@ rename_core {start = start} {stamp = stamp} {reorder = reorder} {c = c} {f = f} 
     idle : is_queued e.stage ≡ false
     idle = ap is_queued (first_fetched core some)
 
-    by_stop : (b : Bool) → stops_at_fetch e.operation ≡ b → IsCore start stamp reorder (if b then g else record g { waiters = f.waiters ++ w ∷ [] }) names c (renamed_one cycle t)
+    by_stop : (b : Bool) → stops_at_fetch e.operation ≡ b → IsCore start stamp reorder (if b then g else record g { waiters = f.waiters ++ w ∷ [] }) [] c (renamed_one cycle t)
     by_stop true is =
         let done : is_queued n.stage ≡ is_queued e.stage = renamed_queued cycle e.operation ∙ ap not is ∙ sym idle in
-        renamed_over core cycle g some free here (λ k. core.waiting k ∙ sym (queued-same k t.context.flight t.renamed n some refl done))
+        renamed_over core cycle g some free here (core.waiting ∙ sym (waiters-same [] c t.context.flight t.renamed n (done ∙ idle) idle))
     by_stop false is =
         let queued : is_queued n.stage ≡ true = renamed_queued cycle e.operation ∙ ap not is in
-        renamed_over core cycle (record g { waiters = f.waiters ++ w ∷ [] }) some free here (λ k.
-        let named : ((c == c) && (e.stamp == k)) ≡ (k == e.stamp) = ap (λ b. b && (e.stamp == k)) (eq-eqb c c refl) ∙ eqb-flip e.stamp k in
-        ap (λ b. b || is_selected names c k) (waits-push f w c k)
-        ∙ one_waits (waits_in f c k) (is_selected names c k) (queued_at k t.context.flight) ((c == c) && (e.stamp == k)) (k == e.stamp) (core.waiting k) named
-        ∙ sym (queued-enters k t.context.flight t.renamed n some idle refl queued))
+        renamed_over core cycle (record g { waiters = f.waiters ++ w ∷ [] }) some free here
+        (waiting-push f w c refl ∙ ap (λ ws. ws ++ unmarked w ∷ []) core.waiting ∙ sym (waiters-enter [] c t.context.flight t.renamed n some core.are_fetched (ap (λ b. b && true) queued)))
 
 -- ---- the other contexts
-
--- what waits of a context is the same with one more of another
-pub waits-push_other : (f : Flow) (w : Waiter) (d k : ℕ) → d ≢ w.context → waits_in (record f { waiters = f.waiters ++ w ∷ [] }) d k ≡ waits_in f d k
-waits-push_other f w d k ne =
-    let away : (w.context == d) ≡ false = ne_eqb w.context d (λ same. ne (sym same)) in
-    waits-push f w d k ∙ ap (λ b. waits_in f d k || (b && (w.stamp == k))) away ∙ or_false (waits_in f d k)
 
 -- renaming in a context leaves the others
 pub renamed_flow_left : (f : Flow) (c d : ℕ) (e : Entry) (speculative : Bool) → d ≢ c → IsLeft f (renamed_flow f c e speculative) d
@@ -186,11 +166,11 @@ renamed_flow_left f c d e speculative ne = by_stop (stops_at_fetch e.operation)
 
     by_stop : (b : Bool) → IsLeft f (if b then g else record g { waiters = f.waiters ++ w ∷ [] }) d
     by_stop true = with_lane_left f c d (with_node (lane f c) (operands_of e)) ne
-    by_stop false = record { lane = lane-with_other f c d (with_node (lane f c) (operands_of e)) ne; waits = λ k. waits-push_other f w d k ne }
+    by_stop false = record { lane = lane-with_other f c d (with_node (lane f c) (operands_of e)) ne; waits = waiting-push_other f w d ne }
 
 -- and all sizes are what they were
-pub sizes-renamed_flow : (f : Flow) (c : ℕ) (e : Entry) (speculative : Bool) → KeepsSizes f (renamed_flow f c e speculative)
-sizes-renamed_flow f c e speculative = by_stop (stops_at_fetch e.operation)
+pub sizes-renamed_flow : (f : Flow) (c : ℕ) (e : Entry) (speculative : Bool) → c < 8 → KeepsSizes f (renamed_flow f c e speculative)
+sizes-renamed_flow f c e speculative lt = by_stop (stops_at_fetch e.operation)
   where
     g : Flow
     g = with_lane f c (with_node (lane f c) (operands_of e))
@@ -200,4 +180,4 @@ sizes-renamed_flow f c e speculative = by_stop (stops_at_fetch e.operation)
 
     by_stop : (b : Bool) → KeepsSizes f (if b then g else record g { waiters = f.waiters ++ w ∷ [] })
     by_stop true = sizes-with_lane f c (with_node (lane f c) (operands_of e))
-    by_stop false = record { lanes = count-with_lane f c (with_node (lane f c) (operands_of e)); extra = refl; places = refl }
+    by_stop false = record { lanes = count-with_lane f c (with_node (lane f c) (operands_of e)); extra = refl; places = refl; contexts = λ all. All-push (λ w. w.context < 8) f.waiters w all lt }

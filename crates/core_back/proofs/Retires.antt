@@ -23,11 +23,12 @@ use Rattle.core_view.proofs.Live.{retire_live, stop_live, flight_running, done_s
 use Rattle.data_flow.specs.Flow.{Node, Lane, Flow, no_node, node_at, lane, with_lane, without_oldest, cut_from, cut_flow, waits_in}
 use Rattle.core_back.specs.Track.{Track, is_last, retired, stopped}
 use Rattle.lawful_cycle.specs.Issue.{is_queued}
-use Rattle.core_back.specs.Queued.{queued_at}
+use Rattle.core_back.specs.Queued.{queued_at, waiting_of}
 use Rattle.core_back.specs.Steps.{retired_flow}
 use Rattle.core_back.specs.Machine.{done_outcome, first_done}
 use Rattle.core_back.specs.Cores.{node_of_entry, AllFetched, IsCore}
-use Rattle.core_back.proofs.Waiting.{or_none, queued-drop, queued_past, waits-cut}
+use Rattle.core_back.proofs.Waiting.{or_none, queued_past}
+use Rattle.core_back.proofs.Queue.{waiting-cut, none_before, none_selected, waiters-drop, core_waiting}
 use Rattle.core_back.proofs.Others.{lane-with_same, lane-cut_same, count-with_lane, IsFlightCore, core_from}
 use Rattle.core_back.proofs.Stages.{renamed_place, renamed_drop, nodes_drop}
 
@@ -50,7 +51,8 @@ cut_core reorder f c lt room =
       front = omega arith;
       are_renamed = tt;
       are_fetched = tt;
-      waiting = λ k. or_none (waits_in (cut_flow f c 0) c k) ∙ waits-cut f c 0 k ∙ and_right (waits_in f c k) (nat_lt k 0) (le-ltb k 0 (omega arith));
+      waiting = waiting-cut f c 0 ∙ none_before (waiting_of f c);
+      selected = none_selected c [];
     }
 
 -- ---- the oldest entry of a flight is done
@@ -113,7 +115,7 @@ module _ (start : State) (stamp reorder : ℕ) (f : Flow) (c : ℕ) (t : Track) 
   -- it does not wait for issue
   pub oldest_idle : IsCore start stamp reorder f [] c t → 0 < length t.context.flight → (entry_at t.context 0).stage ≡ Done x → waits_in f c (node_at (lane f c) 0).operands.stamp ≡ false
   oldest_idle core some stage =
-      ap (λ (n : Node). waits_in f c n.operands.stamp) (oldest_node core some stage) ∙ sym (or_none (waits_in f c (entry_at t.context 0).stamp)) ∙ core.waiting (entry_at t.context 0).stamp
+      ap (λ (n : Node). waits_in f c n.operands.stamp) (oldest_node core some stage) ∙ sym (or_none (waits_in f c (entry_at t.context 0).stamp)) ∙ core_waiting core (entry_at t.context 0).stamp
       ∙ by_list t.context.flight core.live.flight.growing (ap is_queued stage)
     where
       by_list : (es : List Entry) → IsGrowing 0 es → is_queued (get_or es 0 no_entry).stage ≡ false → queued_at (get_or es 0 no_entry).stamp es ≡ false
@@ -160,7 +162,8 @@ module _ (start : State) (stamp reorder : ℕ) (f : Flow) (c : ℕ) (t : Track) 
         front = omega (arith, len, first, core.front, core.within);
         are_renamed = renamed_drop (t.renamed - 1) t.context.flight (subst (λ n. AllRenamed (take n t.context.flight)) one core.are_renamed);
         are_fetched = rest_fetched (t.renamed - 1) t.context.flight (subst (λ n. AllFetched (drop n t.context.flight)) one core.are_fetched);
-        waiting = λ k. core.waiting k ∙ sym (queued-drop k t.context.flight (ap is_queued stage));
+        waiting = core.waiting ∙ sym (waiters-drop [] c t.context.flight (ap is_queued stage));
+        selected = none_selected c (drop 1 t.context.flight);
       }
     where
       rest_fetched : (n : ℕ) (es : List Entry) → AllFetched (drop (n + 1) es) → AllFetched (drop n (drop 1 es))

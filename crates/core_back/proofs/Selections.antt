@@ -15,18 +15,22 @@ use Rattle.core_view.specs.declared.entry.Stage.TheVariants.{Queued}
 use Rattle.core_view.specs.declared.entry.Entry.{Entry}
 use Rattle.core_view.specs.Flight.{known, IsGrowing}
 use Rattle.core_view.specs.View.{entry_at, no_entry}
+use Rattle.data_flow.specs.Wired.{waiter_of}
 use Rattle.data_flow.specs.Flow.{Waiter, Lane, Flow, lane, seen_past_node, seen_past_nodes, sources_of, sources_at, is_supplied, is_waiter, waits_in, waits_of, queued_waiter, queued}
+use Rattle.lawful_cycle.specs.Issue.{is_queued}
+use Rattle.core_back.specs.Queued.{unmarked, waiting_of, waiter_for}
 use Rattle.core_back.specs.Issuable.{may_issue_at, IsHeld, AreHeld, IsClear}
 use Rattle.core_back.specs.Shown.{AreApart, IsSuppliedIn}
 use Rattle.core_back.specs.Steps.{IsRemarked}
 use Rattle.core_back.specs.Track.{Track}
-use Rattle.core_back.specs.Cores.{operands_of, node_of_entry, is_selected, IsCore}
+use Rattle.core_back.specs.Cores.{operands_of, node_of_entry, is_selected, is_waiting, waiters_of, IsCore}
 use Rattle.core_back.proofs.Flights.{growing_take}
 use Rattle.core_back.proofs.Held.{remarked_lane}
 use Rattle.core_back.proofs.Issues.{selected_at}
 use Rattle.core_back.proofs.Others.{other_core}
 use Rattle.core_back.proofs.Seen.{node_count, operands_at}
 use Rattle.core_back.proofs.Waiting.{eqb-flip, growing_at}
+use Rattle.core_back.proofs.Queue.{core_waiting, waiting-remarked}
 
 -- ---- names
 
@@ -103,15 +107,56 @@ select_left {names = names} f g s c k =
 pub select_waited : {key : Waiting → ℕ} {width : ℕ} {names : List EntryId} (f g : Flow) → IsSelected key width (queued f) (queued g) names → (c k : ℕ) → is_selected names c k ≡ true → waits_in f c k ≡ true
 select_waited f g s c k h = sym (queue_waits f c k) ∙ chosen_named c k (queued f) s.chosen s.queued (subst (λ ns. is_selected ns c k ≡ true) s.names h)
 
-restored : (w s : Bool) → (s ≡ true → w ≡ true) → ((w && not s) || s) ≡ w
-restored true true h = refl
-restored true false h = refl
-restored false true h = sym (h refl)
-restored false false h = refl
+-- so the waiters are the others
+left_waiters : (names : List EntryId) (ls : List Lane) (ws : List Waiter) → map waiter_of (filter (λ e. not (is_among names e)) (map (queued_waiter ls) ws)) ≡ filter (λ w. not (is_selected names w.context w.stamp)) ws
+left_waiters names ls [] = refl
+left_waiters names ls (w ∷ ws) =
+    let named : is_named w.context w.stamp (queued_waiter ls w) ≡ true = rw (eq-eqb w.context w.context refl, eq-eqb w.stamp w.stamp refl) refl in
+    rw (among_names w.context w.stamp names (queued_waiter ls w) named) (go (not (is_selected names w.context w.stamp)) (left_waiters names ls ws))
+  where
+    go : (b : Bool) → map waiter_of (filter (λ e. not (is_among names e)) (map (queued_waiter ls) ws)) ≡ filter (λ v. not (is_selected names v.context v.stamp)) ws
+        → map waiter_of (cond b (queued_waiter ls w ∷ filter (λ e. not (is_among names e)) (map (queued_waiter ls) ws)) (filter (λ e. not (is_among names e)) (map (queued_waiter ls) ws)))
+        ≡ cond b (w ∷ filter (λ v. not (is_selected names v.context v.stamp)) ws) (filter (λ v. not (is_selected names v.context v.stamp)) ws)
+    go true ih = ap (λ vs. w ∷ vs) ih
+    go false ih = ih
 
--- so what waits or was selected is what waited
-pub select_waits : {key : Waiting → ℕ} {width : ℕ} {names : List EntryId} (f g : Flow) → IsSelected key width (queued f) (queued g) names → (c k : ℕ) → (waits_in g c k || is_selected names c k) ≡ waits_in f c k
-select_waits {names = names} f g s c k = ap (λ w. w || is_selected names c k) (select_left f g s c k) ∙ restored (waits_in f c k) (is_selected names c k) (select_waited f g s c k)
+all_waiters : (ls : List Lane) (ws : List Waiter) → map waiter_of (map (queued_waiter ls) ws) ≡ ws
+all_waiters ls [] = refl
+all_waiters ls (w ∷ ws) = ap (λ vs. w ∷ vs) (all_waiters ls ws)
+
+pub select_waiters : {key : Waiting → ℕ} {width : ℕ} {names : List EntryId} (f g : Flow) → IsSelected key width (queued f) (queued g) names → g.waiters ≡ filter (λ w. not (is_selected names w.context w.stamp)) f.waiters
+select_waiters {names = names} f g s = sym (all_waiters g.lanes g.waiters) ∙ ap (map waiter_of) s.others ∙ left_waiters names f.lanes f.waiters
+
+left_of : (names : List EntryId) (c : ℕ) (ws : List Waiter) → map unmarked (filter (λ w. w.context == c) (filter (λ w. not (is_selected names w.context w.stamp)) ws)) ≡ filter (λ w. not (is_selected names c w.stamp)) (map unmarked (filter (λ w. w.context == c) ws))
+left_of names c [] = refl
+left_of names c (w ∷ ws) = go (w.context == c) (is_selected names w.context w.stamp) (is_selected names c w.stamp) refl refl (λ here. ap (λ d. is_selected names d w.stamp) (eqb-true w.context c here)) (left_of names c ws)
+  where
+    go : (a s u : Bool) → (w.context == c) ≡ a → is_selected names c w.stamp ≡ u → (a ≡ true → s ≡ u)
+        → map unmarked (filter (λ v. v.context == c) (filter (λ v. not (is_selected names v.context v.stamp)) ws)) ≡ filter (λ v. not (is_selected names c v.stamp)) (map unmarked (filter (λ v. v.context == c) ws))
+        → map unmarked (filter (λ v. v.context == c) (cond (not s) (w ∷ filter (λ v. not (is_selected names v.context v.stamp)) ws) (filter (λ v. not (is_selected names v.context v.stamp)) ws)))
+        ≡ filter (λ v. not (is_selected names c v.stamp)) (map unmarked (cond a (w ∷ filter (λ v. v.context == c) ws) (filter (λ v. v.context == c) ws)))
+    go true true true here named same ih = rw named ih
+    go true false false here named same ih = rw (here, named, ih) refl
+    go true true false here named same ih = absurd (true≢false (same refl))
+    go true false true here named same ih = absurd (true≢false (sym (same refl)))
+    go false true u here named same ih = ih
+    go false false u here named same ih = rw here ih
+
+still_waiting : (names : List EntryId) (c : ℕ) (es : List Entry) → filter (λ w. not (is_selected names c w.stamp)) (waiters_of [] c es) ≡ waiters_of names c es
+still_waiting names c [] = refl
+still_waiting names c (e ∷ es) = go (is_queued e.stage) (is_selected names c e.stamp) refl (still_waiting names c es)
+  where
+    go : (q s : Bool) → is_selected names c e.stamp ≡ s → filter (λ w. not (is_selected names c w.stamp)) (waiters_of [] c es) ≡ waiters_of names c es
+        → filter (λ w. not (is_selected names c w.stamp)) (map (waiter_for c) (cond (q && true) (e ∷ filter (is_waiting [] c) es) (filter (is_waiting [] c) es)))
+        ≡ map (waiter_for c) (cond (q && not s) (e ∷ filter (is_waiting names c) es) (filter (is_waiting names c) es))
+    go true true is ih = rw is ih
+    go true false is ih = rw (is, ih) refl
+    go false s is ih = ih
+
+-- what waits of a context is what was queued and isn't selected
+select_waiting : {key : Waiting → ℕ} {width : ℕ} {names : List EntryId} (f g : Flow) (c : ℕ) (es : List Entry) → IsSelected key width (queued f) (queued g) names → waiting_of f c ≡ waiters_of [] c es → waiting_of g c ≡ waiters_of names c es
+select_waiting {names = names} f g c es s before =
+    ap (λ ws. map unmarked (filter (λ w. w.context == c) ws)) (select_waiters f g s) ∙ left_of names c f.waiters ∙ ap (filter (λ w. not (is_selected names c w.stamp))) before ∙ still_waiting names c es
 
 -- no name waits
 pub select_idle : {key : Waiting → ℕ} {width : ℕ} {names : List EntryId} (f g : Flow) → IsSelected key width (queued f) (queued g) names → All (λ n. waits_in g n.context n.stamp ≡ false) names
@@ -218,16 +263,13 @@ supplied_sources {c = c} {f = f} {t = t} core i lt h =
 -- marks of what waits are nothing of a core
 pub remarked_core : {start : State} {stamp reorder c : ℕ} {f g : Flow} {t : Track} {names : List EntryId} → IsCore start stamp reorder f names c t → IsRemarked f g → IsCore start stamp reorder g names c t
 remarked_core {start = start} {stamp = stamp} {reorder = reorder} {c = c} {f = f} {g = g} {t = t} {names = names} core marks =
-    other_core start stamp stamp reorder f g names names c t core (remarked_lane f g c marks) (λ k. ap (λ w. w || is_selected names c k) (marks.waits c k)) (omega arith)
+    other_core start stamp stamp reorder f g names names c t core (remarked_lane f g c marks) (waiting-remarked f g c marks ∙ core.waiting) core.selected (omega arith)
 
 pub select_core : {start : State} {stamp reorder c : ℕ} {f g : Flow} {t : Track} {key : Waiting → ℕ} {width : ℕ} {names : List EntryId} → IsCore start stamp reorder f [] c t → g ≡ record f { waiters = g.waiters } → IsSelected key width (queued f) (queued g) names
     → IsCore start stamp reorder g names c t
 select_core {start = start} {stamp = stamp} {reorder = reorder} {c = c} {f = f} {g = g} {t = t} {names = names} core same s =
-    other_core start stamp stamp reorder f g [] names c t core (ap (λ (h : Flow). lane h c) same) (λ k. select_waits f g s c k ∙ sym (or_none (waits_in f c k))) (omega arith)
-  where
-    or_none : (b : Bool) → (b || false) ≡ b
-    or_none true = refl
-    or_none false = refl
+    other_core start stamp stamp reorder f g [] names c t core (ap (λ (h : Flow). lane h c) same) (select_waiting f g c t.context.flight s core.waiting)
+    (λ k h. sym (core_waiting core k) ∙ ap (λ b. b || false) (select_waited f g s c k h)) (omega arith)
 
 -- ---- the first name
 

@@ -3,6 +3,7 @@ use Rattle.std.proofs.Common.{◌≡◌, ◌≢◌, ℕ, zero, suc, ◌+◌, ◌
 use Rattle.std.proofs.Math.ListN.{length-set}
 use Rattle.std.specs.Prelude.{set}
 use Rattle.std.proofs.lemmas.List.{get_or-replicate, set-set, set-get_or, ext_get_or, get_or-set_same, get_or-set_other, get_or_append_left}
+use Rattle.std.proofs.lemmas.Bool.{true≢false}
 use Rattle.hart_step.specs.State.{State}
 use Rattle.core_view.specs.declared.note.EntryId.{EntryId}
 use Rattle.hart_step.specs.Next.{after}
@@ -20,7 +21,7 @@ use Rattle.data_flow.specs.Flow.{Lane, Flow, no_lane, lane, with_lane, with_regi
 use Rattle.core_profile.specs.declared.profile.Profile.{Profile}
 use Rattle.core_back.specs.Track.{Track, first_track}
 use Rattle.core_back.specs.Machine.{no_track, no_context}
-use Rattle.core_back.specs.Cores.{IsCore, front_room}
+use Rattle.core_back.specs.Cores.{is_selected, IsCore, front_room}
 use Rattle.core_back.specs.First.{IsFirstContext, IsTarget, IsFirstTrack, AreFirstTracks, AreSet, IsLaneOf, AreFirstLanes}
 
 -- ---- the origins
@@ -189,7 +190,8 @@ first_core_at o c count target reorder load_places store_places s f names le rea
   capacity = refl;
   are_renamed = tt;
   are_fetched = tt;
-  waiting = λ k. rw (waiters, empty) refl;
+  waiting = rw waiters refl;
+  selected = λ k h. absurd (true≢false (sym h ∙ ap (λ ns. is_selected ns c k) empty));
 }
 
 -- the marks are of the origin of the first one

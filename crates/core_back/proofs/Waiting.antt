@@ -1,16 +1,14 @@
--- What waits for issue: the queued entries of a flight, and the waiters of the data flow.
-use Rattle.std.proofs.Common.{◌≡◌, ◌≢◌, ℕ, zero, suc, ◌+◌, ◌<◌, ◌≤◌, Bool, true, false, not, ◌&&◌, ◌||◌, cond, List, [], ◌∷◌, ◌++◌, length, get_or, take, drop, map, refl, sym, ap, ◌∙◌, arith}
+-- The queued entries of a flight, by stamp.
+use Rattle.std.proofs.Common.{◌≡◌, ℕ, zero, suc, ◌+◌, ◌<◌, ◌≤◌, Bool, true, false, not, ◌&&◌, ◌||◌, cond, List, [], ◌∷◌, length, get_or, take, map, refl, sym, ap, ◌∙◌, arith}
 use Rattle.std.specs.Prelude.{set, ◌==◌, nat_lt, filter}
-use Rattle.std.specs.List.{list_any}
-use Rattle.std.proofs.lemmas.Bool.{lt-ltb, le-ltb, eqb-true, ne_eqb, and_parts, true≢false}
+use Rattle.std.proofs.lemmas.Bool.{lt-ltb, le-ltb, eqb-true, ne_eqb, and_parts}
 use Rattle.std.proofs.lemmas.Bool.Decides.{nat_tests}
-use Rattle.std.proofs.lemmas.List.Folds.{list_any-append}
 use Rattle.core_view.specs.declared.entry.Stage.{Stage}
 use Rattle.core_view.specs.declared.entry.Stage.TheVariants.{Fetched, Queued, Issued, Done}
 use Rattle.core_view.specs.declared.entry.Entry.{Entry}
 use Rattle.core_view.specs.Flight.{IsGrowing}
 use Rattle.core_view.specs.View.{no_entry}
-use Rattle.data_flow.specs.Flow.{Node, Flow, Waiter, waits_in, is_waiter, is_waiter_from, cut_flow}
+use Rattle.data_flow.specs.Flow.{Node}
 use Rattle.lawful_cycle.specs.Issue.{is_queued}
 use Rattle.core_back.specs.Queued.{queued_at}
 use Rattle.core_back.specs.Cores.{node_of_entry}
@@ -24,22 +22,13 @@ pub or_none : (b : Bool) → (b || false) ≡ b
 or_none true = refl
 or_none false = refl
 
-and_none : (b : Bool) → (b && false) ≡ false
+pub and_none : (b : Bool) → (b && false) ≡ false
 and_none true = refl
 and_none false = refl
 
 and_all : (b : Bool) → (b && true) ≡ b
 and_all true = refl
 and_all false = refl
-
-or_swap : (a b c : Bool) → ((a || b) || c) ≡ (a || (b || c))
-or_swap true b c = refl
-or_swap false b c = refl
-
--- a test on a list, of which the first element may be kept
-any_cond : {X : Type 0} (p : X → Bool) (b : Bool) (x : X) (xs : List X) → list_any p (cond b (x ∷ xs) xs) ≡ cond b (p x || list_any p xs) (list_any p xs)
-any_cond p true x xs = refl
-any_cond p false x xs = refl
 
 -- ---- stamps that grow
 
@@ -63,39 +52,6 @@ queued_past k low (e ∷ es) g lt =
     let other : (e.stamp == k) ≡ false = ne_eqb e.stamp k (λ same. omega (arith, a, same)) in
     rw other (queued_past k (e.stamp + 1) es g.1 (omega (arith, a)))
 
--- the oldest entry goes, which isn't queued
-pub queued-drop : (k : ℕ) (es : List Entry) → is_queued (get_or es 0 no_entry).stage ≡ false → queued_at k (drop 1 es) ≡ queued_at k es
-queued-drop k [] h = refl
-queued-drop k (e ∷ es) h = rw (h, and_none (e.stamp == k)) refl
-
-below_at : (a q b r r' t : Bool) → (a ≡ true → t ≡ b) → r' ≡ (r && t) → cond b ((a && q) || r') r' ≡ (((a && q) || r) && t)
-below_at false q true r r' t h ih = ih
-below_at false q false r r' t h ih = ih
-below_at true true true r r' t h ih = sym (h refl)
-below_at true true false r r' t h ih = let none : t ≡ false = h refl in ih ∙ ap (λ u. r && u) none ∙ and_none r ∙ sym none
-below_at true false true r r' t h ih = ih
-below_at true false false r r' t h ih = ih
-
--- those below a stamp
-pub queued-below : (k s : ℕ) (es : List Entry) → queued_at k (filter (λ e. nat_lt e.stamp s) es) ≡ (queued_at k es && nat_lt k s)
-queued-below k s [] = refl
-queued-below k s (e ∷ es) =
-    any_cond (λ x. (x.stamp == k) && is_queued x.stage) (nat_lt e.stamp s) e (filter (λ x. nat_lt x.stamp s) es)
-    ∙ below_at (e.stamp == k) (is_queued e.stage) (nat_lt e.stamp s) (queued_at k es) (queued_at k (filter (λ x. nat_lt x.stamp s) es)) (nat_lt k s)
-    (λ same. ap (λ n. nat_lt n s) (sym (eqb-true e.stamp k same))) (queued-below k s es)
-
--- one more, which isn't queued
-pub queued-push : (k : ℕ) (es : List Entry) (e : Entry) → is_queued e.stage ≡ false → queued_at k (es ++ e ∷ []) ≡ queued_at k es
-queued-push k es e h =
-    list_any-append (λ x. (x.stamp == k) && is_queued x.stage) es (e ∷ [])
-    ∙ ap (λ b. queued_at k es || (((e.stamp == k) && b) || false)) h ∙ ap (λ b. queued_at k es || (b || false)) (and_none (e.stamp == k)) ∙ or_none (queued_at k es)
-
--- an entry goes on, and is queued as it was
-pub queued-same : (k : ℕ) (es : List Entry) (i : ℕ) (e : Entry) → i < length es → e.stamp ≡ (get_or es i no_entry).stamp → is_queued e.stage ≡ is_queued (get_or es i no_entry).stage → queued_at k (set es i e) ≡ queued_at k es
-queued-same k [] i e lt same stage = absurd (omega arith)
-queued-same k (x ∷ es) zero e lt same stage = rw (same, stage) refl
-queued-same k (x ∷ es) (suc i) e lt same stage = ap (λ b. ((x.stamp == k) && is_queued x.stage) || b) (queued-same k es i e (omega arith) same stage)
-
 leaves_here : (a t r : Bool) → t ≡ a → (a ≡ true → r ≡ false) → r ≡ (((a && true) || r) && not t)
 leaves_here true t r h none = rw h (none refl)
 leaves_here false t r h none = rw h (sym (and_all r))
@@ -116,23 +72,6 @@ queued-leaves k low (x ∷ es) (suc i) e g lt old same new =
     leaves_there ((x.stamp == k) && is_queued x.stage) (queued_at k es) (queued_at k (set es i e)) (k == (get_or es i no_entry).stamp)
     (λ is. ne_eqb k (get_or es i no_entry).stamp (λ eq. omega (arith, eq, eqb-true x.stamp k (and_parts (x.stamp == k) (is_queued x.stage) is).0, growing_at (x.stamp + 1) es i g.1 (omega arith))))
     (queued-leaves k (x.stamp + 1) es i e g.1 (omega arith) old same new)
-
-enters_here : (a t r : Bool) → t ≡ a → ((a && true) || r) ≡ (((a && false) || r) || t)
-enters_here true t r h = rw h (true_or r)
-  where
-    true_or : (r : Bool) → true ≡ (r || true)
-    true_or true = refl
-    true_or false = refl
-enters_here false t r h = rw h (sym (or_none r))
-
--- an entry is queued
-pub queued-enters : (k : ℕ) (es : List Entry) (i : ℕ) (e : Entry) → i < length es → is_queued (get_or es i no_entry).stage ≡ false → e.stamp ≡ (get_or es i no_entry).stamp → is_queued e.stage ≡ true
-    → queued_at k (set es i e) ≡ (queued_at k es || (k == (get_or es i no_entry).stamp))
-queued-enters k [] i e lt old same new = absurd (omega arith)
-queued-enters k (x ∷ es) zero e lt old same new = rw (old, new, same) (enters_here (x.stamp == k) (k == x.stamp) (queued_at k es) (eqb-flip k x.stamp))
-queued-enters k (x ∷ es) (suc i) e lt old same new =
-    ap (λ b. ((x.stamp == k) && is_queued x.stage) || b) (queued-enters k es i e (omega arith) old same new)
-    ∙ sym (or_swap ((x.stamp == k) && is_queued x.stage) (queued_at k es) (k == (get_or es i no_entry).stamp))
 
 -- ---- what stands before a place
 
@@ -165,55 +104,6 @@ below-nodes s (e ∷ es) = go (nat_lt e.stamp s) (below-nodes s es)
         ≡ map node_of_entry (cond b (e ∷ filter (λ e. nat_lt e.stamp s) es) (filter (λ e. nat_lt e.stamp s) es))
     go true ih = ap (λ ns. node_of_entry e ∷ ns) ih
     go false ih = ih
-
--- ---- the waiters
-
-pub waits-push : (f : Flow) (w : Waiter) (c k : ℕ) → waits_in (record f { waiters = f.waiters ++ w ∷ [] }) c k ≡ (waits_in f c k || is_waiter c k w)
-waits-push f w c k = list_any-append (is_waiter c k) f.waiters (w ∷ []) ∙ ap (λ b. waits_in f c k || b) (or_none (is_waiter c k w))
-
-cut_at : (p b r r' t : Bool) → (p ≡ true → b ≡ t) → r' ≡ (r && t) → cond b (p || r') r' ≡ ((p || r) && t)
-cut_at true true r r' t h ih = h refl
-cut_at true false r r' t h ih = let none : false ≡ t = h refl in ih ∙ ap (λ u. r && u) (sym none) ∙ and_none r ∙ none
-cut_at false true r r' t h ih = ih
-cut_at false false r r' t h ih = ih
-
-kept_waiter : (c k s : ℕ) (w : Waiter) → is_waiter c k w ≡ true → not (is_waiter_from c s w) ≡ nat_lt k s
-kept_waiter c k s w is =
-    let h = and_parts (w.context == c) (w.stamp == k) is in
-    let stamp : w.stamp ≡ k = eqb-true w.stamp k h.1 in
-    rw (h.0, stamp) (grind (arith, nat_tests))
-
-cut_waiters : (c k s : ℕ) (ws : List Waiter) → list_any (is_waiter c k) (filter (λ w. not (is_waiter_from c s w)) ws) ≡ (list_any (is_waiter c k) ws && nat_lt k s)
-cut_waiters c k s [] = refl
-cut_waiters c k s (w ∷ ws) =
-    any_cond (is_waiter c k) (not (is_waiter_from c s w)) w (filter (λ w. not (is_waiter_from c s w)) ws)
-    ∙ cut_at (is_waiter c k w) (not (is_waiter_from c s w)) (list_any (is_waiter c k) ws) (list_any (is_waiter c k) (filter (λ w. not (is_waiter_from c s w)) ws)) (nat_lt k s) (kept_waiter c k s w) (cut_waiters c k s ws)
-
--- those of a context from a stamp on are cut
-pub waits-cut : (f : Flow) (c s k : ℕ) → waits_in (cut_flow f c s) c k ≡ (waits_in f c k && nat_lt k s)
-waits-cut f c s k = cut_waiters c k s f.waiters
-
-other_at : (p b r r' : Bool) → (p ≡ true → b ≡ true) → r' ≡ r → cond b (p || r') r' ≡ (p || r)
-other_at true true r r' h ih = refl
-other_at true false r r' h ih = absurd (true≢false (sym (h refl)))
-other_at false true r r' h ih = ih
-other_at false false r r' h ih = ih
-
-other_waiter : (c d k s : ℕ) (w : Waiter) → d ≢ c → is_waiter d k w ≡ true → not (is_waiter_from c s w) ≡ true
-other_waiter c d k s w ne is =
-    let here : w.context ≡ d = eqb-true w.context d (and_parts (w.context == d) (w.stamp == k) is).0 in
-    let away : (w.context == c) ≡ false = ne_eqb w.context c (λ same. ne (sym here ∙ same)) in
-    rw away refl
-
-other_waiters : (c d k s : ℕ) (ws : List Waiter) → d ≢ c → list_any (is_waiter d k) (filter (λ w. not (is_waiter_from c s w)) ws) ≡ list_any (is_waiter d k) ws
-other_waiters c d k s [] ne = refl
-other_waiters c d k s (w ∷ ws) ne =
-    any_cond (is_waiter d k) (not (is_waiter_from c s w)) w (filter (λ w. not (is_waiter_from c s w)) ws)
-    ∙ other_at (is_waiter d k w) (not (is_waiter_from c s w)) (list_any (is_waiter d k) ws) (list_any (is_waiter d k) (filter (λ w. not (is_waiter_from c s w)) ws)) (other_waiter c d k s w ne) (other_waiters c d k s ws ne)
-
--- those of another context stay
-pub waits-cut_other : (f : Flow) (c d s k : ℕ) → d ≢ c → waits_in (cut_flow f c s) d k ≡ waits_in f d k
-waits-cut_other f c d s k ne = other_waiters c d k s f.waiters ne
 
 -- ---- the place of a queued entry
 

@@ -1,5 +1,5 @@
 -- How the parts of a core stand for its contexts.
-use Rattle.std.specs.Prelude.{◌≡◌, ℕ, ◌+◌, ◌≤◌, Bool, ◌&&◌, ◌||◌, ◌==◌, if◌then◌else◌, List, [], ◌∷◌, length, map, take, drop, None}
+use Rattle.std.specs.Prelude.{◌≡◌, ℕ, ◌+◌, ◌≤◌, Bool, true, not, ◌&&◌, ◌==◌, if◌then◌else◌, List, [], ◌∷◌, length, map, filter, take, drop, None}
 use Rattle.std.specs.List.{list_any}
 use Rattle.hart_step.specs.State.{State}
 use Rattle.core_view.specs.declared.entry.Stage.TheVariants.{Fetched}
@@ -10,9 +10,10 @@ use Rattle.core_view.specs.Queues.{AllRenamed}
 use Rattle.core_view.specs.View.{IsLive}
 use Rattle.core_view.specs.declared.note.EntryId.{EntryId}
 use Rattle.data_flow.specs.declared.operands.Operands.{Operands}
-use Rattle.data_flow.specs.Flow.{Node, Flow, lane, waits_in}
+use Rattle.data_flow.specs.Flow.{Node, Waiter, Flow, lane}
+use Rattle.lawful_cycle.specs.Issue.{is_queued}
 use Rattle.core_back.specs.Track.{Track}
-use Rattle.core_back.specs.Queued.{queued_at}
+use Rattle.core_back.specs.Queued.{queued_at, waiting_of, waiter_for}
 
 -- ---- entries in the data flow
 
@@ -35,13 +36,21 @@ AllFetched (e ∷ es) = (e.stage ≡ Fetched) × AllFetched es
 abbrev pub is_selected : List EntryId → ℕ → ℕ → Bool
 is_selected names c k = list_any (λ n. (n.context == c) && (n.stamp == k)) names
 
+-- an entry of a context is queued, and wasn't selected
+abbrev pub is_waiting : List EntryId → ℕ → Entry → Bool
+is_waiting names c e = is_queued e.stage && not (is_selected names c e.stamp)
+
+-- those of a flight, oldest first, as they wait
+abbrev pub waiters_of : List EntryId → ℕ → List Entry → List Waiter
+waiters_of names c es = map (waiter_for c) (filter (is_waiting names c) es)
+
 -- ---- one context
 
 -- so many entries are fetched ahead of renaming at most
 abbrev pub front_room : ℕ
 front_room = 16
 
--- a track and the data flow stand for a context that is live: the oldest entries are renamed, and the data flow has them; what waits there or was selected is what is queued
+-- a track and the data flow stand for a context that is live: the oldest entries are renamed, and the data flow has them; what waits there is what is queued and wasn't selected, in order
 pub record IsCore (start : State) (stamp reorder : ℕ) (f : Flow) (names : List EntryId) (c : ℕ) (t : Track) : Type 0 where
   pub live : IsLive start stamp t.context
   pub registers : (lane f c).registers ≡ t.context.state.registers
@@ -53,4 +62,5 @@ pub record IsCore (start : State) (stamp reorder : ℕ) (f : Flow) (names : List
   pub capacity : t.capacity ≡ reorder + front_room
   pub are_renamed : AllRenamed (take t.renamed t.context.flight)
   pub are_fetched : AllFetched (drop t.renamed t.context.flight)
-  pub waiting : (k : ℕ) → (waits_in f c k || is_selected names c k) ≡ queued_at k t.context.flight
+  pub waiting : waiting_of f c ≡ waiters_of names c t.context.flight
+  pub selected : (k : ℕ) → is_selected names c k ≡ true → queued_at k t.context.flight ≡ true

@@ -8,16 +8,18 @@ use Rattle.core_view.specs.Operations.{operation_at}
 use Rattle.core_view.specs.Flight.{pc_past, is_open}
 use Rattle.core_view.specs.View.{Context, entry_at}
 use Rattle.core_view.specs.Events.{rename_event, fetch_event, fetched_entry}
+use Rattle.lawful_cycle.specs.Rename.{CanRename}
 use Rattle.lawful_cycle.specs.Fetch.{IsFollowedBy, ends_block, is_eligible}
 use Rattle.core_back.specs.Machine.{Machine, context_at, with_context, with_fetched}
 use Rattle.core_back.specs.declared.fetching.Fetch.{Fetch}
 
--- the oldest fetched entry of a context was renamed
+-- the oldest fetched entry of a context, which could be, was renamed
 pub record IsRenamed (old new : Machine) (c stamp : ℕ) : Type 0 where
   pub place : ℕ
   pub within : place < length (context_at old c).flight
   pub stamp_is : (entry_at (context_at old c) place).stamp ≡ stamp
   pub fetched : (entry_at (context_at old c) place).stage ≡ Fetched
+  pub can : CanRename old.view c (entry_at (context_at old c) place)
   pub after : new ≡ with_context old c (rename_event old.view.cycle (context_at old c) place)
 
 -- what stands where a flight ends, as it is fetched

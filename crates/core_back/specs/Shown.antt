@@ -42,6 +42,7 @@ pub record IsMachine {A : Type 0} (m : Inside A) : Type 0 where
   pub origins : (c : ℕ) → c < 8 → arc_value (place_of m.origins c) ≡ arc_value m.origins.c0
   pub tracks : length m.tracks.items ≡ 8
   pub lanes : length m.flow.lanes ≡ 8
+  pub contexts : All (λ w. w.context < 8) m.flow.waiters
   pub apart : AllPairs AreApart m.selected.items
   pub supplied : All (IsSuppliedIn m.flow) m.selected.items
   pub clear : All (λ n. IsClear m.flow n.context (get_or m.tracks.items n.context no_track) n.stamp) m.selected.items

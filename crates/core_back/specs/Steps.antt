@@ -1,11 +1,12 @@
 -- What each event makes of the data flow.
-use Rattle.std.specs.Prelude.{◌≡◌, ℕ, Bool, false, ◌++◌, [], ◌∷◌, if◌then◌else◌, Option, Some, None}
+use Rattle.std.specs.Prelude.{◌≡◌, ℕ, Bool, false, ◌++◌, [], ◌∷◌, map, if◌then◌else◌, Option, Some, None}
 use Rattle.core_view.specs.declared.entry.Execution.{Execution}
 use Rattle.core_view.specs.Flight.{result_in}
 use Rattle.core_view.specs.declared.entry.Entry.{Entry}
 use Rattle.core_view.specs.Operations.{stops_at_fetch, is_guessed}
 use Rattle.core_view.specs.View.{Context}
-use Rattle.data_flow.specs.Flow.{Flow, lane, with_lane, without_oldest, with_result, with_node, cut_flow, waits_in}
+use Rattle.data_flow.specs.Flow.{Flow, lane, with_lane, without_oldest, with_result, with_node, cut_flow}
+use Rattle.core_back.specs.Queued.{unmarked}
 use Rattle.core_back.specs.Cores.{operands_of}
 use Rattle.core_back.specs.Track.{cut_stamp}
 
@@ -37,4 +38,4 @@ renamed_flow f c e speculative =
 -- only marks of what waits have changed
 pub record IsRemarked (old new : Flow) : Type 0 where
   pub flow : new ≡ record old { waiters = new.waiters }
-  pub waits : (c k : ℕ) → waits_in new c k ≡ waits_in old c k
+  pub waits : map unmarked new.waiters ≡ map unmarked old.waiters

@@ -1,6 +1,6 @@
 //! The events of a cycle, each on one context and the data flow.
 
-ghost use Rattle.std.specs.Prelude.{◌≡◌, ◌≢◌, ℕ, ◌+◌, ◌<◌, ◌≤◌, ◌==◌, ◌&&◌, length, drop, IsSome, IfSome, Some, All, Bool, true, false};
+ghost use Rattle.std.specs.Prelude.{◌≡◌, ◌≢◌, ◌↔◌, ℕ, ◌+◌, ◌<◌, ◌≤◌, ◌==◌, ◌&&◌, length, drop, IsSome, IsTrue, IfSome, Some, None, All, Bool, true, false};
 ghost use Rattle.core_view.specs.Outcomes.{image_of, IsSized};
 ghost use Rattle.data_flow.specs.Flow.{lane, node_at, sources_at, taken, waits_in, cut_flow};
 ghost use Rattle.core_view.specs.declared.entry.Stage.TheVariants.{Queued, Issued};
@@ -93,14 +93,15 @@ pub(crate) fn renamable<A: Allocator>(
     cycle: u64,
     profile: &Profile,
 ) -> Option<u64>
-    ensures { IfSome result (IsRenamable flow.now track.now profile.now.reorder_buffer) }
+    ensures can { IfSome result (IsRenamable flow.now track.now profile.now cycle) }
+    ensures none { result ≡ None → (stamp : ℕ) → ¬ (IsRenamable flow.now track.now profile.now cycle stamp) }
 {
     let place = track.renamed_count();
     let entry = track.entry(place)?;
     if place >= usize::from(profile.reorder_buffer) {
         return None;
     }
-    if cycle < entry.fetched.saturating_add(u64::from(profile.front_delay)) {
+    if !is_past_front(entry, cycle, profile) {
         return None;
     }
     let operation = entry.operation;
@@ -117,6 +118,16 @@ pub(crate) fn renamable<A: Allocator>(
         return None;
     }
     Some(entry.stamp)
+}
+
+/// Whether an entry was fetched as many cycles ago as the front delay says.
+fn is_past_front(entry: &Entry, cycle: u64, profile: &Profile) -> bool
+    ensures { IsTrue result ↔ (entry.now.fetched + profile.now.front_delay ≤ cycle) }
+{
+    match cycle.checked_sub(u64::from(profile.front_delay)) {
+        Some(latest) => entry.fetched <= latest,
+        None => false,
+    }
 }
 
 /// The oldest fetched entry is renamed in a cycle.

@@ -6,11 +6,14 @@ ghost use Rattle.core_view.specs.declared.entry.Stage.TheVariants.{Issued};
 ghost use Rattle.core_view.specs.Events.{retire_event, stop_event, complete_event};
 ghost use Rattle.core_view.specs.Operations.{is_guessed, is_load};
 ghost use Rattle.core_view.specs.View.{entry_at, IsLive};
-ghost use Rattle.lawful_cycle.specs.Fetch.{is_fetched, is_missing, is_eligible};
+ghost use Rattle.lawful_cycle.specs.Issue.{is_queued};
+ghost use Rattle.lawful_cycle.specs.Rename.{CanRename};
+ghost use Rattle.lawful_cycle.specs.Fetch.{is_fetched, is_missing, is_eligible, oldest_place};
 ghost use Rattle.origin_set.specs.Start.{start};
 ghost use Rattle.core_back.specs.Machine.{IsAlike, context_at, in_flight, with_context, with_cycle, first_done, due_in};
 ghost use Rattle.core_back.specs.Issued.{IsIssued};
 ghost use Rattle.core_back.specs.Fetched.{IsRenamed, IsFetched};
+ghost use Rattle.core_back.specs.Renamable.{CanRenameStamp};
 ghost use Rattle.core_back.specs.First.{IsFirst, IsTarget, AreMarksAt};
 ghost use Rattle.checkpoint.specs.Aligned.{IsAligned};
 ghost use Rattle.join_law.specs.Eight.{place_of};
@@ -260,6 +263,7 @@ impl<A: Allocator> Machine<A> {
 
     /// Tells the queue of a context's entries that are behind no guessed entry any more, after one has completed.
     pub fn settle_speculation(&mut self, context: Ctx)
+        requires { self.old.names ≡ [] }
         ensures { self.new ≡ self.old }
     {
         let track = &self.tracks[context.index()];
@@ -312,7 +316,11 @@ impl<A: Allocator> Machine<A> {
 
     /// The stamp of the oldest fetched entry of a context, if it can be renamed: it was fetched as many cycles ago as the
     /// front delay says, and each place that it needs is free.
-    pub fn renamable(&self, context: Ctx) -> Option<u64> {
+    pub fn renamable(&self, context: Ctx) -> Option<u64>
+        requires { self.now.names ≡ [] }
+        ensures can { IfSome result (CanRenameStamp self.now.view context) }
+        ensures none { result ≡ None → (e : Entry) → ¬ (CanRename self.now.view context e) }
+    {
         let track = &self.tracks[context.index()];
         events::renamable(&self.flow, track, self.cycle, &self.profile)
     }
@@ -321,6 +329,7 @@ impl<A: Allocator> Machine<A> {
     pub fn try_rename(&mut self, context: Ctx) -> Option<u64>
         requires { self.old.names ≡ [] }
         ensures none { result ≡ None → self.new ≡ self.old }
+        ensures cannot { result ≡ None → (e : Entry) → ¬ (CanRename self.old.view context e) }
         ensures renamed { IfSome result (IsRenamed self.old self.new context) }
         ensures flights { in_flight self.new ≡ in_flight self.old }
         ensures alike { IsAlike self.old self.new }
@@ -360,17 +369,28 @@ impl<A: Allocator> Machine<A> {
     }
 
     /// How many entries of a context wait for issue.
-    pub fn waiting_count(&self, context: Ctx) -> usize {
+    pub fn waiting_count(&self, context: Ctx) -> usize
+        requires { self.now.names ≡ [] }
+        ensures value { result ≡ count_by (λ e. is_queued e.stage) (context_at self.now context).flight }
+        ensures bound { result ≤ 80 }
+    {
         self.flow.waiting_count(context)
     }
 
     /// How many guessed entries of a context wait for issue.
-    pub fn waiting_guessed(&self, context: Ctx) -> usize {
+    pub fn waiting_guessed(&self, context: Ctx) -> usize
+        requires { self.now.names ≡ [] }
+        ensures value { result ≡ count_by (λ e. is_queued e.stage && is_guessed e.operation) (context_at self.now context).flight }
+        ensures bound { result ≤ 80 }
+    {
         self.flow.guessed_count(context)
     }
 
     /// How many entries that wait for issue are older than the oldest one of a context, if one of it waits.
-    pub fn oldest_place(&self, context: Ctx) -> Option<usize> {
+    pub fn oldest_place(&self, context: Ctx) -> Option<usize>
+        requires { self.now.names ≡ [] }
+        ensures { result ≡ oldest_place self.now.view (context_at self.now context) }
+    {
         self.flow.oldest_place(context)
     }
 

@@ -31,7 +31,9 @@ pub(crate) fn rename<A: Allocator>(machine: &mut Machine<A>, renamed: &mut Array
 }
 
 /// The context whose oldest fetched entry can be renamed and has the least stamp.
-fn oldest_renamable<A: Allocator>(machine: &Machine<A>) -> Option<Ctx> {
+fn oldest_renamable<A: Allocator>(machine: &Machine<A>) -> Option<Ctx>
+    requires { machine.now.names ≡ [] }
+{
     let mut least = u64::MAX;
     let mut oldest = None;
     for context in Ctx::all() {
