@@ -13,7 +13,7 @@ use Rattle.issue_queue.specs.Stamps.{stamps_of}
 use Rattle.data_flow.specs.Flow.{Flow, Lane, Waiter, queued_waiter, queued}
 use Rattle.lawful_cycle.specs.Views.{eight}
 use Rattle.lawful_cycle.specs.Issue.{is_queued}
-use Rattle.core_back.specs.Queued.{unmarked, waiting_of, waiter_for}
+use Rattle.core_back.specs.Queued.{unheld, waiting_of, waiter_for}
 use Rattle.core_back.specs.Cores.{is_waiting, waiters_of}
 
 -- ---- sums over the eight contexts
@@ -72,13 +72,13 @@ and_all true = refl
 and_all false = refl
 
 -- a test that sees no mark counts the same of what waits and of what is queued
-pub count_waiting : (q : Waiter → Bool) → ((w : Waiter) → q (unmarked w) ≡ q w) → (f : Flow) (c : ℕ) (es : List Entry) → waiting_of f c ≡ waiters_of [] c es
-    → count_by q (filter (λ w. w.context == c) f.waiters) ≡ count_by (λ e. is_queued e.stage && q (waiter_for c e)) es
+pub count_waiting : (q : Waiter → Bool) → ((w : Waiter) → q (unheld w) ≡ q w) → (f : Flow) (c : ℕ) (es : List Entry) → waiting_of f c ≡ waiters_of [] c es
+    → count_by q (filter (λ w. w.context == c) f.waiters) ≡ count_by (λ e. is_queued e.stage && q (waiter_for c es e)) es
 count_waiting q blind f c es tie =
-    count_same q (λ w. q (unmarked w)) (λ w. sym (blind w)) (filter (λ w. w.context == c) f.waiters)
-    ∙ sym (count_map q unmarked (filter (λ w. w.context == c) f.waiters)) ∙ ap (count_by q) tie
-    ∙ count_map q (waiter_for c) (filter (is_waiting [] c) es) ∙ sym (count_both (is_waiting [] c) (λ e. q (waiter_for c e)) es)
-    ∙ count_same (λ e. is_waiting [] c e && q (waiter_for c e)) (λ e. is_queued e.stage && q (waiter_for c e)) (λ e. ap (λ b. b && q (waiter_for c e)) (and_all (is_queued e.stage))) es
+    count_same q (λ w. q (unheld w)) (λ w. sym (blind w)) (filter (λ w. w.context == c) f.waiters)
+    ∙ sym (count_map q unheld (filter (λ w. w.context == c) f.waiters)) ∙ ap (count_by q) tie
+    ∙ count_map q (waiter_for c es) (filter (is_waiting [] c) es) ∙ sym (count_both (is_waiting [] c) (λ e. q (waiter_for c es e)) es)
+    ∙ count_same (λ e. is_waiting [] c e && q (waiter_for c es e)) (λ e. is_queued e.stage && q (waiter_for c es e)) (λ e. ap (λ b. b && q (waiter_for c es e)) (and_all (is_queued e.stage))) es
 
 pub waiting_number : (f : Flow) (c : ℕ) (es : List Entry) → waiting_of f c ≡ waiters_of [] c es → count_by (λ w. w.context == c) f.waiters ≡ count_by (λ e. is_queued e.stage) es
 waiting_number f c es tie =
@@ -122,37 +122,40 @@ count_waiters f flight all ties =
 
 -- ---- the oldest that waits of a context
 
-stamps_waiting : (ls : List Lane) (c : ℕ) (ws : List Waiter) → stamps_of c (map (queued_waiter ls) ws) ≡ map (λ w. w.stamp) (map unmarked (filter (λ w. w.context == c) ws))
+stamps_waiting : (ls : List Lane) (c : ℕ) (ws : List Waiter) → stamps_of c (map (queued_waiter ls) ws) ≡ map (λ w. w.stamp) (map unheld (filter (λ w. w.context == c) ws))
 stamps_waiting ls c [] = refl
 stamps_waiting ls c (w ∷ ws) = go (w.context == c) (stamps_waiting ls c ws)
   where
-    go : (b : Bool) → stamps_of c (map (queued_waiter ls) ws) ≡ map (λ v. v.stamp) (map unmarked (filter (λ v. v.context == c) ws))
+    go : (b : Bool) → stamps_of c (map (queued_waiter ls) ws) ≡ map (λ v. v.stamp) (map unheld (filter (λ v. v.context == c) ws))
         → map (λ e. e.stamp) (cond b (queued_waiter ls w ∷ filter (λ e. e.context == c) (map (queued_waiter ls) ws)) (filter (λ e. e.context == c) (map (queued_waiter ls) ws)))
-        ≡ map (λ v. v.stamp) (map unmarked (cond b (w ∷ filter (λ v. v.context == c) ws) (filter (λ v. v.context == c) ws)))
+        ≡ map (λ v. v.stamp) (map unheld (cond b (w ∷ filter (λ v. v.context == c) ws) (filter (λ v. v.context == c) ws)))
     go true ih = ap (λ ks. w.stamp ∷ ks) ih
     go false ih = ih
 
 -- the stamps of a flight grow, so the first is the least
-least_first : (low : ℕ) (c k : ℕ) (es : List Entry) → IsGrowing low es → k ≤ low → fold min k (map (λ w. w.stamp) (waiters_of [] c es)) ≡ k
-least_first low c k [] g le = refl
-least_first low c k (e ∷ es) g le =
+least_first : (low : ℕ) (c k : ℕ) (fs es : List Entry) → IsGrowing low es → k ≤ low → fold min k (map (λ w. w.stamp) (map (waiter_for c fs) (filter (is_waiting [] c) es))) ≡ k
+least_first low c k fs [] g le = refl
+least_first low c k fs (e ∷ es) g le =
     let from = g.0 in
-    go (is_queued e.stage && true) (least_first (e.stamp + 1) c k es g.1 (omega (arith, le, from)))
+    go (is_queued e.stage && true) (least_first (e.stamp + 1) c k fs es g.1 (omega (arith, le, from)))
   where
-    go : (b : Bool) → fold min k (map (λ w. w.stamp) (waiters_of [] c es)) ≡ k → fold min k (map (λ w. w.stamp) (map (waiter_for c) (cond b (e ∷ filter (is_waiting [] c) es) (filter (is_waiting [] c) es)))) ≡ k
+    rest : List ℕ
+    rest = map (λ w. w.stamp) (map (waiter_for c fs) (filter (is_waiting [] c) es))
+
+    go : (b : Bool) → fold min k rest ≡ k → fold min k (map (λ w. w.stamp) (map (waiter_for c fs) (cond b (e ∷ filter (is_waiting [] c) es) (filter (is_waiting [] c) es)))) ≡ k
     go true ih =
         let from = g.0 in
         let least : min k e.stamp ≡ k = omega (arith, le, from) in
-        ap (λ a. fold min a (map (λ w. w.stamp) (waiters_of [] c es))) least ∙ ih
+        ap (λ a. fold min a rest) least ∙ ih
     go false ih = ih
 
-pub least_stamp : (low : ℕ) (c : ℕ) (es : List Entry) → IsGrowing low es → reduce min (map (λ w. w.stamp) (waiters_of [] c es)) ≡ option_map (λ e. e.stamp) (find (λ e. is_queued e.stage) es)
-least_stamp low c [] g = refl
-least_stamp low c (e ∷ es) g = go (is_queued e.stage) (least_stamp (e.stamp + 1) c es g.1)
+least_stamp : (low : ℕ) (c : ℕ) (fs es : List Entry) → IsGrowing low es → reduce min (map (λ w. w.stamp) (map (waiter_for c fs) (filter (is_waiting [] c) es))) ≡ option_map (λ e. e.stamp) (find (λ e. is_queued e.stage) es)
+least_stamp low c fs [] g = refl
+least_stamp low c fs (e ∷ es) g = go (is_queued e.stage) (least_stamp (e.stamp + 1) c fs es g.1)
   where
-    go : (b : Bool) → reduce min (map (λ w. w.stamp) (waiters_of [] c es)) ≡ option_map (λ x. x.stamp) (find (λ x. is_queued x.stage) es)
-        → reduce min (map (λ w. w.stamp) (map (waiter_for c) (cond (b && true) (e ∷ filter (is_waiting [] c) es) (filter (is_waiting [] c) es)))) ≡ option_map (λ x. x.stamp) (cond b (Some e) (find (λ x. is_queued x.stage) es))
-    go true ih = ap (λ k. Some k) (least_first (e.stamp + 1) c e.stamp es g.1 (omega arith))
+    go : (b : Bool) → reduce min (map (λ w. w.stamp) (map (waiter_for c fs) (filter (is_waiting [] c) es))) ≡ option_map (λ x. x.stamp) (find (λ x. is_queued x.stage) es)
+        → reduce min (map (λ w. w.stamp) (map (waiter_for c fs) (cond (b && true) (e ∷ filter (is_waiting [] c) es) (filter (is_waiting [] c) es)))) ≡ option_map (λ x. x.stamp) (cond b (Some e) (find (λ x. is_queued x.stage) es))
+    go true ih = ap (λ k. Some k) (least_first (e.stamp + 1) c e.stamp fs es g.1 (omega arith))
     go false ih = ih
 
 option_map_both : {X : Type 0} (h : X → ℕ) (g k : ℕ → ℕ) → ((n : ℕ) → g n ≡ k n) → (o : Option X) → option_map g (option_map h o) ≡ option_map (λ x. k (h x)) o
@@ -165,6 +168,6 @@ pub oldest_waiting : (f : Flow) (flight : ℕ → List Entry) (c low : ℕ) → 
     ≡ option_map (λ e. sum_by (λ d. count_by (λ x. is_queued x.stage && nat_lt x.stamp e.stamp) (flight d)) eight) (find (λ e. is_queued e.stage) (flight c))
 oldest_waiting f flight c low all ties lt growing =
     ap (λ o. option_map (λ oldest. count_by (λ e. nat_lt e.stamp oldest) (queued f)) o)
-    (ap (reduce min) (stamps_waiting f.lanes c f.waiters ∙ ap (map (λ w. w.stamp)) (ties c lt)) ∙ least_stamp low c (flight c) growing)
+    (ap (reduce min) (stamps_waiting f.lanes c f.waiters ∙ ap (map (λ w. w.stamp)) (ties c lt)) ∙ least_stamp low c (flight c) (flight c) growing)
     ∙ option_map_both (λ e. e.stamp) (λ oldest. count_by (λ e. nat_lt e.stamp oldest) (queued f)) (λ oldest. sum_by (λ d. count_by (λ x. is_queued x.stage && nat_lt x.stamp oldest) (flight d)) eight)
     (λ k. count_map (λ e. nat_lt e.stamp k) (queued_waiter f.lanes) f.waiters ∙ count_stamps (λ s. nat_lt s k) f flight all ties) (find (λ e. is_queued e.stage) (flight c))

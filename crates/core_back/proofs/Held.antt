@@ -25,10 +25,10 @@ use Rattle.core_view.proofs.Queues.{queue_sharing}
 use Rattle.data_flow.specs.Flow.{Flow, Waiter, lane, sources_at, is_waiter, with_held}
 use Rattle.lawful_cycle.specs.Issue.{is_clear_on}
 use Rattle.core_back.specs.Issuable.{IsAnswered, may_issue_at, IsHeld, AreHeld, IsClear}
-use Rattle.core_back.specs.Queued.{unmarked}
+use Rattle.core_back.specs.Queued.{unheld}
 use Rattle.core_back.specs.Steps.{IsRemarked}
 use Rattle.core_back.specs.Track.{Track, issued}
-use Rattle.core_back.proofs.Queue.{unmarked-map}
+use Rattle.core_back.proofs.Queue.{unheld-map}
 use Rattle.core_back.proofs.Remarks.{remark_none}
 use Rattle.core_back.proofs.Waiting.{same_place}
 
@@ -41,10 +41,10 @@ same_waiter c k d j flag w = by_test (is_waiter c k w)
     by_test true = refl
     by_test false = refl
 
-same_unmarked : (c k : ℕ) (flag : Bool) (w : Waiter) → unmarked (with_held c k flag w) ≡ unmarked w
-same_unmarked c k flag w = by_test (is_waiter c k w)
+same_unheld : (c k : ℕ) (flag : Bool) (w : Waiter) → unheld (with_held c k flag w) ≡ unheld w
+same_unheld c k flag w = by_test (is_waiter c k w)
   where
-    by_test : (b : Bool) → unmarked (if b then record w { held = flag } else w) ≡ unmarked w
+    by_test : (b : Bool) → unheld (if b then record w { held = flag } else w) ≡ unheld w
     by_test true = refl
     by_test false = refl
 
@@ -54,7 +54,7 @@ held_remarked f g c k flag is =
     let marked : List Waiter = map (with_held c k flag) f.waiters in
     record {
       flow = is ∙ ap (λ (ws : List Waiter). let r : Flow = record f { waiters = ws } in r) (sym (ap (λ (q : Flow). q.waiters) is));
-      waits = ap (λ (q : Flow). map unmarked q.waiters) is ∙ unmarked-map (with_held c k flag) (same_unmarked c k flag) f.waiters;
+      waits = ap (λ (q : Flow). map unheld q.waiters) is ∙ unheld-map (with_held c k flag) (same_unheld c k flag) f.waiters;
     }
 
 pub remarked_twice : (f g h : Flow) → IsRemarked f g → IsRemarked g h → IsRemarked f h

@@ -12,9 +12,9 @@ use Rattle.core_view.specs.declared.outcome.Outcome.{Outcome}
 use Rattle.core_view.specs.declared.entry.Execution.{Execution}
 use Rattle.core_view.specs.declared.entry.Stage.TheVariants.{Fetched, Queued, Issued}
 use Rattle.core_view.specs.declared.entry.Entry.{Entry}
-use Rattle.core_view.specs.Operations.{first_source_of, second_source_of}
+use Rattle.core_view.specs.Operations.{is_guessed, first_source_of, second_source_of}
 use Rattle.core_view.specs.Outcomes.{image_of, outcome_in}
-use Rattle.core_view.specs.Flight.{source_value, IsOutcome}
+use Rattle.core_view.specs.Flight.{is_done, source_value, IsOutcome}
 use Rattle.core_view.specs.Events.{with_stage}
 use Rattle.core_view.specs.Queues.{AllRenamed}
 use Rattle.core_view.specs.View.{entry_at, no_entry, seen_at as flight_seen_at}
@@ -127,7 +127,7 @@ issue_core {start = start} {stamp = stamp} {c = c} {k = k} {f = f} {names = name
       capacity = core.capacity;
       are_renamed = rw front (renamed-set (take t.renamed t.context.flight) i n refl core.are_renamed);
       are_fetched = rw (drop-set-lt t.renamed t.context.flight i n below) core.are_fetched;
-      waiting = core.waiting ∙ sym (waiters-issue names c k 0 t.context.flight i n core.live.flight.growing lt is refl);
+      waiting = core.waiting ∙ sym (waiters-issue names c k 0 t.context.flight i n core.live.flight.growing lt is is (ap (λ s. is_guessed e.operation && not (is_done s)) (sym stage)) refl);
       selected = selected;
     }
   where

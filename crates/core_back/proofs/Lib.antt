@@ -23,6 +23,7 @@ pub mod Waiting
 pub mod Queue
 pub mod Counts
 pub mod Renamable
+pub mod Settles
 pub mod Fronts
 pub mod RetireTurns
 pub mod Counted

@@ -278,30 +278,6 @@ module _ {A : Type 0} where
     ];
   }
 
-  -- the machine after marks of what waits have changed
-  pub machine_remarked : (m w : Inside A) (now : Machine) → machine_of m ≡ now → IsMachine m → now.names ≡ [] → IsRemarked m.flow w.flow
-      → w.origins ≡ m.origins → w.tracks ≡ m.tracks → w.selected ≡ m.selected → w.cycle ≡ m.cycle → w.stamp ≡ m.stamp → w.fetch_room ≡ m.fetch_room → w.profile ≡ m.profile → IsMachine w
-  machine_remarked m w now shows ok idle marks origins tracks selected cycle stamp room profile =
-      let none = idle_names m now shows idle in
-      record {
-        cores = rw (origins, tracks, stamp, profile, selected) (λ c lt. remarked_core (ok.cores c lt) marks);
-        origins = rw origins ok.origins;
-        tracks = rw tracks ok.tracks;
-        lanes = ap (λ (f : Flow). length f.lanes) marks.flow ∙ ok.lanes;
-        contexts = eight-remarked m.flow w.flow marks ok.contexts;
-        apart = rw (selected, none) (λ i j d lt over. absurd (omega (arith, over)));
-        supplied = rw (selected, none) (λ k d over. absurd (omega (arith, over)));
-        clear = rw (selected, none) (λ k d over. absurd (omega (arith, over)));
-        left = rw (selected, none) (λ k d over. absurd (omega (arith, over)));
-        stamps = rw (stamp, room, cycle) ok.stamps;
-        room = rw (profile, tracks) (record {
-          registers = ap (λ (f : Flow). f.extra) marks.flow ∙ ok.room.registers;
-          waiters = ap (λ (f : Flow). f.places) marks.flow ∙ ok.room.waiters;
-          loads = ok.room.loads;
-          stores = ok.room.stores;
-        });
-      }
-
   -- the machine after a selection among what isn't held
   pub selected_machine : (m h w : Inside A) (now : Machine) (n : ℕ) {key : Waiting → ℕ} {width : ℕ} {names : List EntryId} → machine_of m ≡ now → IsMachine m → now.names ≡ [] → IsHeldTo m h n → 8 ≤ n
       → w.flow ≡ record h.flow { waiters = w.flow.waiters } → IsSelected key width (queued h.flow) (queued w.flow) names

@@ -1,35 +1,18 @@
 -- Marks of what waits for issue, and one more that waits.
-use Rattle.std.proofs.Common.{◌≡◌, ℕ, zero, suc, ◌-◌, ◌<◌, Bool, true, false, List, [], ◌∷◌, ◌++◌, length, get_or, map, None, refl, sym, ap, ◌∙◌, arith, length-append}
+use Rattle.std.proofs.Common.{◌≡◌, ℕ, zero, suc, ◌-◌, ◌<◌, Bool, true, false, List, [], ◌∷◌, ◌++◌, length, get_or, None, refl, sym, ap, ◌∙◌, arith, length-append}
 use Rattle.std.specs.Prelude.{set, if◌then◌else◌}
 use Rattle.std.proofs.lemmas.List.{get_or_at}
 use Rattle.core_view.specs.declared.entry.Entry.{Entry}
 use Rattle.core_view.specs.Operations.{stops_at_fetch, is_guessed}
 use Rattle.data_flow.specs.declared.operands.Operands.{Operands}
-use Rattle.data_flow.specs.Flow.{Node, Lane, Flow, Waiter, no_node, no_lane, node_at, lane, with_lane, with_node, waits_in, is_waiter, with_speculative}
-use Rattle.core_back.specs.Queued.{unmarked}
+use Rattle.data_flow.specs.Flow.{Node, Lane, Flow, Waiter, no_node, no_lane, node_at, lane, with_lane, with_node, waits_in}
 use Rattle.core_back.specs.Steps.{IsRemarked, renamed_flow}
 use Rattle.core_back.specs.Cores.{operands_of}
-use Rattle.core_back.proofs.Queue.{unmarked-map}
 
 -- ---- marks
 
-same_unmarked : (c k : ℕ) (flag : Bool) (w : Waiter) → unmarked (with_speculative c k flag w) ≡ unmarked w
-same_unmarked c k flag w = by_test (is_waiter c k w)
-  where
-    by_test : (b : Bool) → unmarked (if b then record w { speculative = flag } else w) ≡ unmarked w
-    by_test true = refl
-    by_test false = refl
-
 pub remark_none : (f : Flow) → IsRemarked f f
 remark_none f = record { flow = refl; waits = refl }
-
-pub remark_step : (f g h : Flow) (c k : ℕ) (flag : Bool) → IsRemarked f g → h ≡ record g { waiters = map (with_speculative c k flag) g.waiters } → IsRemarked f h
-remark_step f g h c k flag so_far e =
-    let marked : List Waiter = map (with_speculative c k flag) g.waiters in
-    record {
-      flow = e ∙ ap (λ (q : Flow). let r : Flow = record q { waiters = marked } in r) so_far.flow ∙ ap (λ (ws : List Waiter). let r : Flow = record f { waiters = ws } in r) (sym (ap (λ (q : Flow). q.waiters) e));
-      waits = ap (λ (q : Flow). map unmarked q.waiters) e ∙ unmarked-map (with_speculative c k flag) (same_unmarked c k flag) g.waiters ∙ so_far.waits;
-    }
 
 -- ---- one more instruction
 

@@ -11,21 +11,22 @@ use Rattle.core_view.specs.declared.operation.Operation.TheVariants as operation
 use Rattle.core_view.specs.declared.entry.Stage.TheVariants.{Fetched}
 use Rattle.core_view.specs.declared.entry.Entry.{Entry}
 use Rattle.core_view.specs.Operations.{stops_at_fetch, is_guessed, destination_of}
-use Rattle.core_view.specs.Flight.{IsGrowing, result_of}
+use Rattle.core_view.specs.Flight.{is_done, IsGrowing, result_of}
 use Rattle.core_view.specs.Events.{with_stage, renamed_stage}
 use Rattle.core_view.specs.Queues.{is_renamed}
 use Rattle.core_view.specs.View.{entry_at, no_entry}
 use Rattle.core_view.proofs.Live.{rename_live}
 use Rattle.data_flow.specs.Flow.{Node, Lane, Flow, Waiter, lane, with_lane, with_node, waits_in}
-use Rattle.lawful_cycle.specs.Issue.{is_queued}
-use Rattle.core_back.specs.Queued.{queued_at, unmarked, waiting_of}
+use Rattle.std.specs.List.{list_any}
+use Rattle.lawful_cycle.specs.Issue.{is_queued, is_open_guess}
+use Rattle.core_back.specs.Queued.{queued_at, unheld, waiting_of, waiter_for}
 use Rattle.core_back.specs.Track.{Track, renamed_one}
 use Rattle.core_back.specs.Cores.{operands_of, node_of_entry, is_selected, waiters_of, IsCore}
 use Rattle.core_back.specs.Steps.{renamed_flow}
 use Rattle.core_back.proofs.Flights.{renamed-push, fetched_after, fetched-rest}
 use Rattle.core_back.proofs.Others.{IsLeft, lane-with_same, lane-with_other, count-with_lane, with_lane_left, KeepsSizes, sizes-with_lane}
 use Rattle.core_back.proofs.Waiting.{growing_at, queued_place, same_place}
-use Rattle.core_back.proofs.Queue.{core_waiting, waiters-same, waiters-enter, waiting-push, waiting-push_other, none_selected}
+use Rattle.core_back.proofs.Queue.{core_waiting, behind_at, waiters-same, waiters-enter, waiting-push, waiting-push_other, none_selected}
 
 -- ---- what is renamed
 
@@ -36,6 +37,11 @@ renamed_queued cycle (operation.Stops why) = refl
 renamed_renamed : (cycle : ℕ) (o : Operation) → is_renamed (renamed_stage cycle o) ≡ true
 renamed_renamed cycle (operation.Performs insn) = refl
 renamed_renamed cycle (operation.Stops why) = refl
+
+-- it is as open as it was
+renamed_open : (cycle : ℕ) (o : Operation) → (is_guessed o && not (is_done (renamed_stage cycle o))) ≡ (is_guessed o && true)
+renamed_open cycle (operation.Performs insn) = refl
+renamed_open cycle (operation.Stops why) = refl
 
 renamed_result : (cycle : ℕ) (o : Operation) → result_of (renamed_stage cycle o) ≡ None
 renamed_result cycle (operation.Performs insn) = refl
@@ -120,10 +126,10 @@ renamed_over {start = start} {stamp = stamp} {c = c} {f = f} {t = t} core cycle 
       selected = none_selected c (set es t.renamed n);
     }
 
-pub rename_core : {start : State} {stamp reorder c : ℕ} {f : Flow} {t : Track} → IsCore start stamp reorder f [] c t → (cycle : ℕ) (speculative : Bool) → c < length f.lanes
+pub rename_core : {start : State} {stamp reorder c : ℕ} {f : Flow} {t : Track} → IsCore start stamp reorder f [] c t → (cycle : ℕ) → c < length f.lanes
     → t.renamed < length t.context.flight → t.renamed < reorder
-    → IsCore start stamp reorder (renamed_flow f c (entry_at t.context t.renamed) speculative) [] c (renamed_one cycle t)
-rename_core {start = start} {stamp = stamp} {reorder = reorder} {c = c} {f = f} {t = t} core cycle speculative within some free = by_stop (stops_at_fetch e.operation) refl
+    → IsCore start stamp reorder (renamed_flow f c (entry_at t.context t.renamed) (list_any is_open_guess (take t.renamed t.context.flight))) [] c (renamed_one cycle t)
+rename_core {start = start} {stamp = stamp} {reorder = reorder} {c = c} {f = f} {t = t} core cycle within some free = by_stop (stops_at_fetch e.operation) refl
   where
     e : Entry
     e = entry_at t.context t.renamed
@@ -135,7 +141,14 @@ rename_core {start = start} {stamp = stamp} {reorder = reorder} {c = c} {f = f} 
     g = with_lane f c (with_node (lane f c) (operands_of e))
 
     w : Waiter
-    w = record { stamp = e.stamp; context = c; guessed = is_guessed e.operation; speculative = speculative; held = false }
+    w = record { stamp = e.stamp; context = c; guessed = is_guessed e.operation; speculative = list_any is_open_guess (take t.renamed t.context.flight); held = false }
+
+    -- it waits behind the guessed entries before it
+    as_queued : w ≡ waiter_for c t.context.flight n
+    as_queued = ap (λ b. let v : Waiter = record w { speculative = b } in v) (sym (behind_at 0 t.context.flight t.renamed core.live.flight.growing some))
+
+    as_open : is_open_guess n ≡ is_open_guess e
+    as_open = renamed_open cycle e.operation ∙ ap (λ s. is_guessed e.operation && not (is_done s)) (sym (first_fetched core some))
 
     here : lane g c ≡ with_node (lane f c) (operands_of e)
     here = lane-with_same f c (with_node (lane f c) (operands_of e)) within
@@ -146,11 +159,11 @@ rename_core {start = start} {stamp = stamp} {reorder = reorder} {c = c} {f = f} 
     by_stop : (b : Bool) → stops_at_fetch e.operation ≡ b → IsCore start stamp reorder (if b then g else record g { waiters = f.waiters ++ w ∷ [] }) [] c (renamed_one cycle t)
     by_stop true is =
         let done : is_queued n.stage ≡ is_queued e.stage = renamed_queued cycle e.operation ∙ ap not is ∙ sym idle in
-        renamed_over core cycle g some free here (core.waiting ∙ sym (waiters-same [] c t.context.flight t.renamed n (done ∙ idle) idle))
+        renamed_over core cycle g some free here (core.waiting ∙ sym (waiters-same [] c t.context.flight t.renamed n some refl as_open (done ∙ idle) idle))
     by_stop false is =
         let queued : is_queued n.stage ≡ true = renamed_queued cycle e.operation ∙ ap not is in
         renamed_over core cycle (record g { waiters = f.waiters ++ w ∷ [] }) some free here
-        (waiting-push f w c refl ∙ ap (λ ws. ws ++ unmarked w ∷ []) core.waiting ∙ sym (waiters-enter [] c t.context.flight t.renamed n some core.are_fetched (ap (λ b. b && true) queued)))
+        (waiting-push f w c refl ∙ ap (λ ws. ws ++ unheld w ∷ []) core.waiting ∙ ap (λ (v : Waiter). waiters_of [] c t.context.flight ++ v ∷ []) as_queued ∙ sym (waiters-enter [] c t.context.flight t.renamed n some refl as_open core.are_fetched (ap (λ b. b && true) queued)))
 
 -- ---- the other contexts
 

@@ -14,7 +14,7 @@ use Rattle.core_view.specs.declared.entry.Stage.TheVariants.{Fetched, Queued, Is
 use Rattle.core_view.specs.declared.entry.Entry.{Entry}
 use Rattle.core_view.specs.Operations.{destination_of}
 use Rattle.core_view.specs.Outcomes.{IsSized}
-use Rattle.core_view.specs.Flight.{result_of, result_in, IsGrowing}
+use Rattle.core_view.specs.Flight.{result_of, result_in, is_done, IsGrowing}
 use Rattle.core_view.specs.Queues.{is_renamed, AllRenamed}
 use Rattle.core_view.specs.View.{IsLive, StatusHolds, entry_at, no_entry}
 use Rattle.core_view.specs.Events.{retire_event}
@@ -162,7 +162,7 @@ module _ (start : State) (stamp reorder : ℕ) (f : Flow) (c : ℕ) (t : Track) 
         front = omega (arith, len, first, core.front, core.within);
         are_renamed = renamed_drop (t.renamed - 1) t.context.flight (subst (λ n. AllRenamed (take n t.context.flight)) one core.are_renamed);
         are_fetched = rest_fetched (t.renamed - 1) t.context.flight (subst (λ n. AllFetched (drop n t.context.flight)) one core.are_fetched);
-        waiting = core.waiting ∙ sym (waiters-drop [] c t.context.flight (ap is_queued stage));
+        waiting = core.waiting ∙ sym (waiters-drop [] c t.context.flight (ap is_done stage));
         selected = none_selected c (drop 1 t.context.flight);
       }
     where

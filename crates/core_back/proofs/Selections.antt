@@ -18,7 +18,7 @@ use Rattle.core_view.specs.View.{entry_at, no_entry}
 use Rattle.data_flow.specs.Wired.{waiter_of}
 use Rattle.data_flow.specs.Flow.{Waiter, Lane, Flow, lane, seen_past_node, seen_past_nodes, sources_of, sources_at, is_supplied, is_waiter, waits_in, waits_of, queued_waiter, queued}
 use Rattle.lawful_cycle.specs.Issue.{is_queued}
-use Rattle.core_back.specs.Queued.{unmarked, waiting_of, waiter_for}
+use Rattle.core_back.specs.Queued.{unheld, waiting_of, waiter_for}
 use Rattle.core_back.specs.Issuable.{may_issue_at, IsHeld, AreHeld, IsClear}
 use Rattle.core_back.specs.Shown.{AreApart, IsSuppliedIn}
 use Rattle.core_back.specs.Steps.{IsRemarked}
@@ -127,14 +127,14 @@ all_waiters ls (w ∷ ws) = ap (λ vs. w ∷ vs) (all_waiters ls ws)
 pub select_waiters : {key : Waiting → ℕ} {width : ℕ} {names : List EntryId} (f g : Flow) → IsSelected key width (queued f) (queued g) names → g.waiters ≡ filter (λ w. not (is_selected names w.context w.stamp)) f.waiters
 select_waiters {names = names} f g s = sym (all_waiters g.lanes g.waiters) ∙ ap (map waiter_of) s.others ∙ left_waiters names f.lanes f.waiters
 
-left_of : (names : List EntryId) (c : ℕ) (ws : List Waiter) → map unmarked (filter (λ w. w.context == c) (filter (λ w. not (is_selected names w.context w.stamp)) ws)) ≡ filter (λ w. not (is_selected names c w.stamp)) (map unmarked (filter (λ w. w.context == c) ws))
+left_of : (names : List EntryId) (c : ℕ) (ws : List Waiter) → map unheld (filter (λ w. w.context == c) (filter (λ w. not (is_selected names w.context w.stamp)) ws)) ≡ filter (λ w. not (is_selected names c w.stamp)) (map unheld (filter (λ w. w.context == c) ws))
 left_of names c [] = refl
 left_of names c (w ∷ ws) = go (w.context == c) (is_selected names w.context w.stamp) (is_selected names c w.stamp) refl refl (λ here. ap (λ d. is_selected names d w.stamp) (eqb-true w.context c here)) (left_of names c ws)
   where
     go : (a s u : Bool) → (w.context == c) ≡ a → is_selected names c w.stamp ≡ u → (a ≡ true → s ≡ u)
-        → map unmarked (filter (λ v. v.context == c) (filter (λ v. not (is_selected names v.context v.stamp)) ws)) ≡ filter (λ v. not (is_selected names c v.stamp)) (map unmarked (filter (λ v. v.context == c) ws))
-        → map unmarked (filter (λ v. v.context == c) (cond (not s) (w ∷ filter (λ v. not (is_selected names v.context v.stamp)) ws) (filter (λ v. not (is_selected names v.context v.stamp)) ws)))
-        ≡ filter (λ v. not (is_selected names c v.stamp)) (map unmarked (cond a (w ∷ filter (λ v. v.context == c) ws) (filter (λ v. v.context == c) ws)))
+        → map unheld (filter (λ v. v.context == c) (filter (λ v. not (is_selected names v.context v.stamp)) ws)) ≡ filter (λ v. not (is_selected names c v.stamp)) (map unheld (filter (λ v. v.context == c) ws))
+        → map unheld (filter (λ v. v.context == c) (cond (not s) (w ∷ filter (λ v. not (is_selected names v.context v.stamp)) ws) (filter (λ v. not (is_selected names v.context v.stamp)) ws)))
+        ≡ filter (λ v. not (is_selected names c v.stamp)) (map unheld (cond a (w ∷ filter (λ v. v.context == c) ws) (filter (λ v. v.context == c) ws)))
     go true true true here named same ih = rw named ih
     go true false false here named same ih = rw (here, named, ih) refl
     go true true false here named same ih = absurd (true≢false (same refl))
@@ -142,13 +142,13 @@ left_of names c (w ∷ ws) = go (w.context == c) (is_selected names w.context w.
     go false true u here named same ih = ih
     go false false u here named same ih = rw here ih
 
-still_waiting : (names : List EntryId) (c : ℕ) (es : List Entry) → filter (λ w. not (is_selected names c w.stamp)) (waiters_of [] c es) ≡ waiters_of names c es
-still_waiting names c [] = refl
-still_waiting names c (e ∷ es) = go (is_queued e.stage) (is_selected names c e.stamp) refl (still_waiting names c es)
+still_waiting : (names : List EntryId) (c : ℕ) (fs es : List Entry) → filter (λ w. not (is_selected names c w.stamp)) (map (waiter_for c fs) (filter (is_waiting [] c) es)) ≡ map (waiter_for c fs) (filter (is_waiting names c) es)
+still_waiting names c fs [] = refl
+still_waiting names c fs (e ∷ es) = go (is_queued e.stage) (is_selected names c e.stamp) refl (still_waiting names c fs es)
   where
-    go : (q s : Bool) → is_selected names c e.stamp ≡ s → filter (λ w. not (is_selected names c w.stamp)) (waiters_of [] c es) ≡ waiters_of names c es
-        → filter (λ w. not (is_selected names c w.stamp)) (map (waiter_for c) (cond (q && true) (e ∷ filter (is_waiting [] c) es) (filter (is_waiting [] c) es)))
-        ≡ map (waiter_for c) (cond (q && not s) (e ∷ filter (is_waiting names c) es) (filter (is_waiting names c) es))
+    go : (q s : Bool) → is_selected names c e.stamp ≡ s → filter (λ w. not (is_selected names c w.stamp)) (map (waiter_for c fs) (filter (is_waiting [] c) es)) ≡ map (waiter_for c fs) (filter (is_waiting names c) es)
+        → filter (λ w. not (is_selected names c w.stamp)) (map (waiter_for c fs) (cond (q && true) (e ∷ filter (is_waiting [] c) es) (filter (is_waiting [] c) es)))
+        ≡ map (waiter_for c fs) (cond (q && not s) (e ∷ filter (is_waiting names c) es) (filter (is_waiting names c) es))
     go true true is ih = rw is ih
     go true false is ih = rw (is, ih) refl
     go false s is ih = ih
@@ -156,7 +156,7 @@ still_waiting names c (e ∷ es) = go (is_queued e.stage) (is_selected names c e
 -- what waits of a context is what was queued and isn't selected
 select_waiting : {key : Waiting → ℕ} {width : ℕ} {names : List EntryId} (f g : Flow) (c : ℕ) (es : List Entry) → IsSelected key width (queued f) (queued g) names → waiting_of f c ≡ waiters_of [] c es → waiting_of g c ≡ waiters_of names c es
 select_waiting {names = names} f g c es s before =
-    ap (λ ws. map unmarked (filter (λ w. w.context == c) ws)) (select_waiters f g s) ∙ left_of names c f.waiters ∙ ap (filter (λ w. not (is_selected names c w.stamp))) before ∙ still_waiting names c es
+    ap (λ ws. map unheld (filter (λ w. w.context == c) ws)) (select_waiters f g s) ∙ left_of names c f.waiters ∙ ap (filter (λ w. not (is_selected names c w.stamp))) before ∙ still_waiting names c es es
 
 -- no name waits
 pub select_idle : {key : Waiting → ℕ} {width : ℕ} {names : List EntryId} (f g : Flow) → IsSelected key width (queued f) (queued g) names → All (λ n. waits_in g n.context n.stamp ≡ false) names

@@ -26,7 +26,7 @@ pub and_none : (b : Bool) → (b && false) ≡ false
 and_none true = refl
 and_none false = refl
 
-and_all : (b : Bool) → (b && true) ≡ b
+pub and_all : (b : Bool) → (b && true) ≡ b
 and_all true = refl
 and_all false = refl
 

@@ -42,7 +42,7 @@ is_waiting names c e = is_queued e.stage && not (is_selected names c e.stamp)
 
 -- those of a flight, oldest first, as they wait
 abbrev pub waiters_of : List EntryId → ℕ → List Entry → List Waiter
-waiters_of names c es = map (waiter_for c) (filter (is_waiting names c) es)
+waiters_of names c es = map (waiter_for c es) (filter (is_waiting names c) es)
 
 -- ---- one context
 

@@ -79,8 +79,5 @@ fn complete_place<A: Allocator>(machine: &mut Machine<A>, context: Ctx, place: u
         };
     };
     let cut = machine.complete(context, place, execution);
-    if machine.is_guessed(context, place) {
-        machine.settle_speculation(context);
-    }
     Completion { completed: 1, cut }
 }

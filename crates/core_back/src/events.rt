@@ -1,6 +1,7 @@
 //! The events of a cycle, each on one context and the data flow.
 
-ghost use Rattle.std.specs.Prelude.{◌≡◌, ◌≢◌, ◌↔◌, ℕ, ◌+◌, ◌<◌, ◌≤◌, ◌==◌, ◌&&◌, length, drop, IsSome, IsTrue, IfSome, Some, None, All, Bool, true, false};
+ghost use Rattle.std.specs.Prelude.{◌≡◌, ◌≢◌, ◌↔◌, ℕ, ◌+◌, ◌<◌, ◌≤◌, ◌==◌, ◌&&◌, length, take, drop, IsSome, IsTrue, IfSome, Some, None, All, true, false};
+ghost use Rattle.std.specs.List.{list_any};
 ghost use Rattle.core_view.specs.Outcomes.{image_of, IsSized};
 ghost use Rattle.data_flow.specs.Flow.{lane, node_at, sources_at, taken, waits_in, cut_flow};
 ghost use Rattle.core_view.specs.declared.entry.Stage.TheVariants.{Queued, Issued};
@@ -12,9 +13,10 @@ ghost use Rattle.core_back.specs.Issuable.{IsAnswered, IsHeld, AreHeld, may_issu
 ghost use Rattle.core_back.specs.Track.{is_last, retired, stopped, completed, renamed_one};
 ghost use Rattle.core_back.specs.Cores.{operands_of, AllFetched};
 ghost use Rattle.core_back.specs.Renamable.{IsRenamable};
-ghost use Rattle.core_back.specs.Steps.{retired_flow, completed_flow, renamed_flow, IsRemarked};
+ghost use Rattle.core_back.specs.Steps.{retired_flow, settled_flow, completed_flow, renamed_flow, IsRemarked};
+ghost use Rattle.lawful_cycle.specs.Issue.{is_open_guess as is_open_guess_entry};
 
-use crate::track::Track;
+use crate::track::{Track, is_open_guess, is_queued};
 use core_profile::Profile;
 use core_view::{Entry, Execution, Step};
 use data_flow::{DataFlow, Operands};
@@ -72,15 +74,19 @@ pub(crate) fn complete<A: Allocator>(
     requires issued { (entry_at track.old.context place).stage ≡ Issued execution }
     requires sound { IsSound (image_of track.old.context.state) (seen_of track.old.context.state) track.old.context.state.pc track.old.context.flight }
     ensures track { track.new ≡ completed track.old place execution }
-    ensures flow { flow.new ≡ completed_flow flow.old context place execution track.old.context }
+    ensures flow { flow.new ≡ completed_flow flow.old context place execution track.old }
     ensures cut { result + length track.new.context.flight ≡ length track.old.context.flight }
 {
     let before = track.len();
+    let guessed = track.entry_at(place).operation.is_guessed();
     if let Some(value) = execution.outcome.result() {
         flow.finish(context, place, value);
     }
     if let Some(stamp) = track.complete(place, execution) {
         flow.cut_from(context, stamp);
+    }
+    if guessed {
+        settle_speculation(flow, track, context);
     }
     before - track.len()
 }
@@ -147,7 +153,7 @@ pub(crate) fn rename<A: Allocator>(
     requires load { is_load (entry_at track.old.context track.old.renamed).operation ≡ true → length (loads_of track.old.context.flight) < track.old.load_places }
     requires store { is_store (entry_at track.old.context track.old.renamed).operation ≡ true → length (stores_of track.old.context.flight) < track.old.store_places }
     ensures track { track.new ≡ renamed_one cycle track.old }
-    ensures flow { (speculative : Bool) × (flow.new ≡ renamed_flow flow.old context (entry_at track.old.context track.old.renamed) speculative) }
+    ensures flow { flow.new ≡ renamed_flow flow.old context (entry_at track.old.context track.old.renamed) (list_any is_open_guess_entry (take track.old.renamed track.old.context.flight)) }
 {
     let entry = track.entry_at(track.renamed_count());
     let speculative = track.has_uncompleted_guess();
@@ -172,20 +178,16 @@ fn operands(entry: &Entry) -> Operands
 
 /// Tells the queue of the entries that are behind no guessed entry any more: those up to the oldest guessed entry that
 /// has not completed.
-pub(crate) fn settle_speculation<A: Allocator>(
-    flow: &mut DataFlow<A>,
-    track: &Track<A>,
-    context: Ctx,
-)
-    ensures { IsRemarked flow.old flow.new }
+fn settle_speculation<A: Allocator>(flow: &mut DataFlow<A>, track: &Track<A>, context: Ctx)
+    ensures { flow.new ≡ settled_flow flow.old context track.now }
 {
     for place in 0..track.renamed_count() {
-        let entry = track.entry(place).unwrap();
-        if !entry.stage.is_done() {
+        let entry = track.entry_at(place);
+        if is_queued(&entry) {
             flow.speculate(context, entry.stamp, false);
-            if entry.operation.is_guessed() {
-                return;
-            }
+        }
+        if is_open_guess(&entry) {
+            return;
         }
     }
 }

@@ -261,15 +261,6 @@ impl<A: Allocator> Machine<A> {
         events::complete(&mut self.flow, track, context, place, execution)
     }
 
-    /// Tells the queue of a context's entries that are behind no guessed entry any more, after one has completed.
-    pub fn settle_speculation(&mut self, context: Ctx)
-        requires { self.old.names ≡ [] }
-        ensures { self.new ≡ self.old }
-    {
-        let track = &self.tracks[context.index()];
-        events::settle_speculation(&mut self.flow, track, context);
-    }
-
     /// Selects the first ready entries by an order, at most so many. A load that isn't clear isn't ready.
     pub fn select<O: Order>(&mut self, order: &O, width: usize)
         requires width { width ≤ 8 }
@@ -392,15 +383,6 @@ impl<A: Allocator> Machine<A> {
         ensures { result ≡ oldest_place self.now.view (context_at self.now context) }
     {
         self.flow.oldest_place(context)
-    }
-
-    /// Whether the entry of a context at a place is guessed.
-    pub fn is_guessed(&self, context: Ctx, place: usize) -> bool {
-        let track = &self.tracks[context.index()];
-        match track.entry(place) {
-            Some(entry) => entry.operation.is_guessed(),
-            None => false,
-        }
     }
 
     /// Whether one more entry of a context can be fetched: it runs, doesn't wait, and its front list has room.

@@ -17,21 +17,13 @@ complete-cut-requires-clause-issued g c =
     due_stage c.args.machine.now.view.cycle (entry_at (context_at c.args.machine.now c.args.context) c.args.place).stage c.in-Some.execution
     (due_some c.args.machine.now.view.cycle (context_at c.args.machine.now c.args.context).flight c.args.place c.in-Some.execution (sym c.due.ensures.value ∙ c.in-Some.is)).1
 
-pub returns-then-is_guessed-clause-goes_on : goal.returns-then-is_guessed-clause-goes_on
-returns-then-is_guessed-clause-goes_on g c =
-    due_step c.args.machine.now c.settle_speculation.new.self c.args.context c.args.place c.in-Some.execution (c.settle_speculation.ensures ∙ c.complete-cut.ensures.completed) (sym c.due.ensures.value ∙ c.in-Some.is)
-
-pub returns-else-is_guessed-clause-goes_on : goal.returns-else-is_guessed-clause-goes_on
-returns-else-is_guessed-clause-goes_on g c =
+pub returns-clause-goes_on : goal.returns-clause-goes_on
+returns-clause-goes_on g c =
     due_step c.args.machine.now c.complete-cut.new.self c.args.context c.args.place c.in-Some.execution c.complete-cut.ensures.completed (sym c.due.ensures.value ∙ c.in-Some.is)
 
 pub returns-in_default-clause-counted : goal.returns-in_default-clause-counted
 returns-in_default-clause-counted g c = rw (add-one c.args.place, come_none c.args.machine.now.view.cycle (context_at c.args.machine.now c.args.context).flight c.args.place (sym c.due.ensures.value ∙ c.in_default.is)) (omega arith)
 
-pub returns-then-is_guessed-clause-counted : goal.returns-then-is_guessed-clause-counted
-returns-then-is_guessed-clause-counted g c =
-    come_step c.args.machine.now c.settle_speculation.new.self c.args.context c.args.place c.in-Some.execution (c.settle_speculation.ensures ∙ c.complete-cut.ensures.completed) (sym c.due.ensures.value ∙ c.in-Some.is)
-
-pub returns-else-is_guessed-clause-counted : goal.returns-else-is_guessed-clause-counted
-returns-else-is_guessed-clause-counted g c =
+pub returns-clause-counted : goal.returns-clause-counted
+returns-clause-counted g c =
     come_step c.args.machine.now c.complete-cut.new.self c.args.context c.args.place c.in-Some.execution c.complete-cut.ensures.completed (sym c.due.ensures.value ∙ c.in-Some.is)

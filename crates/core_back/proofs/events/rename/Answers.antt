@@ -1,4 +1,4 @@
-use Rattle.std.proofs.Common.{◌<◌, ap, sym, subst, ◌∙◌, length}
+use Rattle.std.proofs.Common.{Bool, ◌<◌, ap, sym, subst, ◌∙◌, length}
 use Rattle.core_view.specs.declared.entry.Entry.{Entry}
 use Rattle.core_view.specs.View.{entry_at}
 use Rattle.core_view.specs.Operations.{stops_at_fetch}
@@ -27,14 +27,14 @@ returns-clause-flow g c =
     let here = c.entry_at-entry.ensures ∙ ap (λ i. entry_at c.args.track.now.context i) c.renamed_count.ensures.value in
     let f = c.args.flow.now in
     let e = c.entry_at-entry.result in
-    let spec = c.has_uncompleted_guess-speculative.result in (
-      spec,
-      elim c.if-not-stops_at_fetch.branch [
-        | then-not-stops_at_fetch w ↦
-            renamed_waits f c.rename.new.self c.if-not-stops_at_fetch.flow c.args.context e c.operands.result spec w.is_guessed.result c.operands.ensures c.requires.room c.rename.ensures (sym c.stops_at_fetch.ensures ∙ w.if-not-stops_at_fetch.true) w.is_guessed.ensures (w.flow-is ∙ w.wait.ensures)
-            ∙ ap (λ (x : Entry). renamed_flow f c.args.context x spec) here
-        | else-not-stops_at_fetch w ↦
-            renamed_stops f c.rename.new.self c.if-not-stops_at_fetch.flow c.args.context e c.operands.result spec c.operands.ensures c.rename.ensures (sym c.stops_at_fetch.ensures ∙ w.if-not-stops_at_fetch.false) w.flow-is
-            ∙ ap (λ (x : Entry). renamed_flow f c.args.context x spec) here
-      ],
-    )
+    let r = c.args.track.now in
+    let spec = c.has_uncompleted_guess-speculative.result in
+    elim c.if-not-stops_at_fetch.branch [
+      | then-not-stops_at_fetch w ↦
+          renamed_waits f c.rename.new.self c.if-not-stops_at_fetch.flow c.args.context e c.operands.result spec w.is_guessed.result c.operands.ensures c.requires.room c.rename.ensures (sym c.stops_at_fetch.ensures ∙ w.if-not-stops_at_fetch.true) w.is_guessed.ensures (w.flow-is ∙ w.wait.ensures)
+          ∙ ap (λ (x : Entry). renamed_flow f c.args.context x spec) here
+      | else-not-stops_at_fetch w ↦
+          renamed_stops f c.rename.new.self c.if-not-stops_at_fetch.flow c.args.context e c.operands.result spec c.operands.ensures c.rename.ensures (sym c.stops_at_fetch.ensures ∙ w.if-not-stops_at_fetch.false) w.flow-is
+          ∙ ap (λ (x : Entry). renamed_flow f c.args.context x spec) here
+    ]
+    ∙ ap (λ (b : Bool). renamed_flow f c.args.context (entry_at r.context r.renamed) b) c.has_uncompleted_guess-speculative.ensures
