@@ -28,3 +28,4 @@ pub mod Fronts
 pub mod RetireTurns
 pub mod Counted
 pub mod Ahead
+pub mod Laws

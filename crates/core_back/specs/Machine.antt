@@ -57,11 +57,12 @@ with_fetched m c x = record m { view = record m.view { stamp = m.view.stamp + 1;
 abbrev pub with_cycle : Machine → Machine
 with_cycle m = record m { view = record m.view { cycle = m.view.cycle + 1 }; fetch_room = 8 }
 
--- what each part of a cycle leaves as it was: the origin, the profile, the cycle's number, and each context's target
+-- what each part of a cycle but the fetch leaves as it was: the origin, the profile, the cycle's number, what may be fetched, and each context's target
 pub record IsAlike (old new : Machine) : Type 0 where
   pub origin : new.origin ≡ old.origin
   pub profile : new.view.profile ≡ old.view.profile
   pub cycle : new.view.cycle ≡ old.view.cycle
+  pub room : new.fetch_room ≡ old.fetch_room
   pub targets : (c : ℕ) → c < 8 → (context_at new c).target ≡ (context_at old c).target
 
 -- the outcome of an entry that is done

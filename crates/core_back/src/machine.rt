@@ -403,7 +403,6 @@ impl<A: Allocator> Machine<A> {
         ensures closed { result ≡ None → is_eligible (context_at self.old context) ≡ false }
         ensures fetched { IfSome result (IsFetched (G.may_answer guess.old) self.old self.new context) }
         ensures flights { IfSome result (λ _. in_flight self.new ≡ in_flight self.old + 1) }
-        ensures alike { IsAlike self.old self.new }
         ensures idle { self.new.names ≡ [] }
         ensures keeps { G.may_answer guess.new ≡ G.may_answer guess.old }
     {

@@ -20,3 +20,4 @@ pub mod Decided
 pub mod Sources
 pub mod WhatIsSeen
 pub mod InFlight
+pub mod Laws

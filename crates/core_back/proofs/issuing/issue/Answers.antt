@@ -10,7 +10,7 @@ pub loop-place-init : goal.loop-place-init
 loop-place-init g c =
     let e = c.select.ensures.selected in
     record {
-      alike = record { origin = ap (λ (m : Machine). m.origin) e; profile = ap (λ (m : Machine). m.view.profile) e; cycle = ap (λ (m : Machine). m.view.cycle) e; targets = λ d lt. ap (λ (m : Machine). (context_at m d).target) e };
+      alike = record { origin = ap (λ (m : Machine). m.origin) e; profile = ap (λ (m : Machine). m.view.profile) e; cycle = ap (λ (m : Machine). m.view.cycle) e; room = ap (λ (m : Machine). m.fetch_room) e; targets = λ d lt. ap (λ (m : Machine). (context_at m d).target) e };
       left = omega (arith, c.select.ensures.most);
       flights = in_flight_same c.args.machine.now c.select.new.self (ap (λ (m : Machine). m.view.contexts) e);
       room = omega (arith, ap length c.requires.fresh);

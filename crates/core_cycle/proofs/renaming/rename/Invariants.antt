@@ -1,6 +1,8 @@
 use Rattle.std.proofs.Common.{◌≡◌, ◌≤◌, []}
 use Rattle.arrayvec.specs.ArrayVec.{array_vec_len}
+use Rattle.lawful_cycle.specs.Rename.{renamed_view}
 use Rattle.core_back.specs.Machine.{IsAlike, in_flight}
+use Rattle.core_cycle.proofs.Renamings.{EachNext}
 use Rattle.core_cycle.proofs.renaming.rename.Given as goal
 
 abbrev pub invariant-loop-place : goal.invariant-loop-place
@@ -8,6 +10,8 @@ invariant-loop-place g l = record {
   alike : IsAlike l.fn.machine l.machine;
   idle : l.machine.names ≡ [];
   flights : in_flight l.machine ≡ in_flight l.fn.machine;
-  room : array_vec_len l.renamed ≤ l._place;
+  so_far : l.machine.view ≡ renamed_view l.fn.machine.view l.renamed.items;
+  each : EachNext l.fn.machine.view l.renamed.items;
+  count : array_vec_len l.renamed ≡ l._place;
   width : l.width ≤ 8;
 }

@@ -10,7 +10,6 @@ use Rattle.core_back.specs.Track.{Track, pushed}
 use Rattle.core_back.specs.Machine.{Machine, context_at}
 use Rattle.core_back.proofs.Ahead.{eligible_is}
 use Rattle.core_back.proofs.Fetches.{entries_older, fetch_room, fetch_aligned, fetch_core}
-use Rattle.core_back.proofs.Turns.{alike_fetched}
 use Rattle.core_back.proofs.InFlight.{in_flight_fetched}
 use Rattle.core_back.proofs.Machines.{at_context, idle_core, machine_fetched, shown_fetched}
 use Rattle.core_back.proofs.machine.Machine.try_fetch.Goals as goal
@@ -64,14 +63,6 @@ returns-then-not-can_fetch-clause-closed g c _ =
     let h = at_context c.self.inside c.args.self.now c.args.context c.index.result c.index_mut-track.result.now c.self.view_is c.self.invariant (omega (arith, c.index.ensures)) c.index.ensures.value c.index_mut-track.ensures.value in
     let core = idle_core c.self.inside c.args.self.now c.args.context c.index_mut-track.result.now c.self.view_is c.requires.idle h in
     sym (c.if-not-can_fetch.ensures.value ∙ eligible_is c.index_mut-track.result.now.context c.index_mut-track.result.now.renamed core.are_renamed core.are_fetched ∙ ap (λ (x : Context). is_eligible x) h.context)
-
-pub returns-clause-alike : goal.returns-clause-alike
-returns-clause-alike g c =
-    let h = at_context c.self.inside c.args.self.now c.args.context c.index.result c.index_mut-track.result.now c.self.view_is c.self.invariant (omega (arith, c.index.ensures)) c.index.ensures.value c.index_mut-track.ensures.value in
-    let core = idle_core c.self.inside c.args.self.now c.args.context c.index_mut-track.result.now c.self.view_is c.requires.idle h in
-    alike_fetched c.args.self.now _ c.args.context (fetch_event c.args.self.now.view.stamp c.args.self.now.view.cycle c.next_entry-entry.result.0.followed (context_at c.args.self.now c.args.context)) (shown_fetched c.self.inside c.args.self.now c.args.context c.index.result c.push.new.self _ _ c.self.view_is c.index.ensures.value
-    (ap (λ (u : Track). u.context) c.push.ensures ∙ ap (λ (x : Entry). (pushed c.index_mut-track.result.now x).context) c.next_entry-entry.ensures.entry.entry ∙ ap (λ (x : Context). fetch_event c.self.inside.stamp c.self.inside.cycle c.next_entry-entry.result.0.followed x) h.context
-    ∙ ap (λ (v : Machine). fetch_event v.view.stamp v.view.cycle c.next_entry-entry.result.0.followed (context_at c.args.self.now c.args.context)) c.self.view_is) refl) refl
 
 pub returns-clause-flights : goal.returns-clause-flights
 returns-clause-flights g c = in_flight_fetched (g.G.Guess.may_answer c.args.guess.now) c.args.self.now _ c.args.context (record { stamp = c.self.inside.stamp; ends = c.next_entry-entry.result.1 }) (returns-clause-fetched g c)

@@ -1,0 +1,5 @@
+-- The laws of lawful cycles, for callers to cite.
+-- sums that agree at each
+pub use Rattle.lawful_cycle.proofs.Listed.{sum_agree}
+-- views are equal where their contexts are; what a view with entries renamed shows of a context, and with none renamed
+pub use Rattle.lawful_cycle.proofs.SameViews.{same_views, renamed_in, renamed_none}
