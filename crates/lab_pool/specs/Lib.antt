@@ -1,1 +1,4 @@
 pub mod FaultText
+pub mod Counts
+pub mod Book
+pub mod Allowed

@@ -1,7 +1,6 @@
-use Rattle.std.proofs.Common.{arith}
 use Rattle.core_cycle.specs.Shown.{shown}
 use Rattle.core_run.specs.Told.{figures_of}
-use Rattle.core_run.proofs.Runs.{few_in_flight, underway_first, underway_next, underway_room, underway_end}
+use Rattle.core_run.proofs.Runs.{few_in_flight, underway_first}
 use Rattle.core_run.proofs.run.advance.Goals as goal
 
 pub loop-cycle-init : goal.loop-cycle-init
