@@ -29,11 +29,33 @@ x5 0000000000000007
 memory 02f5d09ff1621d14855098874649f25006641c873b3f01d89c6bef590e7890ad
 """
 
+LONE_ECALL = b"""contexts = ["only"]
+[programs]
+only = "ecall"
+[[jobs]]
+limit = 1000
+targets = [100]
+[jobs.profile]
+front_delay = 1
+"""
+
+REPORT = """smt-lab report 1
+context 0 count 0 stop 8 pc 0000000000010000
+memory e41f7967b2a855a3ebd0f9b609fd6a02e4a4c078758a614d669b8b23d14119ee
+""" + "".join(f"""context {context} count 0 stop 1 pc 0000000000010000
+memory e3b0c44298fc1c149afbf4c8996fb92427ae41e4649b934ca495991b7852b855
+""" for context in range(1, 8)) + """job 0 opening reached cycles 3 fetched 1 renamed 1 issued 0 retired 0 squashed 1 ipc 0
+marks 0 0 0 0 0 0 0 0
+"""
+
 FILES: List[Tuple[Word, bytes]] = [
     ("countdown.s", COUNTDOWN),
     ("halt.s", b".word 0\nhalt\n"),
     ("latin.s", b".word 0 # \xff\n"),
     ("a\nb.s", b"\xc3"),
+    ("lone.toml", LONE_ECALL),
+    ("speed.toml", b"speed = 1\n"),
+    ("loop.toml", b"[programs]\n\"l\\u0007p\" = \"nop\\nnop\\nj on\"\n"),
 ]
 
 
@@ -60,6 +82,14 @@ CASES = [
     Case(["asm", "latin.s"], 1, err="refused S1 latin.s\n"),
     Case(["asm", "a\nb.s"], 1, err="refused S1 a?b.s\n"),
     Case(["asm", "long.s"], 1, err="refused S1 long.s\n"),
+    Case(["run", "lone.toml"], 0, REPORT),
+    Case(["run", "--workers", "1", "lone.toml"], 0, REPORT),
+    Case(["run", "speed.toml"], 1, err="refused J1\n"),
+    Case(["run", "loop.toml"], 1, err="refused J5 l?p A4 line 3\n"),
+    Case(["run", "none.toml"], 1, err="refused S1 none.toml\n"),
+    Case(["run", "latin.s"], 1, err="refused S1 latin.s\n"),
+    Case(["run", "lone.toml"], 1, err="refused S2 -\n", out_is_full=True),
+    Case(["run", "lone.toml", "--workers", "2"], 2, err="error: .."),
     Case(["asm", "countdown.s"], 1, err="refused S2 -\n", out_is_full=True),
     Case(["step", "countdown.s", "--count", "7"], 1, err="refused S2 -\n", out_is_full=True),
     Case(["--help"], 0, "Runs RV64I programs and merges their checkpoints\n.."),

@@ -1,8 +1,8 @@
 -- The block of the furthest mark is the one that `step` writes.
-use Rattle.std.proofs.Common.{◌≡◌, ◌∙◌, ℕ, List, [], Option, Some, ap, subst}
+use Rattle.std.proofs.Common.{◌≡◌, ◌∙◌, ℕ, List, [], Option, ap, subst}
 use Rattle.std.specs.Option.{option_map_or}
 use Rattle.checkpoint.specs.Furthest.{IsFurthest}
-use Rattle.checkpoint.specs.MarkValue.{MarkValue, state_of}
+use Rattle.checkpoint.specs.MarkValue.{MarkValue}
 use Rattle.hart_step.specs.Next.{Ran}
 use Rattle.hart_step.specs.State.{State}
 use Rattle.origin_set.specs.OriginValue.{OriginValue}

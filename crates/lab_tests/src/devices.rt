@@ -16,7 +16,7 @@ pub fn written(alloc: &Global, request: Request<'_>, file: &[u8]) -> Result<Stri
 {
     let mut input = Watched::new(file, String::from_str(alloc, "in")?);
     let mut output = Watched::new(Vec::new(alloc), String::from_str(alloc, "-")?);
-    serve(alloc, request, &mut input, &mut output)?;
+    serve(alloc, *alloc, request, &mut input, &mut output)?;
     Ok(str::from_utf8(&output.into_inner())?.to_string(*alloc)?)
 }
 
@@ -33,7 +33,7 @@ pub fn refusal_line(
 {
     let mut input = Watched::new(file, String::from_str(alloc, name)?);
     let mut output = Watched::new(Vec::new(alloc), String::from_str(alloc, "-")?);
-    let refusal = serve(alloc, request, &mut input, &mut output)
+    let refusal = serve(alloc, *alloc, request, &mut input, &mut output)
         .err()
         .ok_or("no refusal")?;
     assert!(rt; output.into_inner().is_empty());
@@ -114,7 +114,7 @@ pub fn over_failing_readers(
         };
         let mut input = Watched::new(reader, String::from_str(alloc, "in")?);
         let mut output = Watched::new(Vec::new(alloc), String::from_str(alloc, "-")?);
-        let refusal = serve(alloc, request, &mut input, &mut output)
+        let refusal = serve(alloc, *alloc, request, &mut input, &mut output)
             .err()
             .ok_or("no refusal")?;
         assert!(rt; input.failed());
@@ -128,7 +128,7 @@ pub fn over_failing_readers(
     };
     let mut input = Watched::new(reader, String::from_str(alloc, "in")?);
     let mut output = Watched::new(Vec::new(alloc), String::from_str(alloc, "-")?);
-    serve(alloc, request, &mut input, &mut output)?;
+    serve(alloc, *alloc, request, &mut input, &mut output)?;
     assert!(rt; !input.failed());
     Ok(())
 }
@@ -147,7 +147,7 @@ fn into_failing_writer(
     let fails_at = writer.fails_at;
     let mut input = Watched::new(file, String::from_str(alloc, "in")?);
     let mut output = Watched::new(writer, String::from_str(alloc, "-")?);
-    let result = serve(alloc, request, &mut input, &mut output);
+    let result = serve(alloc, *alloc, request, &mut input, &mut output);
     assert_eq!(rt; output.failed(), result.is_err());
     if let Err(refusal) = result {
         assert_eq!(rt; refusal.to_string(*alloc)?.as_str(), "refused S2 -");

@@ -12,6 +12,10 @@ mod listings;
 #[cfg(test)]
 mod memory;
 #[cfg(test)]
+mod plans;
+#[cfg(test)]
 mod refusals;
+#[cfg(test)]
+mod reports;
 #[cfg(test)]
 mod words;

@@ -17,7 +17,7 @@ fn ending(alloc: Global, request: Request<'_>, size: usize) -> Result<String, Fa
     let heap = LocalHeap::new(alloc, size)?;
     let mut input = Watched::new(PROGRAM.as_bytes(), String::from_str(alloc, "in")?);
     let mut output = Watched::new(Vec::new(alloc), String::from_str(alloc, "-")?);
-    match serve(&heap, request, &mut input, &mut output) {
+    match serve(&heap, alloc, request, &mut input, &mut output) {
         Ok(()) => Ok(String::from_str(alloc, "written")?),
         Err(refusal) => Ok(refusal.to_string(alloc)?),
     }

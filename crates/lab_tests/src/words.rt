@@ -17,6 +17,11 @@ fn words_of_asm_and_step(rt: HostRuntime) -> Result<(), Fail> {
         with: None,
     };
     assert!(rt; request == wanted);
+    let run = words(alloc, &["run", "mix.toml"])?;
+    assert!(rt; run == (Request::Run { plan: "mix.toml" }));
+    assert_eq!(rt; run.file(), "mix.toml");
+    let run = words(alloc, &["run", "--workers", "1", "mix.toml"])?;
+    assert!(rt; run == (Request::Run { plan: "mix.toml" }));
     let other_order = ["step", "--with=0", "--count", "+1099511627776", "--", "-.s"];
     let request = words(alloc, &other_order)?;
     let wanted = Request::Step {
@@ -31,7 +36,7 @@ fn words_of_asm_and_step(rt: HostRuntime) -> Result<(), Fail> {
 #[test]
 fn words_that_are_wrong(rt: HostRuntime) -> Result<(), Fail> {
     let alloc = rt.alloc();
-    let table: [&[&str]; 15] = [
+    let table: [&[&str]; 20] = [
         &[],
         &["asm"],
         &["asm", "a", "b"],
@@ -47,18 +52,24 @@ fn words_that_are_wrong(rt: HostRuntime) -> Result<(), Fail> {
         &["step", "a", "b", "--count", "7"],
         &["step", "-a", "--count", "7"],
         &["halt", "a"],
+        &["run"],
+        &["run", "a", "b"],
+        &["run", "a", "--workers", "0"],
+        &["run", "a", "--workers", "2"],
+        &["run", "a", "--count", "7"],
     ];
     for words_given in table {
         let error = words(alloc, words_given).err().ok_or("no error")?;
         assert!(rt; error.use_stderr());
         assert_eq!(rt; error.exit_code(), 2);
     }
-    let helps: [&[&str]; 5] = [
+    let helps: [&[&str]; 6] = [
         &["--help"],
         &["-h"],
         &["help"],
         &["step", "--help"],
         &["asm", "-h"],
+        &["run", "--help"],
     ];
     for words_given in helps {
         let error = words(alloc, words_given).err().ok_or("no error")?;

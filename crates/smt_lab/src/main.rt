@@ -69,7 +69,7 @@ fn answer<'a, R: Files + Print>(
 {
     let mut input = source(rt, alloc, request.file())?;
     let mut output = standard_output(rt, alloc)?;
-    serve(alloc, request, &mut input, &mut output)
+    serve(alloc, *alloc, request, &mut input, &mut output)
 }
 
 /// Does what the words of the command line ask for.

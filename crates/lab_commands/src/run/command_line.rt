@@ -1,6 +1,6 @@
 //! The command line, read with `clap`.
 
-ghost use Rattle.std.specs.Prelude.{◌≡◌, IfNone, IfOk, IfSome, IsSomeAnd, false, map, option_map};
+ghost use Rattle.std.specs.Prelude.{◌≡◌, IfNone, IfOk, IfSome, IsSomeAnd, codes, false, map, option_map};
 ghost use Rattle.clap.specs.Words.{FailsBy, HasMatchesOf, app_of, fault_of, found_of, rows_of, rule_of, subcommand_rows_of};
 ghost use Rattle.lab_commands.specs.CommandLine as spec;
 
@@ -24,15 +24,20 @@ pub enum Request<'a> {
         count: u64,
         with: Option<u64>,
     },
+    /// `run PLAN [--workers 1]`.
+    Run {
+        plan: &'a str,
+    },
 }
 
 impl<'a> Request<'a> {
-    /// The FILE whose text the command reads.
+    /// The file whose text the command reads: FILE or PLAN.
     pub fn file(&self) -> &'a str
         ensures { result.now ≡ spec.file_of self.now }
     {
         match *self {
             Request::Asm { file } | Request::Step { file, .. } => file,
+            Request::Run { plan } => plan,
         }
     }
 }
@@ -49,6 +54,18 @@ fn file<'a>(alloc: Global) -> Arg<'a>
         .action(ArgAction::Set)
 }
 
+/// The argument PLAN.
+fn plan<'a>(alloc: Global) -> Arg<'a>
+    ensures rule { rule_of result ≡ spec.plan }
+    ensures local { result.global ≡ false }
+{
+    Arg::new(alloc, "plan")
+        .value_name("PLAN")
+        .help("The plan's text")
+        .required(true)
+        .action(ArgAction::Set)
+}
+
 /// An option with a number from 0 to 2^40.
 fn number_option<'a>(alloc: Global, name: &'a str, value: &'a str, help: &'a str) -> Arg<'a>
     ensures rule { rule_of result ≡ spec.number name.entry.now }
@@ -60,6 +77,19 @@ fn number_option<'a>(alloc: Global, name: &'a str, value: &'a str, help: &'a str
         .help(help)
         .action(ArgAction::Set)
         .value_parser(clap::value_parser!(u64).range(0..GREATEST as i64 + 1))
+}
+
+/// The option `--workers`: one worker runs the jobs.
+fn workers<'a>(alloc: Global) -> Arg<'a>
+    ensures rule { rule_of result ≡ spec.one (codes "workers") }
+    ensures local { result.global ≡ false }
+{
+    Arg::new(alloc, "workers")
+        .long("workers")
+        .value_name("N")
+        .help("How many workers run the jobs: 1")
+        .action(ArgAction::Set)
+        .value_parser(clap::value_parser!(u64).range(1..2))
 }
 
 /// `asm FILE`.
@@ -95,19 +125,39 @@ fn step_command<'a>(alloc: Global) -> Result<Command<'a>, AllocError>
         .arg(with)
 }
 
+/// `run PLAN [--workers 1]`.
+fn run_command<'a>(alloc: Global) -> Result<Command<'a>, AllocError>
+    ensures { IfOk result (spec.Is spec.run) }
+{
+    Command::new(alloc, "run")
+        .about("Runs a plan's jobs and prints their report")
+        .arg(plan(alloc))?
+        .arg(workers(alloc))
+}
+
+/// The program, without its commands.
+fn bare_command<'a>(alloc: Global) -> Result<Command<'a>, AllocError>
+    ensures { IfOk result (λ command. app_of command ≡ spec.bare) }
+{
+    let command = Command::new(alloc, "smt-lab")
+        .bin_name("smt-lab")?
+        .about("Runs RV64I programs and merges their checkpoints")
+        .no_binary_name(true)
+        .subcommand_required(true);
+    Ok(command)
+}
+
 /// The whole command line.
 fn lab_command<'a>(alloc: Global) -> Result<Command<'a>, AllocError>
     ensures { IfOk result (λ command. app_of command ≡ spec.lab) }
 {
     let asm = asm_command(alloc)?;
     let step = step_command(alloc)?;
-    Command::new(alloc, "smt-lab")
-        .bin_name("smt-lab")?
-        .about("Runs RV64I programs and merges their checkpoints")
-        .no_binary_name(true)
-        .subcommand_required(true)
+    let run = run_command(alloc)?;
+    bare_command(alloc)?
         .subcommand(asm)?
-        .subcommand(step)
+        .subcommand(step)?
+        .subcommand(run)
 }
 
 /// The number that a text writes, where it is one up to 2^40.
@@ -169,6 +219,16 @@ fn step_request<'a>(matches: &ArgMatches<'a>) -> Option<Request<'a>>
     Some(Request::Step { file, count, with })
 }
 
+/// What the matches of `run` ask for. There is nothing where they lack PLAN.
+fn run_request<'a>(matches: &ArgMatches<'a>) -> Option<Request<'a>>
+    ensures name { IfSome result (λ request. spec.name_of request ≡ spec.run.top.name) }
+    ensures some { IfSome result (spec.IsRequestOf (rows_of (found_of matches.now))) }
+    ensures none { IfNone result (¬ spec.HasRunWords (rows_of (found_of matches.now))) }
+{
+    let plan = text_at(matches, "plan")?;
+    Some(Request::Run { plan })
+}
+
 /// What the matches ask for. There is nothing where they name no command, or lack what it needs.
 fn request_of<'a>(matches: &ArgMatches<'a>) -> Option<Request<'a>>
     ensures some { IfSome result (spec.IsAsked (subcommand_rows_of matches.now)) }
@@ -176,7 +236,10 @@ fn request_of<'a>(matches: &ArgMatches<'a>) -> Option<Request<'a>>
 {
     match matches.subcommand_matches("asm") {
         Some(asm) => asm_request(asm),
-        None => step_request(matches.subcommand_matches("step")?),
+        None => match matches.subcommand_matches("step") {
+            Some(step) => step_request(step),
+            None => run_request(matches.subcommand_matches("run")?),
+        },
     }
 }
 

@@ -1,10 +1,12 @@
 //! Why a command refuses.
 
 ghost use Rattle.std.specs.Prelude.{◌≡◌, IfOk, string_bytes};
-ghost use Rattle.lab_commands.specs.Refusals.{UnreadOf, UnwrittenOf, printed_char, printed_name};
+ghost use Rattle.lab_commands.specs.Refusals.{UnplannedOf, UnreadOf, UnwrittenOf, printed_char, printed_name};
 
 use crate::device::{Sink, Source};
 use checkpoint::MarkFault;
+use lab_plan::PlanFault;
+use lab_pool::PoolFault;
 use rv64_asm::AsmFault;
 use std::alloc::{AllocError, AllocFailed, Allocator, Global};
 use std::error::Error;
@@ -18,6 +20,12 @@ pub enum Refusal<A: Allocator = Global> {
     /// C3: there is no memory for a mark. A command joins marks of one origin and context, so
     /// that C1 and C2 don't come.
     Mark(MarkFault),
+    /// J1 to J5: the plan is refused, by this code with its details.
+    Plan(String<A>),
+    /// J6: there is no memory for the plan.
+    PlanOutOfMemory,
+    /// E1: there was no memory for this job, counted from 0, the first such one. The report is written.
+    Job(usize),
     /// E1: memory ran out where no other code says so.
     OutOfMemory,
     /// S1: the file of this name can't be read, is too long or is no UTF-8.
@@ -35,6 +43,9 @@ impl<A: Allocator> fmt::Display for Refusal<A> {
         match self {
             Refusal::Assembly(fault) => write!(f, "refused {fault}"),
             Refusal::Mark(fault) => write!(f, "refused {fault}"),
+            Refusal::Plan(fault) => write!(f, "refused {fault}"),
+            Refusal::PlanOutOfMemory => write!(f, "refused J6"),
+            Refusal::Job(job) => write!(f, "refused E1 job {job}"),
             Refusal::OutOfMemory => write!(f, "refused E1"),
             Refusal::Unread(name) => write!(f, "refused S1 {name}"),
             Refusal::Unwritten(name) => write!(f, "refused S2 {name}"),
@@ -63,6 +74,19 @@ impl<A: Allocator> From<MarkFault> for Refusal<A> {
 
     fn from(fault: MarkFault) -> Self {
         Self::Mark(fault)
+    }
+}
+
+impl<A: Allocator> From<PoolFault> for Refusal<A> {
+    ghost use Rattle.std.specs.Prelude.{◌≡◌};
+    ghost use Rattle.lab_commands.specs.declared.run.refusal.Refusal.TheVariants.{OutOfMemory};
+
+    ghost from_gives = { λ _ refusal. refusal ≡ OutOfMemory };
+
+    fn from(fault: PoolFault) -> Self {
+        match fault {
+            PoolFault::OutOfMemory => Self::OutOfMemory,
+        }
     }
 }
 
@@ -100,6 +124,22 @@ fn printed_name<A: Allocator>(alloc: A, name: &str) -> Result<String<A>, AllocEr
     ensures { IfOk result (λ text. string_bytes text ≡ printed_name name.now) }
 {
     name.chars().map(printed_char).collect(alloc)
+}
+
+/// The refusal of a plan.
+pub fn unplanned<A: Allocator + Copy>(alloc: A, fault: &PlanFault) -> Refusal<A>
+    ensures { UnplannedOf fault.now result }
+{
+    if matches!(fault, PlanFault::OutOfMemory) {
+        return Refusal::PlanOutOfMemory;
+    }
+    let Ok(text) = fault.to_string(alloc) else {
+        return Refusal::OutOfMemory;
+    };
+    match printed_name(alloc, &text) {
+        Ok(text) => Refusal::Plan(text),
+        Err(_) => Refusal::OutOfMemory,
+    }
 }
 
 /// The refusal of a source that can't be read.
