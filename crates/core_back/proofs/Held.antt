@@ -1,8 +1,8 @@
 -- Loads that are held in the issue queue until they are clear.
-use Rattle.std.proofs.Common.{◌≡◌, ◌≢◌, ℕ, zero, suc, ◌+◌, ◌<◌, ◌≤◌, Bool, true, false, not, List, [], ◌∷◌, length, get_or, take, map, Option, Some, None, refl, sym, ap, ◌∙◌, arith, inl, inr}
-use Rattle.std.specs.Prelude.{◌==◌, set, if◌then◌else◌}
-use Rattle.std.proofs.lemmas.Bool.{and_parts, eqb-true, cases_lt}
-use Rattle.std.proofs.lemmas.List.Elements.{All-map}
+use Rattle.std.proofs.Common.{◌≡◌, ◌≢◌, ℕ, zero, suc, ◌+◌, ◌<◌, ◌≤◌, Bool, true, false, not, List, [], ◌∷◌, length, get_or, take, map, Option, Some, None, refl, sym, ap, subst, ◌∙◌, arith, inl, inr}
+use Rattle.std.specs.Prelude.{All, ◌||◌, ◌==◌, set, if◌then◌else◌}
+use Rattle.std.proofs.lemmas.Bool.{and_parts, or_parts, eqb-true, cases_lt}
+use Rattle.std.proofs.lemmas.List.Elements.{All-map, All-head, All-tail}
 use Rattle.hart_step.specs.declared.effect.Effect.{Effect}
 use Rattle.hart_step.specs.declared.effect.Effect.TheVariants as effect
 use Rattle.hart_step.specs.Effects.{effect_of}
@@ -22,9 +22,9 @@ use Rattle.core_view.specs.Queues.{stores_of, sharing_in}
 use Rattle.core_view.specs.View.{Context, entry_at, no_entry}
 use Rattle.core_view.proofs.Accesses.{is_load_effect, effect_loads}
 use Rattle.core_view.proofs.Queues.{queue_sharing}
-use Rattle.data_flow.specs.Flow.{Flow, Waiter, lane, sources_at, is_waiter, with_held}
+use Rattle.data_flow.specs.Flow.{Flow, Waiter, lane, sources_at, is_waiter, with_held, released}
 use Rattle.lawful_cycle.specs.Issue.{is_clear_on}
-use Rattle.core_back.specs.Issuable.{IsAnswered, may_issue_at, IsHeld, AreHeld, IsClear}
+use Rattle.core_back.specs.Issuable.{IsAnswered, may_issue_at, IsMarked, AreLetGo, must_wait, AreHeld, IsClear}
 use Rattle.core_back.specs.Queued.{unheld}
 use Rattle.core_back.specs.Steps.{IsRemarked}
 use Rattle.core_back.specs.Track.{Track, issued}
@@ -68,36 +68,62 @@ pub remarked_lane : (f g : Flow) (c : ℕ) → IsRemarked f g → lane g c ≡ l
 remarked_lane f g c marks = ap (λ (q : Flow). lane q c) marks.flow
 
 -- the entry is held
-pub held_here : (f g : Flow) (c k : ℕ) → g ≡ record f { waiters = map (with_held c k true) f.waiters } → IsHeld g c k
+held_here : (f g : Flow) (c k : ℕ) → g ≡ record f { waiters = map (with_held c k true) f.waiters } → IsMarked g c k true
 held_here f g c k is = rw is (All-map (λ (w : Waiter). is_waiter c k w ≡ true → w.held ≡ true) (with_held c k true) f.waiters (λ i d lt. one (get_or f.waiters i d)))
   where
     one : (w : Waiter) → is_waiter c k (with_held c k true w) ≡ true → (with_held c k true w).held ≡ true
     one w named = let same : is_waiter c k w ≡ true = sym (same_waiter c k c k true w) ∙ named in rw same refl
 
--- the entry at a place is held where it may not issue on the values that its sources have
-pub held_waiting : (f g : Flow) (c : ℕ) (t : Track) (i first second : ℕ) (flag : Bool) (e : Entry) (sources : Option (ℕ × ℕ)) → e ≡ entry_at t.context i → sources ≡ sources_at (lane f c) i → sources ≡ Some (first, second) → flag ≡ not (may_issue_at t.context i first second)
-    → g ≡ record f { waiters = map (with_held c e.stamp flag) f.waiters } → (a b : ℕ) → sources_at (lane f c) i ≡ Some (a, b) → may_issue_at t.context i a b ≡ false → IsHeld g c (entry_at t.context i).stamp
-held_waiting f g c t i first second flag e sources entry read some told is a b known waits =
-    let same : (first, second) ≡ (a, b) = let both : Some (first, second) ≡ Some (a, b) = sym some ∙ read ∙ known in cc in
-    let held : flag ≡ true = told ∙ ap (λ (p : ℕ × ℕ). not (may_issue_at t.context i p.0 p.1)) same ∙ ap not waits in
-    held_here f g c (entry_at t.context i).stamp (is ∙ ap (λ (k : ℕ). let r : Flow = record f { waiters = map (with_held c k flag) f.waiters } in r) (ap (λ (n : Entry). n.stamp) entry) ∙ ap (λ (b : Bool). let r : Flow = record f { waiters = map (with_held c (entry_at t.context i).stamp b) f.waiters } in r) held)
+-- the entry at a place is held, which has to wait on the values that its sources have
+pub held_waiting : (f g : Flow) (c : ℕ) (t : Track) (i first second : ℕ) (wait : Bool) (e : Entry) (sources : Option (ℕ × ℕ)) → e ≡ entry_at t.context i → sources ≡ sources_at (lane f c) i → sources ≡ Some (first, second) → wait ≡ not (may_issue_at t.context i first second)
+    → wait ≡ true → g ≡ record f { waiters = map (with_held c e.stamp true) f.waiters } → IsMarked g c (entry_at t.context i).stamp (must_wait t.context i (sources_at (lane f c) i))
+held_waiting f g c t i first second wait e sources entry read some told holds is =
+    let asked : must_wait t.context i (sources_at (lane f c) i) ≡ true = ap (must_wait t.context i) (sym read ∙ some) ∙ sym told ∙ holds in
+    subst (IsMarked g c (entry_at t.context i).stamp) (sym asked) (held_here f g c (entry_at t.context i).stamp (is ∙ ap (λ (n : Entry). let r : Flow = record f { waiters = map (with_held c n.stamp true) f.waiters } in r) entry))
 
--- an entry of another context or stamp is held as it was
-pub held_other : (f g : Flow) (c k : ℕ) (flag : Bool) (e : Entry) (d j : ℕ) → e.stamp ≡ k → g ≡ record f { waiters = map (with_held c e.stamp flag) f.waiters } → (j ≡ k → d ≢ c) → IsHeld f d j → IsHeld g d j
-held_other f g c k flag entry d j stamp is other before = rw (is, stamp) (All-map (λ (w : Waiter). is_waiter d j w ≡ true → w.held ≡ true) (with_held c k flag) f.waiters (λ i e lt. one (get_or f.waiters i e) (before i e lt)))
+-- and it stays let go where it has not
+pub free_waiting : (f : Flow) (c : ℕ) (t : Track) (i : ℕ) → must_wait t.context i (sources_at (lane f c) i) ≡ false → IsMarked f c (entry_at t.context i).stamp false → IsMarked f c (entry_at t.context i).stamp (must_wait t.context i (sources_at (lane f c) i))
+free_waiting f c t i asked let_go = subst (IsMarked f c (entry_at t.context i).stamp) (sym asked) let_go
+
+-- an entry of another context or stamp is marked as it was
+pub held_other : (f g : Flow) (c k : ℕ) (e : Entry) (d j : ℕ) (b : Bool) → e.stamp ≡ k → g ≡ record f { waiters = map (with_held c e.stamp true) f.waiters } → (j ≡ k → d ≢ c) → IsMarked f d j b → IsMarked g d j b
+held_other f g c k entry d j b stamp is other before = rw (is, stamp) (All-map (λ (w : Waiter). is_waiter d j w ≡ true → w.held ≡ b) (with_held c k true) f.waiters (λ i e lt. one (get_or f.waiters i e) (before i e lt)))
   where
-    one : (w : Waiter) → (is_waiter d j w ≡ true → w.held ≡ true) → is_waiter d j (with_held c k flag w) ≡ true → (with_held c k flag w).held ≡ true
+    one : (w : Waiter) → (is_waiter d j w ≡ true → w.held ≡ b) → is_waiter d j (with_held c k true w) ≡ true → (with_held c k true w).held ≡ b
     one w was named = by_test (is_waiter c k w) refl
       where
         of : is_waiter d j w ≡ true
-        of = sym (same_waiter c k d j flag w) ∙ named
+        of = sym (same_waiter c k d j true w) ∙ named
 
-        by_test : (b : Bool) → is_waiter c k w ≡ b → (let v : Waiter = if b then record w { held = flag } else w in v.held) ≡ true
+        by_test : (t : Bool) → is_waiter c k w ≡ t → (let v : Waiter = if t then record w { held = true } else w in v.held) ≡ b
         by_test true h =
             let here = and_parts (w.context == c) (w.stamp == k) h in
             let there = and_parts (w.context == d) (w.stamp == j) of in
             absurd (other (sym (eqb-true w.stamp j there.1) ∙ eqb-true w.stamp k here.1) (sym (eqb-true w.context d there.0) ∙ eqb-true w.context c here.0))
         by_test false h = was of
+
+-- ---- all are let go
+
+pub released_none : (f : Flow) → AreLetGo f → f ≡ record f { waiters = map released f.waiters }
+released_none f all = ap (λ (ws : List Waiter). let r : Flow = record f { waiters = ws } in r) (go f.waiters all)
+  where
+    go : (ws : List Waiter) → All (λ (w : Waiter). w.held ≡ false) ws → ws ≡ map released ws
+    go [] all = refl
+    go (w ∷ ws) all =
+        let here : w.held ≡ false = All-head (λ (v : Waiter). v.held ≡ false) w ws all in
+        ap (λ (b : Bool). let v : Waiter = record w { held = b } in v ∷ ws) here ∙ ap (λ vs. released w ∷ vs) (go ws (All-tail (λ (v : Waiter). v.held ≡ false) w ws all))
+
+pub released_remarked : (f g : Flow) → g ≡ record f { waiters = map released f.waiters } → IsRemarked f g
+released_remarked f g is = record {
+  flow = is ∙ ap (λ (ws : List Waiter). let r : Flow = record f { waiters = ws } in r) (sym (ap (λ (q : Flow). q.waiters) is));
+  waits = ap (λ (q : Flow). map unheld q.waiters) is ∙ unheld-map released (λ w. refl) f.waiters;
+}
+
+pub released_all : (f g : Flow) → g ≡ record f { waiters = map released f.waiters } → AreLetGo g
+released_all f g is = rw is (All-map (λ (w : Waiter). w.held ≡ false) released f.waiters (λ i d lt. refl))
+
+pub let_go_marked : (f : Flow) → AreLetGo f → (c k : ℕ) → IsMarked f c k false
+let_go_marked f all c k i d lt named = all i d lt
 
 -- ---- entries that may issue
 
@@ -134,53 +160,67 @@ queued_within [] i h = absurd (let bad : Fetched ≡ Queued = h in cc)
 queued_within (e ∷ es) zero h = omega arith
 queued_within (e ∷ es) (suc i) h = let ih = queued_within es i h in omega (arith, ih)
 
--- so none has to be held there
-pub none_stored_held : (f : Flow) (c : ℕ) (t : Track) → ((i : ℕ) → i < t.renamed → IsAnswered t.context i) → stores_of t.context.flight ≡ [] → AreHeld f c t
-none_stored_held f c t answered none i a b lt stage sources waits =
-    absurd (let bad : true ≡ false = sym (none_stored_may t.context i a b (queued_within t.context.flight i stage) (answered i lt) none) ∙ waits in cc)
+-- what isn't a load has not to wait
+pub plain_wait : (x : Context) (i : ℕ) → is_load (entry_at x i).operation ≡ false → (sources : Option (ℕ × ℕ)) → must_wait x i sources ≡ false
+plain_wait x i h None = refl
+plain_wait x i h (Some values) = ap not (plain_may (take i x.flight) (entry_at x i).operation (entry_at x i).pc values.0 values.1 h)
+
+none_stored_wait : (x : Context) (i : ℕ) → i < length x.flight → IsAnswered x i → stores_of x.flight ≡ [] → (sources : Option (ℕ × ℕ)) → must_wait x i sources ≡ false
+none_stored_wait x i lt h none None = refl
+none_stored_wait x i lt h none (Some values) = ap not (none_stored_may x i values.0 values.1 lt h none)
+
+-- so none has to where no store is in the queue
+pub none_stored_held : (f : Flow) (c : ℕ) (t : Track) → ((i : ℕ) → i < t.renamed → IsAnswered t.context i) → ((k : ℕ) → IsMarked f c k false) → stores_of t.context.flight ≡ [] → AreHeld f c t
+none_stored_held f c t answered let_go none i lt stage =
+    free_waiting f c t i (none_stored_wait t.context i (queued_within t.context.flight i stage) (answered i lt) none (sources_at (lane f c) i)) (let_go (entry_at t.context i).stamp)
 
 -- ---- the loads of a context, one after another
 
--- the first entries of a context were asked of, and the loads of them that wait are held
-pub record AreHeldBelow (old f : Flow) (c : ℕ) (t : Track) (n : ℕ) : Type 0 where
+-- the first entries of a context were asked of, and the loads of them that have to wait are held
+pub record AreHeldBelow (old f : Flow) (c : ℕ) (t : Track) (n : ℕ) (holds : Bool) : Type 0 where
   pub flow : IsRemarked old f
-  pub held : (i a b : ℕ) → i < n → (entry_at t.context i).stage ≡ Queued → sources_at (lane old c) i ≡ Some (a, b) → may_issue_at t.context i a b ≡ false → IsHeld f c (entry_at t.context i).stamp
-  pub others : (d k : ℕ) → d ≢ c → IsHeld old d k → IsHeld f d k
+  pub held : (i : ℕ) → i < n → (entry_at t.context i).stage ≡ Queued → IsMarked f c (entry_at t.context i).stamp (must_wait t.context i (sources_at (lane old c) i))
+  pub rest : (i : ℕ) → n ≤ i → i < length t.context.flight → IsMarked f c (entry_at t.context i).stamp false
+  pub others : (d k : ℕ) (b : Bool) → d ≢ c → IsMarked old d k b → IsMarked f d k b
+  pub none : holds ≡ false → f ≡ old
 
-pub held_first : (f : Flow) (c : ℕ) (t : Track) → AreHeldBelow f f c t 0
-held_first f c t = record { flow = remark_none f; held = λ i a b lt. absurd (omega (arith, lt)); others = λ d k other h. h }
+pub held_first : (f : Flow) (c : ℕ) (t : Track) → ((k : ℕ) → IsMarked f c k false) → AreHeldBelow f f c t 0 false
+held_first f c t let_go = record { flow = remark_none f; held = λ i lt. absurd (omega (arith, lt)); rest = λ i le lt. let_go (entry_at t.context i).stamp; others = λ d k b other h. h; none = λ h. refl }
 
 -- one more
-pub held_next : (old f g : Flow) (c : ℕ) (t : Track) (n : ℕ) → AreHeldBelow old f c t n → n < length t.context.flight → IsGrowing 0 t.context.flight → IsRemarked f g
-    → ((a b : ℕ) → (entry_at t.context n).stage ≡ Queued → sources_at (lane f c) n ≡ Some (a, b) → may_issue_at t.context n a b ≡ false → IsHeld g c (entry_at t.context n).stamp)
-    → ((d k : ℕ) → (k ≡ (entry_at t.context n).stamp → d ≢ c) → IsHeld f d k → IsHeld g d k) → AreHeldBelow old g c t (n + 1)
-held_next old f g c t n h lt growing marks here others = record {
+pub held_next : (old f g : Flow) (c : ℕ) (t : Track) (n : ℕ) (holds held now : Bool) → AreHeldBelow old f c t n holds → n < length t.context.flight → IsGrowing 0 t.context.flight → IsRemarked f g
+    → ((entry_at t.context n).stage ≡ Queued → IsMarked g c (entry_at t.context n).stamp (must_wait t.context n (sources_at (lane f c) n)))
+    → ((d k : ℕ) (b : Bool) → (k ≡ (entry_at t.context n).stamp → d ≢ c) → IsMarked f d k b → IsMarked g d k b) → (held ≡ false → g ≡ f) → now ≡ (holds || held) → AreHeldBelow old g c t (n + 1) now
+held_next old f g c t n holds held now h lt growing marks here others kept is = record {
   flow = remarked_twice old f g h.flow marks;
-  held = λ i a b below stage sources waits. elim (cases_lt i n) [
-    | inl before ↦ others c (entry_at t.context i).stamp
-        (λ same. absurd (let at = same_place 0 t.context.flight i n growing (queued_within t.context.flight i stage) lt same in omega (arith, at, before)))
-        (h.held i a b before stage sources waits)
-    | inr from ↦ let last : i ≡ n = omega (arith, from, below) in at_place i a b last stage sources waits
+  held = λ i below stage. elim (cases_lt i n) [
+    | inl before ↦ others c (entry_at t.context i).stamp (must_wait t.context i (sources_at (lane old c) i)) (λ same. apart i (queued_within t.context.flight i stage) same (omega (arith, before))) (h.held i before stage)
+    | inr from ↦ let last : i ≡ n = omega (arith, from, below) in at_place i last stage
   ];
-  others = λ d k other was. others d k (λ same. other) (h.others d k other was);
+  rest = λ i le within. others c (entry_at t.context i).stamp false (λ same. apart i within same (omega (arith, le))) (h.rest i (omega (arith, le)) within);
+  others = λ d k b other was. others d k b (λ same. other) (h.others d k b other was);
+  none = λ nothing. let parts = or_parts holds held (sym is ∙ nothing) in kept parts.1 ∙ h.none parts.0;
 }
   where
-    at_place : (i a b : ℕ) → i ≡ n → (entry_at t.context i).stage ≡ Queued → sources_at (lane old c) i ≡ Some (a, b) → may_issue_at t.context i a b ≡ false → IsHeld g c (entry_at t.context i).stamp
-    at_place i a b last stage sources waits =
+    apart : (i : ℕ) → i < length t.context.flight → (entry_at t.context i).stamp ≡ (entry_at t.context n).stamp → i ≢ n → c ≢ c
+    apart i within same other = absurd (other (same_place 0 t.context.flight i n growing within lt same))
+
+    at_place : (i : ℕ) → i ≡ n → (entry_at t.context i).stage ≡ Queued → IsMarked g c (entry_at t.context i).stamp (must_wait t.context i (sources_at (lane old c) i))
+    at_place i last stage =
         let lanes : lane f c ≡ lane old c = remarked_lane old f c h.flow in
-        rw last (here a b (rw last at stage) (rw lanes (rw last at sources)) (rw last at waits))
+        rw last (rw lanes at here (rw last at stage))
 
 -- all of them
-pub held_all : (old f : Flow) (c : ℕ) (t : Track) (n : ℕ) → AreHeldBelow old f c t n → t.renamed ≤ n → AreHeld f c t
-held_all old f c t n h le i a b lt stage sources waits =
+pub held_all : (old f : Flow) (c : ℕ) (t : Track) (n : ℕ) (holds : Bool) → AreHeldBelow old f c t n holds → t.renamed ≤ n → AreHeld f c t
+held_all old f c t n holds h le i lt stage =
     let lanes : lane f c ≡ lane old c = remarked_lane old f c h.flow in
-    h.held i a b (omega (arith, le, lt)) stage (rw lanes at sources) waits
+    rw lanes (h.held i (omega (arith, le, lt)) stage)
 
 -- of another context they are held still
-pub held_kept : (f g : Flow) (c : ℕ) (t : Track) → IsRemarked f g → ((k : ℕ) → IsHeld f c k → IsHeld g c k) → AreHeld f c t → AreHeld g c t
-held_kept f g c t marks keeps held i a b lt stage sources waits =
+pub held_kept : (f g : Flow) (c : ℕ) (t : Track) → IsRemarked f g → ((k : ℕ) (b : Bool) → IsMarked f c k b → IsMarked g c k b) → AreHeld f c t → AreHeld g c t
+held_kept f g c t marks keeps held i lt stage =
     let lanes : lane g c ≡ lane f c = remarked_lane f g c marks in
-    keeps (entry_at t.context i).stamp (held i a b lt stage (rw lanes at sources) waits)
+    rw lanes (keeps (entry_at t.context i).stamp (must_wait t.context i (sources_at (lane f c) i)) (held i lt stage))
 
 -- ---- an entry that issues
 

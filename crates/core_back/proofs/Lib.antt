@@ -14,6 +14,7 @@ pub mod Renames
 pub mod Retires
 pub mod Seen
 pub mod Selections
+pub mod Chosen
 pub mod Slots
 pub mod Stages
 pub mod Starts

@@ -1,11 +1,11 @@
 -- A selection, and the issue of the first entry that was selected, in the machine.
 use Rattle.std.proofs.Common.{◌≡◌, ◌≢◌, ℕ, zero, suc, ◌+◌, ◌<◌, ◌≤◌, Bool, true, false, List, [], ◌∷◌, length, get_or, drop, map, Option, Some, refl, sym, ap, subst, ◌∙◌, arith, inl, inr}
-use Rattle.std.specs.Prelude.{◌==◌, not, set, All, AllPairs, IfSome, is_some}
+use Rattle.std.specs.Prelude.{◌||◌, ◌==◌, not, set, All, AllPairs, IfSome, is_some}
 use Rattle.std.proofs.lemmas.List.Elements.{All-filter}
-use Rattle.std.proofs.lemmas.Bool.{cases_lt, lt-ltb}
+use Rattle.std.proofs.lemmas.Bool.{cases_lt, lt-ltb, or_parts}
 use Rattle.std.proofs.lemmas.Bool.Decides.{nat_tests}
 use Rattle.std.specs.Arc.{arc_value}
-use Rattle.std.proofs.lemmas.List.{get_or-set_same, get_or-set_other, get_or_past, set-get_or, length-set, map-set}
+use Rattle.std.proofs.lemmas.List.{get_or-set_same, get_or-set_other, get_or_past, length-set, map-set}
 use Rattle.core_view.specs.declared.note.EntryId.{EntryId}
 use Rattle.origin_set.specs.Start.{start}
 use Rattle.core_view.specs.View.{Context, entry_at, seen_at}
@@ -14,9 +14,9 @@ use Rattle.core_view.specs.Outcomes.{image_of, outcome_in}
 use Rattle.core_view.specs.declared.entry.Execution.{Execution}
 use Rattle.core_view.specs.declared.entry.Stage.TheVariants.{Queued}
 use Rattle.core_back.specs.declared.machine.Machine.TheInside.{Inside}
-use Rattle.data_flow.specs.Flow.{Flow, lane, queued, waits_in, sources_at}
+use Rattle.data_flow.specs.Flow.{Flow, lane, queued, waits_in, sources_at, released}
 use Rattle.core_back.specs.Track.{Track, issued}
-use Rattle.core_back.specs.Issuable.{may_issue_at, IsHeld, AreHeld, IsClear}
+use Rattle.core_back.specs.Issuable.{may_issue_at, IsMarked, AreLetGo, AreHeld, IsClear}
 use Rattle.data_tags.specs.declared.delay.Kind.{Kind}
 use Rattle.data_tags.specs.declared.delay.Lag.{Lag}
 use Rattle.lawful_cycle.specs.Delays.{kind_of, address_in, IsLagOf}
@@ -26,13 +26,13 @@ use Rattle.core_back.specs.Steps.{IsRemarked}
 use Rattle.core_back.specs.Cores.{is_selected, IsCore}
 use Rattle.core_back.specs.Machine.{Machine, context_at, with_context, no_track}
 use Rattle.core_back.specs.Shown.{machine_of, IsMachine, AreApart, IsSuppliedIn}
-use Rattle.core_back.proofs.Held.{remarked_twice, remarked_lane, held_kept, issued_clear}
+use Rattle.core_back.proofs.Held.{remarked_twice, remarked_lane, held_kept, issued_clear, released_remarked, released_all, let_go_marked}
 use Rattle.core_back.proofs.Issues.{core_sources, issue_core, issue_other}
 use Rattle.core_back.proofs.Machines.{At, at_context, idle_names, room_after}
-use Rattle.core_back.proofs.Remarks.{remark_none}
 use Rattle.core_back.proofs.Queue.{eight-remarked}
 use Rattle.core_back.proofs.Selections.{first_apart, rest_apart, ready_place, name_selected, remarked_core, select_core, select_waiters, select_apart, select_supplied, select_free, select_clear, select_idle}
 use Rattle.core_back.proofs.Seen.{node_count}
+use Rattle.core_back.proofs.Chosen.{StandsFor}
 use Rattle.issue_queue.specs.Entry.{Entry as Waiting}
 use Rattle.issue_queue.specs.IsSelected.{IsSelected}
 
@@ -136,8 +136,8 @@ module _ {A : Type 0} where
   -- the machine after the entry of the first name has issued
   pub issued_machine : (m w : Inside A) (now : Machine) (n : EntryId) (k : ℕ) (rest : List EntryId) (t : Track) (i : ℕ) (x : Execution) → IsMachine m → IsFirstName m now n rest t → n.context < 8 → i < length t.context.flight → (entry_at t.context i).stamp ≡ n.stamp
       → IsCore (start (arc_value m.origins.c0) n.context) m.stamp m.profile.reorder_buffer m.flow rest n.context (issued t i x)
-      → k ≡ n.context → w.origins ≡ m.origins → w.flow ≡ m.flow → w.tracks.items ≡ set m.tracks.items k (issued t i x) → w.selected.items ≡ rest → w.cycle ≡ m.cycle → w.stamp ≡ m.stamp → w.fetch_room ≡ m.fetch_room → w.profile ≡ m.profile → IsMachine w
-  issued_machine m w now n k rest t i x ok h lt within is core same origins flow tracks_k selected cycle stamp room profile =
+      → k ≡ n.context → w.origins ≡ m.origins → w.flow ≡ m.flow → w.tracks.items ≡ set m.tracks.items k (issued t i x) → w.selected.items ≡ rest → w.cycle ≡ m.cycle → w.stamp ≡ m.stamp → w.fetch_room ≡ m.fetch_room → w.profile ≡ m.profile → w.holds ≡ m.holds → IsMachine w
+  issued_machine m w now n k rest t i x ok h lt within is core same origins flow tracks_k selected cycle stamp room profile holds =
       let names : m.selected.items ≡ n ∷ rest = h.names in
       let u : Track = issued t i x in
       let stage = (ready_place h.core n.stamp i h.selected h.supplied within is).stage in
@@ -151,6 +151,7 @@ module _ {A : Type 0} where
         tracks = rw tracks (length-set m.tracks.items n.context u ∙ ok.tracks);
         lanes = rw flow ok.lanes;
         contexts = rw flow ok.contexts;
+        let_go = rw (flow, holds) ok.let_go;
         apart = rw selected (rest_apart n rest (subst (AllPairs AreApart) names ok.apart));
         supplied = rw (selected, flow) (λ i d below. supplied (suc i) d (omega (arith, below)));
         clear = rw (selected, flow, tracks) (λ j d below. issued_clear_in m.flow m.tracks.items n.context t i x (get_or rest j d) h.shown.in_tracks h.shown.track stage (clear (suc j) d (omega (arith, below))));
@@ -240,7 +241,7 @@ context_of cs i d is lt = rw is (by_place i lt)
     by_place (suc (suc (suc (suc (suc (suc (suc (suc i)))))))) lt = absurd (omega arith)
 
 module _ {A : Type 0} where
-  -- the loads of the first contexts were asked of, and nothing but marks of what waits has changed
+  -- the loads of the first contexts were asked of, and nothing but what is held has changed
   pub record IsHeldTo (m h : Inside A) (n : ℕ) : Type 0 where
     pub origins : h.origins ≡ m.origins
     pub flow : IsRemarked m.flow h.flow
@@ -250,9 +251,30 @@ module _ {A : Type 0} where
     pub room : h.fetch_room ≡ m.fetch_room
     pub profile : h.profile ≡ m.profile
     pub held : (c : ℕ) → c < n → AreHeld h.flow c (get_or m.tracks.items c no_track)
+    pub rest : (c : ℕ) → n ≤ c → (k : ℕ) → IsMarked h.flow c k false
+    pub none : h.holds ≡ false → AreLetGo h.flow
 
-  pub held_to_none : (m : Inside A) → IsHeldTo m m 0
-  held_to_none m = record { origins = refl; flow = remark_none m.flow; tracks = refl; cycle = refl; stamp = refl; room = refl; profile = refl; held = λ c lt. absurd (omega (arith, lt)) }
+  -- all are let go first
+  pub held_to_none : (m h : Inside A) → h.flow ≡ record m.flow { waiters = map released m.flow.waiters } → h.origins ≡ m.origins → h.tracks ≡ m.tracks → h.cycle ≡ m.cycle → h.stamp ≡ m.stamp → h.fetch_room ≡ m.fetch_room → h.profile ≡ m.profile → IsHeldTo m h 0
+  held_to_none m h is origins tracks cycle stamp room profile = record {
+    origins = origins;
+    flow = released_remarked m.flow h.flow is;
+    tracks = ap (λ v. v.items) tracks;
+    cycle = cycle;
+    stamp = stamp;
+    room = room;
+    profile = profile;
+    held = λ c lt. absurd (omega (arith, lt));
+    rest = λ c le k. let_go_marked h.flow (released_all m.flow h.flow is) c k;
+    none = λ unheld. released_all m.flow h.flow is;
+  }
+
+  -- the machine as it was before
+  pub record IsHeldFrom (now : Machine) (h : Inside A) (n : ℕ) : Type 0 where
+    pub machine : Inside A
+    pub shows : machine_of machine ≡ now
+    pub ok : IsMachine machine
+    pub so_far : IsHeldTo machine h n
 
   -- the next context
   pub context_next : (m h : Inside A) (now : Machine) (n k : ℕ) (t : Track) → machine_of m ≡ now → IsMachine m → IsHeldTo m h n → n < 8 → k ≡ n → t ≡ get_or h.tracks.items k t → At m now n t
@@ -261,28 +283,30 @@ module _ {A : Type 0} where
   pub held_nodes : (m h : Inside A) (now : Machine) (n c : ℕ) (t : Track) → At m now n t → IsHeldTo m h n → c ≡ n → length (lane h.flow c).nodes ≡ t.renamed
   held_nodes m h now n c t at_n so_far same = rw (same, remarked_lane m.flow h.flow n so_far.flow) (node_count at_n.core)
 
-  pub held_to_next : (m h w : Inside A) (now : Machine) (n k c : ℕ) (t u : Track) → At m now n t → IsHeldTo m h n → k ≡ n → c ≡ n → t ≡ get_or h.tracks.items k t → u ≡ t
-      → IsRemarked h.flow w.flow → AreHeld w.flow c t → ((d j : ℕ) → d ≢ c → IsHeld h.flow d j → IsHeld w.flow d j)
-      → w.origins ≡ h.origins → w.tracks.items ≡ set h.tracks.items k u → w.cycle ≡ h.cycle → w.stamp ≡ h.stamp → w.fetch_room ≡ h.fetch_room → w.profile ≡ h.profile → IsHeldTo m w (n + 1)
-  held_to_next m h w now n k c t u at_n so_far same context read kept marks here others origins tracks cycle stamp room profile = record {
+  pub held_to_next : (m h w : Inside A) (now : Machine) (n c : ℕ) (t : Track) (held : Bool) → At m now n t → IsHeldTo m h n → c ≡ n
+      → IsRemarked h.flow w.flow → AreHeld w.flow c t → ((d j : ℕ) (b : Bool) → d ≢ c → IsMarked h.flow d j b → IsMarked w.flow d j b) → (held ≡ false → w.flow ≡ h.flow)
+      → w.origins ≡ h.origins → w.tracks ≡ h.tracks → w.cycle ≡ h.cycle → w.stamp ≡ h.stamp → w.fetch_room ≡ h.fetch_room → w.profile ≡ h.profile → w.holds ≡ (h.holds || held) → IsHeldTo m w (n + 1)
+  held_to_next m h w now n c t held at_n so_far context marks here others kept origins tracks cycle stamp room profile holds = record {
     origins = origins ∙ so_far.origins;
     flow = remarked_twice m.flow h.flow w.flow so_far.flow marks;
-    tracks = tracks ∙ ap (set h.tracks.items k) (kept ∙ read) ∙ set-get_or h.tracks.items k t ∙ so_far.tracks;
+    tracks = ap (λ v. v.items) tracks ∙ so_far.tracks;
     cycle = cycle ∙ so_far.cycle;
     stamp = stamp ∙ so_far.stamp;
     room = room ∙ so_far.room;
     profile = profile ∙ so_far.profile;
     held = λ d lt. elim (cases_lt d n) [
-      | inl before ↦ held_kept h.flow w.flow d (get_or m.tracks.items d no_track) marks (λ j. others d j (λ is. absurd (omega (arith, before, is, context)))) (so_far.held d before)
+      | inl before ↦ held_kept h.flow w.flow d (get_or m.tracks.items d no_track) marks (λ j b. others d j b (λ is. absurd (omega (arith, before, is, context)))) (so_far.held d before)
       | inr from ↦ let last : d ≡ n = omega (arith, lt, from) in rw (last, ← at_n.track, ← context) here
     ];
+    rest = λ d le j. others d j false (λ is. absurd (omega (arith, le, is, context))) (so_far.rest d (omega (arith, le)) j);
+    none = λ unheld. let parts = or_parts h.holds held (sym holds ∙ unheld) in subst AreLetGo (sym (kept parts.1)) (so_far.none parts.0);
   }
 
   -- the machine after a selection among what isn't held
   pub selected_machine : (m h w : Inside A) (now : Machine) (n : ℕ) {key : Waiting → ℕ} {width : ℕ} {names : List EntryId} → machine_of m ≡ now → IsMachine m → now.names ≡ [] → IsHeldTo m h n → 8 ≤ n
       → w.flow ≡ record h.flow { waiters = w.flow.waiters } → IsSelected key width (queued h.flow) (queued w.flow) names
-      → w.origins ≡ h.origins → w.tracks ≡ h.tracks → w.selected.items ≡ names → w.cycle ≡ h.cycle → w.stamp ≡ h.stamp → w.fetch_room ≡ h.fetch_room → w.profile ≡ h.profile → IsMachine w
-  selected_machine m h w now n {names = names} shows ok idle so_far all same s origins tracks selected cycle stamp room profile =
+      → w.origins ≡ h.origins → w.tracks ≡ h.tracks → w.selected.items ≡ names → w.cycle ≡ h.cycle → w.stamp ≡ h.stamp → w.fetch_room ≡ h.fetch_room → w.profile ≡ h.profile → w.holds ≡ h.holds → IsMachine w
+  selected_machine m h w now n {names = names} shows ok idle so_far all same s origins tracks selected cycle stamp room profile holds =
       let origins_m : w.origins ≡ m.origins = origins ∙ so_far.origins in
       let tracks_m : w.tracks.items ≡ m.tracks.items = ap (λ v. v.items) tracks ∙ so_far.tracks in
       let stamp_m : w.stamp ≡ m.stamp = stamp ∙ so_far.stamp in
@@ -293,6 +317,7 @@ module _ {A : Type 0} where
         tracks = rw tracks_m ok.tracks;
         lanes = ap (λ (f : Flow). length f.lanes) (same ∙ ap (λ (f : Flow). let r : Flow = record f { waiters = w.flow.waiters } in r) so_far.flow.flow) ∙ ok.lanes;
         contexts = rw (select_waiters h.flow w.flow s) (All-filter (λ v. not (is_selected names v.context v.stamp)) (λ v. v.context < 8) h.flow.waiters (eight-remarked m.flow h.flow so_far.flow ok.contexts));
+        let_go = rw (select_waiters h.flow w.flow s, holds) (λ unheld. All-filter (λ v. not (is_selected names v.context v.stamp)) (λ v. v.held ≡ false) h.flow.waiters (so_far.none unheld));
         apart = rw selected (select_apart s);
         supplied = rw selected (same_supplied h.flow w.flow names same (select_supplied h.flow s));
         clear = rw (selected, tracks_m) clear;

@@ -93,8 +93,8 @@ module _ {A : Type 0} where
   pub machine_after : (m n : Inside A) (now : Machine) (c k : ℕ) (u : Track) (g : Flow) → machine_of m ≡ now → IsMachine m → now.names ≡ [] → c < 8
       → IsCore (start (arc_value m.origins.c0) c) m.stamp m.profile.reorder_buffer g [] c u → ((d : ℕ) → d ≢ c → IsLeft m.flow g d) → KeepsSizes m.flow g
       → u.load_places ≡ (get_or m.tracks.items c no_track).load_places → u.store_places ≡ (get_or m.tracks.items c no_track).store_places
-      → k ≡ c → n.origins ≡ m.origins → n.flow ≡ g → n.tracks.items ≡ set m.tracks.items k u → n.selected ≡ m.selected → n.cycle ≡ m.cycle → n.stamp ≡ m.stamp → n.fetch_room ≡ m.fetch_room → n.profile ≡ m.profile → IsMachine n
-  machine_after m n now c k u g shows ok idle lt core left sizes loads stores same origins flow tracks_k names cycle stamp room profile =
+      → k ≡ c → n.origins ≡ m.origins → n.flow ≡ g → n.tracks.items ≡ set m.tracks.items k u → n.selected ≡ m.selected → n.cycle ≡ m.cycle → n.stamp ≡ m.stamp → n.fetch_room ≡ m.fetch_room → n.profile ≡ m.profile → n.holds ≡ m.holds → IsMachine n
+  machine_after m n now c k u g shows ok idle lt core left sizes loads stores same origins flow tracks_k names cycle stamp room profile holds =
       let tracks : n.tracks.items ≡ set m.tracks.items c u = tracks_k ∙ ap (λ i. set m.tracks.items i u) same in
       let none = idle_names m now shows idle in
       record {
@@ -103,6 +103,7 @@ module _ {A : Type 0} where
         tracks = rw tracks (length-set m.tracks.items c u ∙ ok.tracks);
         lanes = rw flow (sizes.lanes ∙ ok.lanes);
         contexts = rw flow (sizes.contexts ok.contexts);
+        let_go = rw (flow, holds) (λ unheld. sizes.let_go (ok.let_go unheld));
         apart = rw (names, none) (λ i j d lt over. absurd (omega (arith, over)));
         supplied = rw (names, none) (λ k d over. absurd (omega (arith, over)));
         clear = rw (names, none) (λ k d over. absurd (omega (arith, over)));
@@ -131,8 +132,8 @@ module _ {A : Type 0} where
   pub machine_fetched : (m n : Inside A) (now : Machine) (c k : ℕ) (u : Track) → machine_of m ≡ now → IsMachine m → now.names ≡ [] → c < 8
       → IsCore (start (arc_value m.origins.c0) c) (m.stamp + 1) m.profile.reorder_buffer m.flow [] c u
       → u.load_places ≡ (get_or m.tracks.items c no_track).load_places → u.store_places ≡ (get_or m.tracks.items c no_track).store_places → k ≡ c → 0 < m.fetch_room
-      → n.origins ≡ m.origins → n.flow ≡ m.flow → n.tracks.items ≡ set m.tracks.items k u → n.selected ≡ m.selected → n.cycle ≡ m.cycle → n.stamp ≡ m.stamp + 1 → n.fetch_room + 1 ≡ m.fetch_room → n.profile ≡ m.profile → IsMachine n
-  machine_fetched m n now c k u shows ok idle lt core loads stores same some origins flow tracks_k names cycle stamp room profile =
+      → n.origins ≡ m.origins → n.flow ≡ m.flow → n.tracks.items ≡ set m.tracks.items k u → n.selected ≡ m.selected → n.cycle ≡ m.cycle → n.stamp ≡ m.stamp + 1 → n.fetch_room + 1 ≡ m.fetch_room → n.profile ≡ m.profile → n.holds ≡ m.holds → IsMachine n
+  machine_fetched m n now c k u shows ok idle lt core loads stores same some origins flow tracks_k names cycle stamp room profile holds =
       let tracks : n.tracks.items ≡ set m.tracks.items c u = tracks_k ∙ ap (λ i. set m.tracks.items i u) same in
       let none = idle_names m now shows idle in
       let stamps = ok.stamps in
@@ -142,6 +143,7 @@ module _ {A : Type 0} where
         tracks = rw tracks (length-set m.tracks.items c u ∙ ok.tracks);
         lanes = rw flow ok.lanes;
         contexts = rw flow ok.contexts;
+        let_go = rw (flow, holds) ok.let_go;
         apart = rw (names, none) (λ i j d lt over. absurd (omega (arith, over)));
         supplied = rw (names, none) (λ k d over. absurd (omega (arith, over)));
         clear = rw (names, none) (λ k d over. absurd (omega (arith, over)));

@@ -17,9 +17,10 @@ use Rattle.core_view.specs.View.{entry_at}
 use Rattle.core_back.specs.Track.{Track, cut_stamp, completed}
 use Rattle.core_back.specs.Queued.{queued_at, waiting_of, up_to_guess}
 use Rattle.core_back.specs.Steps.{cut_if, retired_flow, finished_flow, cut_by, settled_flow, completed_flow}
+use Rattle.core_back.specs.Issuable.{AreLetGo}
 use Rattle.core_back.specs.Cores.{node_of_entry, AllFetched, is_selected, waiters_of, front_room, IsCore}
 use Rattle.core_back.proofs.Queue.{waiting-cut_other}
-use Rattle.core_back.proofs.Settles.{waiting-settled_other, contexts-settled}
+use Rattle.core_back.proofs.Settles.{waiting-settled_other, contexts-settled, let_go-settled}
 
 -- ---- a context of the data flow that is another one
 
@@ -95,18 +96,19 @@ pub record KeepsSizes (f g : Flow) : Type 0 where
   pub extra : g.extra ≡ f.extra
   pub places : g.places ≡ f.places
   pub contexts : All (λ w. w.context < 8) f.waiters → All (λ w. w.context < 8) g.waiters
+  pub let_go : AreLetGo f → AreLetGo g
 
 sizes_same : (f : Flow) → KeepsSizes f f
-sizes_same f = record { lanes = refl; extra = refl; places = refl; contexts = λ all. all }
+sizes_same f = record { lanes = refl; extra = refl; places = refl; contexts = λ all. all; let_go = λ all. all }
 
 sizes_twice : (f g h : Flow) → KeepsSizes f g → KeepsSizes g h → KeepsSizes f h
-sizes_twice f g h a b = record { lanes = b.lanes ∙ a.lanes; extra = b.extra ∙ a.extra; places = b.places ∙ a.places; contexts = λ all. b.contexts (a.contexts all) }
+sizes_twice f g h a b = record { lanes = b.lanes ∙ a.lanes; extra = b.extra ∙ a.extra; places = b.places ∙ a.places; contexts = λ all. b.contexts (a.contexts all); let_go = λ all. b.let_go (a.let_go all) }
 
 pub sizes-with_lane : (f : Flow) (c : ℕ) (l : Lane) → KeepsSizes f (with_lane f c l)
-sizes-with_lane f c l = record { lanes = count-with_lane f c l; extra = refl; places = refl; contexts = λ all. all }
+sizes-with_lane f c l = record { lanes = count-with_lane f c l; extra = refl; places = refl; contexts = λ all. all; let_go = λ all. all }
 
 pub sizes-cut_flow : (f : Flow) (c k : ℕ) → KeepsSizes f (cut_flow f c k)
-sizes-cut_flow f c k = record { lanes = count-cut_flow f c k; extra = refl; places = refl; contexts = All-filter (λ w. not (is_waiter_from c k w)) (λ w. w.context < 8) f.waiters }
+sizes-cut_flow f c k = record { lanes = count-cut_flow f c k; extra = refl; places = refl; contexts = All-filter (λ w. not (is_waiter_from c k w)) (λ w. w.context < 8) f.waiters; let_go = All-filter (λ w. not (is_waiter_from c k w)) (λ w. w.held ≡ false) f.waiters }
 
 pub sizes-retired_flow : (f : Flow) (c : ℕ) (last : Bool) → KeepsSizes f (retired_flow f c last)
 sizes-retired_flow f c true = let g : Flow = with_lane f c (without_oldest (lane f c)) in sizes_twice f g (cut_flow g c 0) (sizes-with_lane f c (without_oldest (lane f c))) (sizes-cut_flow g c 0)
@@ -130,7 +132,7 @@ sizes-completed_flow f c i x t = by_guess (is_guessed (entry_at t.context i).ope
     cut = sizes_twice f (finished_flow f c i (result_in x.outcome)) g (sizes-finished_flow f c i (result_in x.outcome)) (sizes-cut_if (finished_flow f c i (result_in x.outcome)) c (cut_stamp t.context i x))
 
     by_guess : (b : Bool) → KeepsSizes f (if b then settled_flow g c (completed t i x) else g)
-    by_guess true = sizes_twice f g (settled_flow g c (completed t i x)) cut (record { lanes = refl; extra = refl; places = refl; contexts = contexts-settled g c (up_to_guess (take (completed t i x).renamed (completed t i x).context.flight)) })
+    by_guess true = sizes_twice f g (settled_flow g c (completed t i x)) cut (record { lanes = refl; extra = refl; places = refl; contexts = contexts-settled g c (up_to_guess (take (completed t i x).renamed (completed t i x).context.flight)); let_go = let_go-settled g c (up_to_guess (take (completed t i x).renamed (completed t i x).context.flight)) })
     by_guess false = cut
 
 -- ---- how a context stands

@@ -193,4 +193,4 @@ sizes-renamed_flow f c e speculative lt = by_stop (stops_at_fetch e.operation)
 
     by_stop : (b : Bool) → KeepsSizes f (if b then g else record g { waiters = f.waiters ++ w ∷ [] })
     by_stop true = sizes-with_lane f c (with_node (lane f c) (operands_of e))
-    by_stop false = record { lanes = count-with_lane f c (with_node (lane f c) (operands_of e)); extra = refl; places = refl; contexts = λ all. All-push (λ w. w.context < 8) f.waiters w all lt }
+    by_stop false = record { lanes = count-with_lane f c (with_node (lane f c) (operands_of e)); extra = refl; places = refl; contexts = λ all. All-push (λ w. w.context < 8) f.waiters w all lt; let_go = λ all. All-push (λ w. w.held ≡ false) f.waiters w all refl }

@@ -19,7 +19,7 @@ use Rattle.data_flow.specs.Wired.{waiter_of}
 use Rattle.data_flow.specs.Flow.{Waiter, Lane, Flow, lane, seen_past_node, seen_past_nodes, sources_of, sources_at, is_supplied, is_waiter, waits_in, waits_of, queued_waiter, queued}
 use Rattle.lawful_cycle.specs.Issue.{is_queued}
 use Rattle.core_back.specs.Queued.{unheld, waiting_of, waiter_for}
-use Rattle.core_back.specs.Issuable.{may_issue_at, IsHeld, AreHeld, IsClear}
+use Rattle.core_back.specs.Issuable.{may_issue_at, IsMarked, must_wait, AreHeld, IsClear}
 use Rattle.core_back.specs.Shown.{AreApart, IsSuppliedIn}
 use Rattle.core_back.specs.Steps.{IsRemarked}
 use Rattle.core_back.specs.Track.{Track}
@@ -202,7 +202,7 @@ select_supplied f s = subst (All (IsSuppliedIn f)) (sym s.names) (All-map (IsSup
 -- ---- names are clear
 
 -- a ready entry isn't held
-ready_free : (f : Flow) (e : Waiting) → Contains (queued f) e → IsReady e → ¬ (IsHeld f e.context e.stamp)
+ready_free : (f : Flow) (e : Waiting) → Contains (queued f) e → IsReady e → ¬ (IsMarked f e.context e.stamp true)
 ready_free f e from ready held =
     let w = get_or f.waiters from.0 no_waiter in
     let within : from.0 < length f.waiters = omega (arith, from.1, length-map f.waiters (queued_waiter f.lanes)) in
@@ -212,13 +212,13 @@ ready_free f e from ready held =
     absurd (true≢false bad)
 
 -- so what was selected isn't
-pub select_free : {key : Waiting → ℕ} {width : ℕ} {rest : List Waiting} {names : List EntryId} (f : Flow) → IsSelected key width (queued f) rest names → All (λ n. ¬ (IsHeld f n.context n.stamp)) names
+pub select_free : {key : Waiting → ℕ} {width : ℕ} {rest : List Waiting} {names : List EntryId} (f : Flow) → IsSelected key width (queued f) rest names → All (λ n. ¬ (IsMarked f n.context n.stamp true)) names
 select_free f s =
-    let free = λ (n : EntryId). ¬ (IsHeld f n.context n.stamp) in
+    let free = λ (n : EntryId). ¬ (IsMarked f n.context n.stamp true) in
     subst (All free) (sym s.names) (All-map free name_of s.chosen (λ i d lt. ready_free f (get_or s.chosen i d) (s.queued i d lt) (s.ready i d lt)))
 
 -- an entry that was selected and isn't held may issue
-pub select_clear : {start : State} {stamp reorder c : ℕ} {g : Flow} {names : List EntryId} {t : Track} (f : Flow) → IsCore start stamp reorder g names c t → (k : ℕ) → is_selected names c k ≡ true → AreHeld f c t → lane g c ≡ lane f c → ¬ (IsHeld f c k) → IsClear g c t k
+pub select_clear : {start : State} {stamp reorder c : ℕ} {g : Flow} {names : List EntryId} {t : Track} (f : Flow) → IsCore start stamp reorder g names c t → (k : ℕ) → is_selected names c k ≡ true → AreHeld f c t → lane g c ≡ lane f c → ¬ (IsMarked f c k true) → IsClear g c t k
 select_clear {c = c} {t = t} f core k h held same free i a b lt is sources = by_test (may_issue_at t.context i a b) refl
   where
     within : i < length t.context.flight
@@ -227,8 +227,9 @@ select_clear {c = c} {t = t} f core k h held same free i a b lt is sources = by_
     by_test : (may : Bool) → may_issue_at t.context i a b ≡ may → may ≡ true
     by_test true told = refl
     by_test false told =
-        let here : IsHeld f c (entry_at t.context i).stamp = held i a b lt (selected_at core k i h within is).stage (ap (λ (l : Lane). sources_at l i) (sym same) ∙ sources) told in
-        absurd (free (subst (IsHeld f c) is here))
+        let asked : must_wait t.context i (sources_at (lane f c) i) ≡ true = ap (must_wait t.context i) (ap (λ (l : Lane). sources_at l i) (sym same) ∙ sources) ∙ ap not told in
+        let here : IsMarked f c (entry_at t.context i).stamp true = subst (IsMarked f c (entry_at t.context i).stamp) asked (held i lt (selected_at core k i h within is).stage) in
+        absurd (free (subst (λ s. IsMarked f c s true) is here))
 
 -- ---- at its place
 
@@ -242,21 +243,26 @@ supplied_at low seen (e ∷ es) (suc i) g lt =
     let other : (e.stamp == (get_or es i no_entry).stamp) ≡ false = ne_eqb e.stamp (get_or es i no_entry).stamp (λ same. omega (arith, later, same)) in
     rw other (supplied_at (e.stamp + 1) (seen_past_node seen (node_of_entry e)) es i g.1 (omega arith))
 
--- a renamed entry whose stamp has the values of its sources has them at its place
-pub supplied_sources : {start : State} {stamp reorder c : ℕ} {f : Flow} {names : List EntryId} {t : Track} → IsCore start stamp reorder f names c t → (i : ℕ) → i < t.renamed
-    → IsSuppliedIn f (record { context = c; stamp = (entry_at t.context i).stamp }) → is_some (sources_at (lane f c) i) ≡ true
-supplied_sources {c = c} {f = f} {t = t} core i lt h =
+-- a renamed entry's stamp has the values of its sources where they are there at its place
+pub supplied_is : {start : State} {stamp reorder c : ℕ} {f : Flow} {names : List EntryId} {t : Track} → IsCore start stamp reorder f names c t → (i : ℕ) → i < t.renamed
+    → is_supplied (known (lane f c).registers) (lane f c).nodes (entry_at t.context i).stamp ≡ is_some (sources_at (lane f c) i)
+supplied_is {c = c} {f = f} {t = t} core i lt =
     let l = lane f c in
     let es = take t.renamed t.context.flight in
     let e = get_or es i no_entry in
     let here : e ≡ entry_at t.context i = get_or-take t.renamed t.context.flight i no_entry lt in
     let within : i < length es = omega (arith, lt, length-take-le t.renamed t.context.flight core.within) in
     let growing : IsGrowing 0 es = growing_take 0 t.renamed t.context.flight core.live.flight.growing in
-    ap (λ o. is_some (sources_of (seen_past_nodes (known l.registers) (take i l.nodes)) o)) (operands_at core i lt ∙ ap operands_of (sym here))
+    sym (ap (λ o. is_some (sources_of (seen_past_nodes (known l.registers) (take i l.nodes)) o)) (operands_at core i lt ∙ ap operands_of (sym here))
     ∙ ap (λ ns. is_some (sources_of (seen_past_nodes (known l.registers) (take i ns)) (operands_of e))) core.nodes
     ∙ sym (supplied_at 0 (known l.registers) es i growing within)
     ∙ ap (λ ns. is_supplied (known l.registers) ns e.stamp) (sym core.nodes)
-    ∙ ap (λ (x : Entry). is_supplied (known l.registers) l.nodes x.stamp) here ∙ h
+    ∙ ap (λ (x : Entry). is_supplied (known l.registers) l.nodes x.stamp) here)
+
+-- so one that has them has them at its place
+pub supplied_sources : {start : State} {stamp reorder c : ℕ} {f : Flow} {names : List EntryId} {t : Track} → IsCore start stamp reorder f names c t → (i : ℕ) → i < t.renamed
+    → IsSuppliedIn f (record { context = c; stamp = (entry_at t.context i).stamp }) → is_some (sources_at (lane f c) i) ≡ true
+supplied_sources core i lt h = sym (supplied_is core i lt) ∙ h
 
 -- ---- the core once its entries are selected
 

@@ -161,6 +161,16 @@ waiting-settled_other f c d es ne = go f.waiters
 pub contexts-settled : (f : Flow) (c : ℕ) (es : List Entry) → All (λ w. w.context < 8) f.waiters → All (λ w. w.context < 8) (map (settled c es) f.waiters)
 contexts-settled f c es all = All-map (λ (w : Waiter). w.context < 8) (settled c es) f.waiters (λ i d lt. subst (λ k. k < 8) (sym (settled_context c es (get_or f.waiters i d))) (all i d lt))
 
+pub let_go-settled : (f : Flow) (c : ℕ) (es : List Entry) → All (λ w. w.held ≡ false) f.waiters → All (λ w. w.held ≡ false) (map (settled c es) f.waiters)
+let_go-settled f c es all = All-map (λ (w : Waiter). w.held ≡ false) (settled c es) f.waiters (λ i d lt. held (get_or f.waiters i d) (all i d lt))
+  where
+    held : (w : Waiter) → w.held ≡ false → (settled c es w).held ≡ false
+    held w h = go ((w.context == c) && queued_at w.stamp es)
+      where
+        go : (b : Bool) → (let v : Waiter = if b then record w { speculative = false } else w in v.held) ≡ false
+        go true = h
+        go false = h
+
 -- ---- whose mark is taken
 
 -- a queued entry up to the oldest open guess is behind none

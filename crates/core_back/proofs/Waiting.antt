@@ -113,7 +113,7 @@ pub record IsQueuedPlace (k : ℕ) (es : List Entry) (i : ℕ) : Type 0 where
   pub stamp : (get_or es i no_entry).stamp ≡ k
   pub stage : (get_or es i no_entry).stage ≡ Queued
 
-queued_stage : (s : Stage) → is_queued s ≡ true → s ≡ Queued
+pub queued_stage : (s : Stage) → is_queued s ≡ true → s ≡ Queued
 queued_stage Fetched h = absurd cc
 queued_stage Queued h = refl
 queued_stage (Issued x) h = absurd cc

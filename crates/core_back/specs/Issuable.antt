@@ -1,5 +1,5 @@
 -- Which entries may issue: a load waits where the newest older store that has completed and shares a byte with it has only some of its bytes.
-use Rattle.std.specs.Prelude.{◌≡◌, ℕ, ◌<◌, Bool, true, false, take, All, Some}
+use Rattle.std.specs.Prelude.{◌≡◌, ℕ, ◌<◌, Bool, true, false, not, take, All, Option, Some, None}
 use Rattle.core_view.specs.declared.entry.Stage.TheVariants.{Queued}
 use Rattle.core_view.specs.Outcomes.{image_of}
 use Rattle.core_view.specs.Flight.{seen_of, IsSound, IsGrowing}
@@ -19,13 +19,22 @@ pub record IsAnswered (x : Context) (i : ℕ) : Type 0 where
   pub growing : IsGrowing 0 x.flight
   pub sound : IsSound (image_of x.state) (seen_of x.state) x.state.pc x.flight
 
--- what waits under a stamp of a context is held
-abbrev pub IsHeld : Flow → ℕ → ℕ → Type 0
-IsHeld f c k = All (λ (w : Waiter). is_waiter c k w ≡ true → w.held ≡ true) f.waiters
+-- what waits under a stamp of a context is held, or let go
+abbrev pub IsMarked : Flow → ℕ → ℕ → Bool → Type 0
+IsMarked f c k held = All (λ (w : Waiter). is_waiter c k w ≡ true → w.held ≡ held) f.waiters
 
--- each queued entry of a context that has the values of its sources, and may not issue on them, is held
+-- nothing is held
+abbrev pub AreLetGo : Flow → Type 0
+AreLetGo f = All (λ (w : Waiter). w.held ≡ false) f.waiters
+
+-- the entry at a place has to wait for an older store, on the values of its sources, if both are there
+abbrev pub must_wait : Context → ℕ → Option (ℕ × ℕ) → Bool
+must_wait x i None = false
+must_wait x i (Some values) = not (may_issue_at x i values.0 values.1)
+
+-- each queued entry of a context is held exactly where it has to wait
 abbrev pub AreHeld : Flow → ℕ → Track → Type 0
-AreHeld f c t = (i a b : ℕ) → i < t.renamed → (entry_at t.context i).stage ≡ Queued → sources_at (lane f c) i ≡ Some (a, b) → may_issue_at t.context i a b ≡ false → IsHeld f c (entry_at t.context i).stamp
+AreHeld f c t = (i : ℕ) → i < t.renamed → (entry_at t.context i).stage ≡ Queued → IsMarked f c (entry_at t.context i).stamp (must_wait t.context i (sources_at (lane f c) i))
 
 -- the entry of a context and stamp may issue on the values of its sources
 abbrev pub IsClear : Flow → ℕ → Track → ℕ → Type 0

@@ -7,6 +7,7 @@ pub mod Steps
 pub mod Machine
 pub mod Shown
 pub mod Issued
+pub mod Selected
 pub mod Issuable
 pub mod Fetched
 pub mod Renamable

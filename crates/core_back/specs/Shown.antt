@@ -10,7 +10,7 @@ use Rattle.data_flow.specs.Flow.{Flow, lane, is_supplied, waits_in}
 use Rattle.core_profile.specs.declared.profile.Profile.{Profile}
 use Rattle.core_back.specs.Track.{Track}
 use Rattle.core_back.specs.Cores.{IsCore}
-use Rattle.core_back.specs.Issuable.{IsClear}
+use Rattle.core_back.specs.Issuable.{AreLetGo, IsClear}
 use Rattle.core_back.specs.Machine.{Machine, no_track}
 
 abbrev pub machine_of : {A : Type 0} → Inside A → Machine
@@ -43,6 +43,7 @@ pub record IsMachine {A : Type 0} (m : Inside A) : Type 0 where
   pub tracks : length m.tracks.items ≡ 8
   pub lanes : length m.flow.lanes ≡ 8
   pub contexts : All (λ w. w.context < 8) m.flow.waiters
+  pub let_go : m.holds ≡ false → AreLetGo m.flow
   pub apart : AllPairs AreApart m.selected.items
   pub supplied : All (IsSuppliedIn m.flow) m.selected.items
   pub clear : All (λ n. IsClear m.flow n.context (get_or m.tracks.items n.context no_track) n.stamp) m.selected.items

@@ -1,15 +1,15 @@
 //! The events of a cycle, each on one context and the data flow.
 
-ghost use Rattle.std.specs.Prelude.{◌≡◌, ◌≢◌, ◌↔◌, ℕ, ◌+◌, ◌<◌, ◌≤◌, ◌==◌, ◌&&◌, length, take, drop, IsSome, IsTrue, IfSome, Some, None, All, true, false};
+ghost use Rattle.std.specs.Prelude.{◌≡◌, ◌≢◌, ◌↔◌, ℕ, ◌+◌, ◌<◌, ◌≤◌, ◌==◌, ◌&&◌, length, take, drop, IsSome, IsTrue, IfSome, Some, None, All, Bool, true, false, map};
 ghost use Rattle.std.specs.List.{list_any};
 ghost use Rattle.core_view.specs.Outcomes.{image_of, IsSized};
-ghost use Rattle.data_flow.specs.Flow.{lane, node_at, sources_at, taken, waits_in, cut_flow};
+ghost use Rattle.data_flow.specs.Flow.{lane, node_at, sources_at, taken, waits_in, cut_flow, released};
 ghost use Rattle.core_view.specs.declared.entry.Stage.TheVariants.{Queued, Issued};
 ghost use Rattle.core_view.specs.Flight.{seen_of, IsSound};
 ghost use Rattle.core_view.specs.Operations.{destination_of, stops_at_fetch, is_load, is_store};
 ghost use Rattle.core_view.specs.Queues.{loads_of, stores_of};
 ghost use Rattle.core_view.specs.View.{entry_at};
-ghost use Rattle.core_back.specs.Issuable.{IsAnswered, IsHeld, AreHeld, may_issue_at};
+ghost use Rattle.core_back.specs.Issuable.{IsAnswered, IsMarked, AreLetGo, must_wait, AreHeld};
 ghost use Rattle.core_back.specs.Track.{is_last, retired, stopped, completed, renamed_one};
 ghost use Rattle.core_back.specs.Cores.{operands_of, AllFetched};
 ghost use Rattle.core_back.specs.Renamable.{IsRenamable};
@@ -192,30 +192,44 @@ fn settle_speculation<A: Allocator>(flow: &mut DataFlow<A>, track: &Track<A>, co
     }
 }
 
-/// Tells the queue which loads of a context have to wait for an older store: those of which it isn't told have none of
-/// their sources' values, or nothing to wait for.
-pub(crate) fn hold_loads<A: Allocator>(flow: &mut DataFlow<A>, track: &mut Track<A>, context: Ctx)
-    requires nodes { length (lane flow.old context).nodes ≡ track.old.renamed }
-    requires answered { (i : ℕ) → i < track.old.renamed → IsAnswered track.old.context i }
-    ensures flow { IsRemarked flow.old flow.new }
-    ensures held { AreHeld flow.new context track.old }
-    ensures others { (d k : ℕ) → d ≢ context → IsHeld flow.old d k → IsHeld flow.new d k }
-    ensures track { track.new ≡ track.old }
+/// Lets all loads go, where one may be held.
+pub(crate) fn release<A: Allocator>(flow: &mut DataFlow<A>, holds: bool)
+    requires { holds ≡ false → AreLetGo flow.old }
+    ensures { flow.new ≡ record flow.old { waiters = map released flow.old.waiters } }
 {
-    if !track.may_hold() {
-        return;
+    if holds {
+        flow.release();
+    }
+}
+
+/// Tells the queue which loads of a context, which are all let go, have to wait for an older store. Answers whether one
+/// has to.
+pub(crate) fn hold_loads<A: Allocator>(
+    flow: &mut DataFlow<A>,
+    track: &Track<A>,
+    context: Ctx,
+) -> bool
+    requires nodes { length (lane flow.old context).nodes ≡ track.now.renamed }
+    requires answered { (i : ℕ) → i < track.now.renamed → IsAnswered track.now.context i }
+    requires let_go { (k : ℕ) → IsMarked flow.old context k false }
+    ensures flow { IsRemarked flow.old flow.new }
+    ensures held { AreHeld flow.new context track.now }
+    ensures others { (d k : ℕ) (b : Bool) → d ≢ context → IsMarked flow.old d k b → IsMarked flow.new d k b }
+    ensures none { result ≡ false → flow.new ≡ flow.old }
+{
+    if track.has_no_store() {
+        return false;
     }
     let mut holds = false;
     for place in 0..track.renamed_count() {
-        if hold_load(flow, track, context, place) {
-            holds = true;
-        }
+        let held = hold_load(flow, track, context, place);
+        holds = holds || held;
     }
-    track.set_holds(holds);
+    holds
 }
 
-/// Tells the queue whether the entry of a context at a place has to wait for an older store, if it is a queued load
-/// that has the values of its sources. Answers whether it has to.
+/// Holds the entry of a context at a place, which is let go, if it is a queued load that has the values of its sources
+/// and has to wait for an older store. Answers whether it has to.
 fn hold_load<A: Allocator>(
     flow: &mut DataFlow<A>,
     track: &Track<A>,
@@ -225,10 +239,12 @@ fn hold_load<A: Allocator>(
     requires place { place < track.now.renamed }
     requires nodes { length (lane flow.old context).nodes ≡ track.now.renamed }
     requires answered { IsAnswered track.now.context place }
+    requires let_go { IsMarked flow.old context (entry_at track.now.context place).stamp false }
     ensures flow { IsRemarked flow.old flow.new }
-    ensures held { (a b : ℕ) → (entry_at track.now.context place).stage ≡ Queued → sources_at (lane flow.old context) place ≡ Some (a, b) → may_issue_at track.now.context place a b ≡ false →
-        IsHeld flow.new context (entry_at track.now.context place).stamp }
-    ensures others { (d k : ℕ) → (k ≡ (entry_at track.now.context place).stamp → d ≢ context) → IsHeld flow.old d k → IsHeld flow.new d k }
+    ensures held { (entry_at track.now.context place).stage ≡ Queued →
+        IsMarked flow.new context (entry_at track.now.context place).stamp (must_wait track.now.context place (sources_at (lane flow.old context) place)) }
+    ensures others { (d k : ℕ) (b : Bool) → (k ≡ (entry_at track.now.context place).stamp → d ≢ context) → IsMarked flow.old d k b → IsMarked flow.new d k b }
+    ensures none { result ≡ false → flow.new ≡ flow.old }
 {
     // How many are renamed is at most how many there are.
     let _renamed = track.renamed_count();
@@ -238,8 +254,10 @@ fn hold_load<A: Allocator>(
     let Some((first, second)) = flow.sources(context, place) else {
         return false;
     };
-    let held = track.must_wait(place, first, second);
+    if !track.must_wait(place, first, second) {
+        return false;
+    }
     let entry = track.entry_at(place);
-    flow.hold(context, entry.stamp, held);
-    held
+    flow.hold(context, entry.stamp, true);
+    true
 }

@@ -56,6 +56,8 @@ pub struct Machine<A: Allocator = Global> {
     flow: DataFlow<A>,
     tracks: Vec<Track<A>, A>,
     selected: ArrayVec<EntryId, 8>,
+    // Whether a load may be held in the issue queue.
+    holds: bool,
     cycle: u64,
     stamp: u64,
     fetch_room: u8,
@@ -97,6 +99,7 @@ impl<A: Allocator + Copy> Machine<A> {
             flow,
             tracks,
             selected: ArrayVec::new(),
+            holds: false,
             cycle: 0,
             stamp: 0,
             fetch_room: 8,
@@ -268,9 +271,12 @@ impl<A: Allocator> Machine<A> {
         ensures selected { self.new ≡ record self.old { names = self.new.names } }
         ensures most { length self.new.names ≤ width }
     {
+        events::release(&mut self.flow, self.holds);
+        self.holds = false;
         for context in Ctx::all() {
-            let track = &mut self.tracks[context.index()];
-            events::hold_loads(&mut self.flow, track, context);
+            let track = &self.tracks[context.index()];
+            let held = events::hold_loads(&mut self.flow, track, context);
+            self.holds = self.holds || held;
         }
         self.selected = self.flow.select(order, width);
     }

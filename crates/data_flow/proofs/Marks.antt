@@ -4,10 +4,10 @@ use Rattle.std.specs.Prelude.{if◌then◌else◌}
 use Rattle.std.proofs.lemmas.List.Elements.{All-weaker, All-map}
 use Rattle.circular_buffer.specs.Buffer.{Buffer}
 use Rattle.issue_queue.specs.Entry.{Entry, is_named}
-use Rattle.issue_queue.specs.IssueQueue.{IssueQueue, with_held, with_speculative}
+use Rattle.issue_queue.specs.IssueQueue.{IssueQueue, with_held, with_speculative, released}
 use Rattle.data_flow.specs.declared.operands.Renamed.{Renamed}
 use Rattle.data_flow.specs.declared.data_flow.DataFlow.TheInside.{Inside}
-use Rattle.data_flow.specs.Flow.{Waiter, Flow, with_held as held_waiter, with_speculative as speculative_waiter}
+use Rattle.data_flow.specs.Flow.{Waiter, Flow, with_held as held_waiter, with_speculative as speculative_waiter, released as released_waiter}
 use Rattle.data_flow.specs.Wired.{waiter_of, IsWaiting, IsWiredUp, flow}
 
 -- ---- one entry
@@ -74,3 +74,7 @@ pub speculated : {A : Type 0} (d : Inside A) (now : Flow) (q : IssueQueue) (c k 
     → q ≡ record d.queue { entries = map (with_speculative c k flag) d.queue.entries } → Changes d now q (speculative_waiter c k flag)
 speculated d now q c k flag shows up is =
     changes d now q (with_speculative c k flag) (speculative_waiter c k flag) shows up (waiter_speculative c k flag) (waiting_speculative d.registers.cells d.renamed.items c k flag) is
+
+pub released_all : {A : Type 0} (d : Inside A) (now : Flow) (q : IssueQueue) → flow d ≡ now → IsWiredUp d → q ≡ record d.queue { entries = map released d.queue.entries } → Changes d now q released_waiter
+released_all d now q shows up is =
+    changes d now q released released_waiter shows up (λ e. refl) (λ e h. record { context = h.context; place = h.place; within = h.within; stamp = h.stamp; waits = h.waits }) is

@@ -144,6 +144,9 @@ with_speculative c k flag w = if is_waiter c k w then record w { speculative = f
 abbrev pub with_held : ℕ → ℕ → Bool → Waiter → Waiter
 with_held c k flag w = if is_waiter c k w then record w { held = flag } else w
 
+abbrev pub released : Waiter → Waiter
+released w = record w { held = false }
+
 -- ---- the waiting as an issue queue: an instruction waits where a source has no value
 
 abbrev pub waits_of : Bool → List ℕ

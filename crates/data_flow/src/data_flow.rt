@@ -9,7 +9,7 @@ ghost use Rattle.issue_queue.specs.Stamps.{place_of_oldest};
 ghost use Rattle.rename_file.specs.File.{IsFile, bank};
 ghost use Rattle.data_flow.specs.Banks.{bank_with, CellsWith};
 ghost use Rattle.data_flow.specs.Wired.{unready};
-ghost use Rattle.data_flow.specs.Flow.{lane, node_at, sources_at, with_lane, with_register, with_node, with_result, without_oldest, cut_from, without_newest, is_waiter_from, cut_flow, takes, taken, waits_in, with_speculative, with_held, queued, first_flow};
+ghost use Rattle.data_flow.specs.Flow.{lane, node_at, sources_at, with_lane, with_register, with_node, with_result, without_oldest, cut_from, without_newest, is_waiter_from, cut_flow, takes, taken, waits_in, with_speculative, with_held, released, queued, first_flow};
 
 use crate::operands::{Operands, Renamed};
 use arrayvec::ArrayVec;
@@ -244,6 +244,13 @@ impl<A: Allocator> DataFlow<A> {
         ensures { self.new ≡ record self.old { waiters = map (with_held context stamp held) self.old.waiters } }
     {
         self.queue.hold(context, stamp, held);
+    }
+
+    /// Lets all loads go.
+    pub fn release(&mut self)
+        ensures { self.new ≡ record self.old { waiters = map released self.old.waiters } }
+    {
+        self.queue.release();
     }
 
     /// Whether one more instruction can wait.

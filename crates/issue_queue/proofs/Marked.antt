@@ -7,7 +7,7 @@ use Rattle.std.proofs.lemmas.Bool.Decides.{leb_tells}
 use Rattle.std.proofs.lemmas.List.Elements.{All-head, All-tail, All-from_get_or}
 use Rattle.std.proofs.lemmas.List.Quantifiers.{position-Some}
 use Rattle.issue_queue.specs.Entry.{Entry, AreDistinct, is_named}
-use Rattle.issue_queue.specs.IssueQueue.{awake, with_held, with_speculative}
+use Rattle.issue_queue.specs.IssueQueue.{awake, released, with_held, with_speculative}
 use Rattle.issue_queue.proofs.Named.{is_named-swap, AllPairs-map}
 
 -- a change that keeps names keeps entries distinct
@@ -77,6 +77,9 @@ cond_stamp false x y h = refl
 
 pub distinct-awake : (register : ℕ) (es : List Entry) → AllPairs AreDistinct es → AllPairs AreDistinct (map (awake register) es)
 distinct-awake register = distinct-map (awake register) (λ e. refl) (λ e. refl)
+
+pub distinct-released : (es : List Entry) → AllPairs AreDistinct es → AllPairs AreDistinct (map released es)
+distinct-released = distinct-map released (λ e. refl) (λ e. refl)
 
 pub distinct-held : (context stamp : ℕ) (flag : Bool) (es : List Entry) → AllPairs AreDistinct es → AllPairs AreDistinct (map (with_held context stamp flag) es)
 distinct-held context stamp flag =

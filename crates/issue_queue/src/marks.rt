@@ -2,7 +2,7 @@
 
 ghost use Rattle.std.specs.Prelude.{◌≡◌, false, map, position, All, AllPairs, IfNone};
 ghost use Rattle.issue_queue.specs.Entry.{AreDistinct, is_named};
-ghost use Rattle.issue_queue.specs.IssueQueue.{awake, with_held, with_speculative};
+ghost use Rattle.issue_queue.specs.IssueQueue.{awake, released, with_held, with_speculative};
 
 use crate::entry::Queued;
 use join_law::Ctx;
@@ -51,4 +51,15 @@ pub(crate) fn mark_held(entries: &mut [Queued], context: Ctx, stamp: u64, held: 
         return;
     };
     entries[place].set_held(held);
+}
+
+/// Lets all entries go.
+pub(crate) fn release_all(entries: &mut [Queued])
+    requires { AllPairs AreDistinct entries.old }
+    ensures entries { entries.new ≡ map released entries.old }
+    ensures distinct { AllPairs AreDistinct entries.new }
+{
+    for entry in entries.iter_mut() {
+        entry.set_held(false);
+    }
 }

@@ -3,7 +3,7 @@
 ghost use Rattle.std.specs.Prelude.{◌≡◌, ◌↔◌, ◌<◌, ◌≤◌, ◌==◌, ◌&&◌, false, [], ◌∷◌, ◌++◌, length, map, filter, not, count_by, IsTrue, IfSome, IsOk, OnOk, OnErr, IfErr};
 ghost use Rattle.std.specs.List.{list_any};
 ghost use Rattle.issue_queue.specs.Entry.{is_named};
-ghost use Rattle.issue_queue.specs.IssueQueue.{awake, with_speculative, with_held, is_from};
+ghost use Rattle.issue_queue.specs.IssueQueue.{awake, with_speculative, with_held, released, is_from};
 ghost use Rattle.issue_queue.specs.IsSelected.{IsSelected};
 ghost use Rattle.issue_queue.specs.Stamps.{place_of_oldest};
 ghost use Rattle.issue_queue.specs.Views.{entry_of, view_of};
@@ -130,6 +130,13 @@ impl Queue {
         ensures { self.new ≡ record self.old { entries = map (with_held context stamp held) self.old.entries } }
     {
         marks::mark_held(self.entries.as_mut_slice(), context, stamp, held);
+    }
+
+    /// Lets all loads go.
+    pub fn release(&mut self)
+        ensures { self.new ≡ record self.old { entries = map released self.old.entries } }
+    {
+        marks::release_all(self.entries.as_mut_slice());
     }
 
     /// Removes the first ready entries by (key, stamp), at most `width` of them, and gives their names in that

@@ -33,7 +33,7 @@ invariant_of-self g c =
     let stage : (entry_at c.index_mut-track.result.now.context c.args.place).stage ≡ Issued c.args.execution = ap (λ (x : Context). (entry_at x c.args.place).stage) h.context ∙ c.requires.issued in
     machine_after c.self.inside _ c.args.self.now c.args.context c.index.result _ (completed_flow c.self.inside.flow c.args.context c.args.place c.args.execution c.index_mut-track.result.now) c.self.view_is c.self.invariant c.requires.idle (omega (arith, c.index.ensures))
     (complete_core (start (arc_value c.self.inside.origins.c0) c.args.context) c.self.inside.stamp c.self.inside.profile.reorder_buffer c.self.inside.flow c.args.context c.index_mut-track.result.now c.args.place c.args.execution h.in_lanes core within stage) (λ e other. completed_flow_left c.self.inside.flow c.args.context e c.args.place c.args.execution c.index_mut-track.result.now other) (sizes-completed_flow c.self.inside.flow c.args.context c.args.place c.args.execution c.index_mut-track.result.now) (ap (λ (t : Track). t.load_places) h.track) (ap (λ (t : Track). t.store_places) h.track)
-    c.index.ensures.value refl c.complete.ensures.flow (ap (set c.self.inside.tracks.items c.index.result) c.complete.ensures.track) refl refl refl refl refl
+    c.index.ensures.value refl c.complete.ensures.flow (ap (set c.self.inside.tracks.items c.index.result) c.complete.ensures.track) refl refl refl refl refl refl
 
 pub returns-clause-completed : goal.returns-clause-completed
 returns-clause-completed g c =

@@ -51,7 +51,7 @@ invariant_of-self g c =
     let x : Execution = record { due = c.self.inside.cycle + c.from.result; miss = c.lag_of-lag.result.miss; outcome = c.perform-performed.result.outcome } in
     let core = issued_core c.self.inside c.args.self.now c.remove-name.result (drop 1 c.self.inside.selected.items) c.index_mut-track.result.now h c.unwrap-place.result x c.unwrap-first.result c.sources.result p.0 p.1 c.sources.ensures c.unwrap-first.ensures c.perform-performed.ensures.outcome in
     issued_machine c.self.inside _ c.args.self.now c.remove-name.result c.index.result (drop 1 c.self.inside.selected.items) c.index_mut-track.result.now c.unwrap-place.result x c.self.invariant h (omega (arith, c.index.ensures)) p.0 p.1 core
-    c.index.ensures.value refl refl (ap (set c.self.inside.tracks.items c.index.result) c.issue.ensures) c.remove-name.ensures.items refl refl refl refl
+    c.index.ensures.value refl refl (ap (set c.self.inside.tracks.items c.index.result) c.issue.ensures) c.remove-name.ensures.items refl refl refl refl refl
 
 pub returns-clause-issued : goal.returns-clause-issued
 returns-clause-issued g c =

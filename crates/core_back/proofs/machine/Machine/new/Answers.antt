@@ -22,6 +22,7 @@ invariant_of-result g c =
       tracks = c.in_ok-tracks.ensures.count;
       lanes = c.in_ok-flow.ensures.count;
       contexts = rw c.in_ok-flow.ensures.waiters (λ i d lt. absurd (omega arith));
+      let_go = λ unheld. rw c.in_ok-flow.ensures.waiters (λ i d lt. absurd (omega arith));
       apart = subst (λ (ns : List EntryId). AllPairs AreApart ns) (sym empty) (λ i j d lt below. absurd (omega arith));
       supplied = subst (λ (ns : List EntryId). All (IsSuppliedIn c.in_ok-flow.flow) ns) (sym empty) (search rules);
       clear = subst (λ (ns : List EntryId). All (λ n. IsClear c.in_ok-flow.flow n.context (get_or c.in_ok-tracks.tracks.items n.context no_track) n.stamp) ns) (sym empty) (λ i d lt. absurd (omega arith));

@@ -61,7 +61,7 @@ invariant_of-self g c =
     let d = is_first_done c.index_mut-track.result.now.context.flight (Goes c.args.step) (ap (λ (x : Context). first_done x.flight) h.context ∙ c.requires.done) in
     machine_after c.self.inside _ c.args.self.now c.args.context c.index.result _ (retired_flow c.self.inside.flow c.args.context (is_last c.index_mut-track.result.now.context)) c.self.view_is c.self.invariant c.requires.idle (omega (arith, c.index.ensures))
     (retire_core (start (arc_value c.self.inside.origins.c0) c.args.context) c.self.inside.stamp c.self.inside.profile.reorder_buffer c.self.inside.flow c.args.context c.index_mut-track.result.now d.execution c.args.step h.in_lanes core d.some d.stage d.outcome) (λ e other. retired_flow_left c.self.inside.flow c.args.context e (is_last c.index_mut-track.result.now.context) other) (sizes-retired_flow c.self.inside.flow c.args.context (is_last c.index_mut-track.result.now.context)) (ap (λ (t : Track). t.load_places) h.track) (ap (λ (t : Track). t.store_places) h.track)
-    c.index.ensures.value refl c.retire.ensures.flow (ap (set c.self.inside.tracks.items c.index.result) c.retire.ensures.track) refl refl refl refl refl
+    c.index.ensures.value refl c.retire.ensures.flow (ap (set c.self.inside.tracks.items c.index.result) c.retire.ensures.track) refl refl refl refl refl refl
 
 pub returns-clause-retired : goal.returns-clause-retired
 returns-clause-retired g c =

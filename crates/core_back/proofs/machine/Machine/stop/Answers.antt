@@ -22,7 +22,7 @@ invariant_of-self g c =
     (idle_core c.self.inside c.args.self.now c.args.context c.index_mut-track.result.now c.self.view_is c.requires.idle h) d.some d.stage d.outcome in
     machine_after c.self.inside _ c.args.self.now c.args.context c.index.result _ (cut_flow c.self.inside.flow c.args.context 0) c.self.view_is c.self.invariant c.requires.idle (omega (arith, c.index.ensures))
     core (λ e other. cut_flow_left c.self.inside.flow c.args.context e 0 other) (sizes-cut_flow c.self.inside.flow c.args.context 0) (ap (λ (t : Track). t.load_places) h.track) (ap (λ (t : Track). t.store_places) h.track)
-    c.index.ensures.value refl c.stop.ensures.flow (ap (set c.self.inside.tracks.items c.index.result) c.stop.ensures.track) refl refl refl refl refl
+    c.index.ensures.value refl c.stop.ensures.flow (ap (set c.self.inside.tracks.items c.index.result) c.stop.ensures.track) refl refl refl refl refl refl
 
 pub returns-clause-stopped : goal.returns-clause-stopped
 returns-clause-stopped g c =

@@ -38,7 +38,7 @@ invariant_of-self-2 g c =
     let core = idle_core c.self.inside c.args.self.now c.args.context c.index_mut-track.result.now c.self.view_is c.requires.idle h in
     machine_fetched c.self.inside _ c.args.self.now c.args.context c.index.result (pushed c.index_mut-track.result.now c.next_entry-entry.result.0) c.self.view_is c.self.invariant c.requires.idle (omega (arith, c.index.ensures))
     (rw c.next_entry-entry.ensures.entry.entry (fetch_core core c.self.inside.cycle c.next_entry-entry.result.0.followed (c.if-not-can_fetch.ensures.running refl) (c.if-not-can_fetch.ensures.open refl) (c.if-not-can_fetch.ensures.room refl) c.next_entry-entry.ensures.entry.follows.may))
-    (ap (λ (t : Track). t.load_places) h.track) (ap (λ (t : Track). t.store_places) h.track) c.index.ensures.value (subst (λ (v : Machine). 0 < v.fetch_room) (sym c.self.view_is) c.requires.room) refl refl (ap (set c.self.inside.tracks.items c.index.result) c.push.ensures) refl refl refl (let room : 0 < c.self.inside.fetch_room = subst (λ (v : Machine). 0 < v.fetch_room) (sym c.self.view_is) c.requires.room in omega (arith, room)) refl
+    (ap (λ (t : Track). t.load_places) h.track) (ap (λ (t : Track). t.store_places) h.track) c.index.ensures.value (subst (λ (v : Machine). 0 < v.fetch_room) (sym c.self.view_is) c.requires.room) refl refl (ap (set c.self.inside.tracks.items c.index.result) c.push.ensures) refl refl refl (let room : 0 < c.self.inside.fetch_room = subst (λ (v : Machine). 0 < v.fetch_room) (sym c.self.view_is) c.requires.room in omega (arith, room)) refl refl
 
 pub returns-clause-fetched : goal.returns-clause-fetched
 returns-clause-fetched g c =
