@@ -7,9 +7,7 @@ use Rattle.core_view.specs.declared.note.CycleNote.{CycleNote}
 use Rattle.core_view.specs.View.{Context, IsLive}
 use Rattle.lawful_cycle.specs.Runs.{Figures, added, no_figures}
 use Rattle.core_back.specs.Machine.{Machine, context_at, in_flight, no_context}
-use Rattle.core_run.specs.declared.run.Outcome.{Outcome}
 use Rattle.core_run.specs.Told.{HasRoom, IsShort}
-use Rattle.core_run.specs.Ended.{IsEnd, IsRunFrom}
 
 -- ---- what is in flight at first
 
@@ -84,15 +82,4 @@ underway_room m n k f few within way = record {
   issued = omega (arith, way.issued, within);
   retired = omega (arith, way.fetched, way.flights, few, within);
   squashed = omega (arith, way.fetched, way.flights, few, within);
-}
-
-pub underway_end : (m n : Machine) (limit k : ℕ) (outcome : Outcome) (f : Figures) → IsUnderway m n k f → IsEnd outcome limit f.cycles n.view → IsRunFrom m n limit outcome f
-underway_end m n limit k outcome f way end = record {
-  origin = way.origin;
-  profile = way.profile;
-  cycle = omega (arith, way.cycle, way.cycles);
-  targets = way.targets;
-  live = way.live;
-  flights = way.flights;
-  end = end;
 }

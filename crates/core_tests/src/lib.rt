@@ -7,4 +7,6 @@ mod cores;
 #[cfg(test)]
 mod eight_programs;
 #[cfg(test)]
+mod runs;
+#[cfg(test)]
 mod worked_figures;

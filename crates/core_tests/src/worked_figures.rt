@@ -1,14 +1,14 @@
 //! Programs whose figures are known, cycle by cycle.
-ghost use Rattle.std.specs.Prelude.{◌≡◌, ◌≤◌, IfOk};
+ghost use Rattle.std.specs.Prelude.{◌≡◌, ◌≤◌};
 ghost use Rattle.checkpoint.specs.Aligned.{IsAligned};
 
-use crate::cores::{core_of, origin_of, program_of};
-use branch_predict::{Always, Guess, Sequential, Tables};
-use checkpoint::{Mark, starts};
+use crate::cores::{core_of, front_delay, starts_with, tables_of};
+use branch_predict::{Always, Guess, Sequential};
+use checkpoint::Mark;
 use core_cycle::Core;
-use core_profile::{Profile, ProfileFields};
+use core_profile::Profile;
 use core_view::Status;
-use data_tags::{Delay, Flat, Latencies, Tags};
+use data_tags::{Delay, Flat, Latencies};
 use fetch_policy::RoundRobin;
 use hart_step::Stop;
 use issue_queue::OldestFirst;
@@ -25,18 +25,6 @@ const ONE: [u8; 8] = [1, 0, 0, 0, 0, 0, 0, 0];
 
 /// Context 0 is to retire 100 instructions.
 const TARGETS: [u64; 8] = [100, 0, 0, 0, 0, 0, 0, 0];
-
-/// The starts of an origin with a program at context 0.
-fn starts_with(alloc: Global, words: &[u32], bytes: &[u8]) -> Result<Eight<Mark>, Fail>
-    ensures { IfOk result (λ marks. IsAligned marks) }
-{
-    let program = program_of(alloc, words, bytes)?;
-    let origin = origin_of(
-        alloc,
-        [Some(program), None, None, None, None, None, None, None],
-    )?;
-    Ok(starts(alloc, &origin)?)
-}
 
 /// Cycles, and entries that were fetched, renamed, issued, retired and cut.
 type Figures = [u64; 6];
@@ -74,15 +62,6 @@ fn run<G: Guess + Drop, D: Delay + Drop>(
     figures
 }
 
-/// The default profile with another front delay.
-fn front_delay(cycles: u64) -> Result<Profile, Fail> {
-    let fields = ProfileFields {
-        front_delay: cycles,
-        ..ProfileFields::default()
-    };
-    Profile::checked(fields).map_err(|_| "a profile".into())
-}
-
 /// What a core shows at the end, from marks, by a profile, a guess and a delay.
 fn end_by<G: Guess + Drop, D: Delay + Drop>(
     alloc: Global,
@@ -117,13 +96,6 @@ fn end_of<G: Guess + Drop>(
     let delay = Flat::new(Latencies::from(profile));
     let marks = starts_with(alloc, words, &ONE)?;
     end_by(alloc, profile, marks, guess, delay)
-}
-
-/// The predictor and the data tags of a profile.
-fn tables_of(alloc: Global, profile: &Profile) -> Result<(Tables, Tags), Fail> {
-    let tables = Tables::new(alloc)?;
-    let tags = Tags::new(alloc, Latencies::from(profile))?;
-    Ok((tables, tags))
 }
 
 /// The same by the default profile, with its predictor and data tags.
