@@ -1,9 +1,10 @@
 -- What is selected of the queue, by the places of the flights.
-use Rattle.std.proofs.Common.{◌≡◌, ◌≢◌, ℕ, zero, suc, ◌+◌, ◌<◌, ◌≤◌, Bool, true, false, not, ◌&&◌, cond, List, [], ◌∷◌, length, get_or, take, map, Option, Some, None, refl, sym, ap, subst, ◌∙◌, arith, inl, inr}
+use Rattle.std.proofs.Common.{◌≡◌, ◌≢◌, ℕ, zero, suc, ◌+◌, ◌<◌, ◌≤◌, Bool, true, false, not, ◌&&◌, ◌||◌, cond, List, [], ◌∷◌, length, get_or, take, map, Option, Some, None, refl, sym, ap, subst, ◌∙◌, arith, inl, inr}
 use Rattle.std.specs.Prelude.{◌==◌, nat_lt, filter, All, AllPairs, Contains, is_some}
 use Rattle.std.specs.List.{list_any}
 use Rattle.std.proofs.lemmas.Bool.{and_parts, eqb-true, eq-eqb, lt-ltb, ltb-true, cases_lt, true≢false}
-use Rattle.std.proofs.lemmas.List.{length-map, get_or-map}
+use Rattle.std.proofs.lemmas.List.{length-map, get_or-map, get_or_default}
+use Rattle.std.proofs.lemmas.List.Elements.{All-head, All-tail}
 use Rattle.hart_step.specs.State.{State}
 use Rattle.issue_queue.specs.declared.entry.QueueView.{QueueView}
 use Rattle.issue_queue.specs.Entry.{Entry as Waiting, IsReady, AreDistinct, is_named}
@@ -13,11 +14,12 @@ use Rattle.core_view.specs.declared.note.EntryId.{EntryId}
 use Rattle.core_view.specs.declared.entry.Stage.{Stage}
 use Rattle.core_view.specs.declared.entry.Stage.TheVariants.{Fetched, Queued, Issued, Done}
 use Rattle.core_view.specs.declared.entry.Entry.{Entry}
+use Rattle.core_view.specs.Operations.{is_guessed}
 use Rattle.core_view.specs.Flight.{known, IsGrowing}
 use Rattle.core_view.specs.View.{View, Context, entry_at, no_entry}
 use Rattle.data_flow.specs.Flow.{Flow, Waiter, lane, sources_at, both, is_supplied, is_waiter, waits_of, queued_waiter, queued}
 use Rattle.lawful_cycle.specs.Views.{context_in, is_id}
-use Rattle.lawful_cycle.specs.Issue.{is_queued, first_value, second_value, is_ready_on, is_ready, Place, entry_in, id_in, queue_view, IsReadyIn, IsNotAfter, no_place}
+use Rattle.lawful_cycle.specs.Issue.{is_queued, is_open_guess, first_value, second_value, is_ready_on, is_ready, Place, entry_in, id_in, queue_view, IsReadyIn, IsNotAfter, no_place}
 use Rattle.core_back.specs.Queued.{is_behind, unheld, waiting_of, waiter_for}
 use Rattle.core_back.specs.Issuable.{may_issue_at, IsMarked, must_wait, AreHeld}
 use Rattle.core_back.specs.Track.{Track}
@@ -26,7 +28,7 @@ use Rattle.core_back.specs.Selected.{IsChoice, IsChosen}
 use Rattle.core_back.proofs.Issues.{queued_renamed}
 use Rattle.core_back.proofs.Queue.{behind_at}
 use Rattle.core_back.proofs.Seen.{sources_are}
-use Rattle.core_back.proofs.Selections.{no_waiter, supplied_is}
+use Rattle.core_back.proofs.Selections.{no_waiter, no_waiting, supplied_is}
 use Rattle.core_back.proofs.Waiting.{eqb-flip, same_place, queued_stage}
 
 -- ---- what waits, and its place
@@ -161,3 +163,178 @@ module _ {start : State} {stamp reorder : ℕ} {f : Flow} (c : ℕ) {t : Track} 
       let on = (and_parts (nat_lt i (length t.context.flight) && is_queued (entry_at t.context i).stage) (is_ready_on t.context i (first_value t.context i) (second_value t.context i)) ready).1 in
       let h = both_ready t.context i (first_value t.context i) (second_value t.context i) w.held (held_of w i s) on in
       (ap waits_of (supplied w i s ∙ h.0), h.1)
+
+-- ---- the queue and the flights of a view
+
+-- an element that a test keeps is among what it keeps
+kept_in : (q : Waiting → Bool) (xs : List Waiting) (j : ℕ) (e : Waiting) → j < length xs → get_or xs j e ≡ e → q e ≡ true → Contains (filter q xs) e
+kept_in q [] j e lt is kept = absurd (omega arith)
+kept_in q (x ∷ xs) zero e lt is kept = rw (ap q is ∙ kept) (0, omega arith, is)
+kept_in q (x ∷ xs) (suc j) e lt is kept = go (q x) (kept_in q xs j e (omega (arith, lt)) is kept)
+  where
+    go : (b : Bool) → Contains (filter q xs) e → Contains (cond b (x ∷ filter q xs) (filter q xs)) e
+    go true h = let below = h.1 in (suc h.0, omega (arith, below), h.2)
+    go false h = h
+
+-- the order of two that an order sees
+abbrev AreInOrder : (QueueView → ℕ) → QueueView → QueueView → Type 0
+AreInOrder key a b = (key a ≤ key b) × (key a ≡ key b → a.stamp ≤ b.stamp)
+
+module _ {start : ℕ → State} {stamp reorder : ℕ} (f : Flow) (v : View) (tracks : ℕ → Track) (cores : (c : ℕ) → c < 8 → IsCore (start c) stamp reorder f [] c (tracks c)) (marks : (c : ℕ) → c < 8 → AreHeld f c (tracks c))
+    (all : All (λ w. w.context < 8) f.waiters) (shown : (c : ℕ) → c < 8 → (tracks c).context ≡ context_in v c) where
+  -- what an order sees of a waiter is what it sees of the place that it stands for
+  view_is : (c : ℕ) → c < 8 → (w : Waiter) (i : ℕ) → StandsFor f c (tracks c) w i → queue_view v (record { context = c; place = i }) ≡ view_of (queued_waiter f.lanes w)
+  view_is c lt w i s =
+      let t = tracks c in
+      let seen : Waiter → QueueView = λ u. record { stamp = u.stamp; context = u.context; guessed = u.guessed; speculative = u.speculative } in
+      sym (ap seen s.is ∙ ap (λ b. let q : QueueView = record (seen (waiter_for c t.context.flight (entry_at t.context i))) { speculative = b } in q) (behind_at 0 t.context.flight i (cores c lt).live.flight.growing s.within)
+      ∙ ap (λ (x : Context). let q : QueueView = record { stamp = (entry_at x i).stamp; context = c; guessed = is_guessed (entry_at x i).operation; speculative = list_any is_open_guess (take i x.flight) } in q) (shown c lt))
+
+  -- an entry of the queue that is ready, and its place
+  record IsAt (e : Waiting) (p : Place) : Type 0 where
+    view : queue_view v p ≡ view_of e
+    ready : IsReadyIn v p
+
+  place_at : (e : Waiting) → Contains (queued f) e → IsReady e → (p : Place) × IsAt e p
+  place_at e from ready =
+      let w = get_or f.waiters from.0 no_waiter in
+      let within : from.0 < length f.waiters = omega (arith, from.1, length-map f.waiters (queued_waiter f.lanes)) in
+      let is : e ≡ queued_waiter f.lanes w = sym from.2 ∙ get_or-map (queued_waiter f.lanes) f.waiters from.0 no_waiter e within in
+      let lt : w.context < 8 = all from.0 no_waiter within in
+      let there : Contains f.waiters w = (from.0, within, get_or_default f.waiters from.0 w no_waiter within) in
+      let s = stands w.context (cores w.context lt) (marks w.context lt) w there refl in (
+        record { context = w.context; place = s.0 },
+        record {
+          view = view_is w.context lt w s.0 s.1 ∙ ap view_of (sym is);
+          ready = (lt, ap (λ x. is_ready x s.0) (sym (shown w.context lt)) ∙ ready_place w.context (cores w.context lt) (marks w.context lt) w s.0 s.1 (subst IsReady is ready));
+        },
+      )
+
+  entry_of_place : (p : Place) → IsReadyIn v p → (e : Waiting) × Contains (queued f) e × IsReady e × (queue_view v p ≡ view_of e)
+  entry_of_place p ready =
+      let t = tracks p.context in
+      let lt = ready.0 in
+      let here : is_ready t.context p.place ≡ true = ap (λ x. is_ready x p.place) (shown p.context lt) ∙ ready.1 in
+      let parts = and_parts (nat_lt p.place (length t.context.flight)) (is_queued (entry_at t.context p.place).stage) (and_parts (nat_lt p.place (length t.context.flight) && is_queued (entry_at t.context p.place).stage) (is_ready_on t.context p.place (first_value t.context p.place) (second_value t.context p.place)) here).0 in
+      let q = stood_for p.context (cores p.context lt) (marks p.context lt) p.place (ltb-true p.place (length t.context.flight) parts.0) (queued_stage (entry_at t.context p.place).stage parts.1) in
+      let w = q.0 in
+      let from = q.1 in
+      let below = from.1 in
+      let e : Waiting = queued_waiter f.lanes w in (
+        e,
+        (from.0, omega (arith, below, length-map f.waiters (queued_waiter f.lanes)), get_or-map (queued_waiter f.lanes) f.waiters from.0 w e below ∙ ap (queued_waiter f.lanes) from.2),
+        place_ready p.context (cores p.context lt) (marks p.context lt) w p.place q.2 here,
+        view_is p.context lt w p.place q.2,
+      )
+
+  -- entries, and their places, one by one
+  abbrev Match : List Waiting → List Place → Type 0
+  Match [] [] = Unit {0}
+  Match [] (p ∷ ps) = ⊥
+  Match (e ∷ es) [] = ⊥
+  Match (e ∷ es) (p ∷ ps) = IsAt e p × Match es ps
+
+  places : (es : List Waiting) → All (Contains (queued f)) es → All IsReady es → (ps : List Place) × Match es ps
+  places [] from ready = ([], tt)
+  places (e ∷ es) from ready =
+      let one = place_at e (All-head (Contains (queued f)) e es from) (All-head IsReady e es ready) in
+      let more = places es (All-tail (Contains (queued f)) e es from) (All-tail IsReady e es ready) in
+      (one.0 ∷ more.0, (one.1, more.1))
+
+  match_length : (es : List Waiting) (ps : List Place) → Match es ps → length ps ≡ length es
+  match_length [] [] h = refl
+  match_length [] (p ∷ ps) h = absurd h
+  match_length (e ∷ es) [] h = absurd h
+  match_length (e ∷ es) (p ∷ ps) h = ap suc (match_length es ps h.1)
+
+  match_at : (es : List Waiting) (ps : List Place) → Match es ps → (j : ℕ) (d : Waiting) (q : Place) → j < length es → IsAt (get_or es j d) (get_or ps j q)
+  match_at [] [] h j d q lt = absurd (omega arith)
+  match_at [] (p ∷ ps) h j d q lt = absurd h
+  match_at (e ∷ es) [] h j d q lt = absurd h
+  match_at (e ∷ es) (p ∷ ps) h zero d q lt = h.0
+  match_at (e ∷ es) (p ∷ ps) h (suc j) d q lt = match_at es ps h.1 j d q (omega (arith, lt))
+
+  abbrev named : QueueView → EntryId
+  named q = record { context = q.context; stamp = q.stamp }
+
+  match_names : (es : List Waiting) (ps : List Place) → Match es ps → map name_of es ≡ map (id_in v) ps
+  match_names [] [] h = refl
+  match_names [] (p ∷ ps) h = absurd h
+  match_names (e ∷ es) [] h = absurd h
+  match_names (e ∷ es) (p ∷ ps) h = ap (λ n. n ∷ map name_of es) (sym (ap named h.0.view)) ∙ ap (λ ns. id_in v p ∷ ns) (match_names es ps h.1)
+
+  -- one place has a context and a stamp
+  same_name : (p q : Place) → IsReadyIn v p → IsReadyIn v q → p.context ≡ q.context → (entry_in v p).stamp ≡ (entry_in v q).stamp → q ≡ p
+  same_name p q ready other context stamps =
+      let growing : IsGrowing 0 (context_in v p.context).flight = subst (λ (x : Context). IsGrowing 0 x.flight) (shown p.context ready.0) (cores p.context ready.0).live.flight.growing in
+      let place : p.place ≡ q.place = same_place 0 (context_in v p.context).flight p.place q.place growing (ready_within p ready) (subst (λ c. q.place < length (context_in v c).flight) (sym context) (ready_within q other))
+      (stamps ∙ ap (λ c. (entry_at (context_in v c) q.place).stamp) (sym context)) in
+      parts q.context q.place p.context p.place (sym context) (sym place)
+    where
+      parts : (a b c d : ℕ) → a ≡ c → b ≡ d → ◌≡◌ {A = Place} (record { context = a; place = b }) (record { context = c; place = d })
+      parts a b c d p q = rw (p, q) refl
+
+      ready_within : (r : Place) → IsReadyIn v r → r.place < length (context_in v r.context).flight
+      ready_within r h =
+          ltb-true r.place (length (context_in v r.context).flight) (and_parts (nat_lt r.place (length (context_in v r.context).flight)) (is_queued (entry_in v r).stage)
+          (and_parts (nat_lt r.place (length (context_in v r.context).flight) && is_queued (entry_in v r).stage) (is_ready_on (context_in v r.context) r.place (first_value (context_in v r.context) r.place) (second_value (context_in v r.context) r.place)) h.1).0).0
+
+  -- what is among the names is among the places
+  among_places : (p : Place) (e : Waiting) → IsReadyIn v p → queue_view v p ≡ view_of e → (es : List Waiting) (ps : List Place) → Match es ps → is_among (map name_of es) e ≡ true → Contains ps p
+  among_places p e ready view [] ps h is = absurd (true≢false (sym is))
+  among_places p e ready view (d ∷ es) [] h is = absurd h
+  among_places p e ready view (d ∷ es) (q ∷ ps) h is = go (is_named d.context d.stamp e) refl is (λ later. among_places p e ready view es ps h.1 later)
+    where
+      go : (b : Bool) → is_named d.context d.stamp e ≡ b → (b || is_among (map name_of es) e) ≡ true → (is_among (map name_of es) e ≡ true → Contains ps p) → Contains (q ∷ ps) p
+      go true here some rest =
+          let same = and_parts (e.context == d.context) (e.stamp == d.stamp) here in
+          let context : p.context ≡ q.context = ap (λ (a : QueueView). a.context) view ∙ eqb-true e.context d.context same.0 ∙ sym (ap (λ (a : QueueView). a.context) h.0.view) in
+          let stamps : (entry_in v p).stamp ≡ (entry_in v q).stamp = ap (λ (a : QueueView). a.stamp) view ∙ eqb-true e.stamp d.stamp same.1 ∙ sym (ap (λ (a : QueueView). a.stamp) h.0.view) in
+          (0, omega arith, same_name p q ready h.0.ready context stamps)
+      go false here some rest = let found = rest some in let below = found.1 in (suc found.0, omega (arith, below), found.2)
+
+  pub is_chosen : (key : QueueView → ℕ) (width : ℕ) (rest : List Waiting) (names : List EntryId) → IsSelected (λ e. key (view_of e)) width (queued f) rest names → IsChosen key width v names
+  is_chosen key width rest names s =
+      let ps = places s.chosen s.queued s.ready in
+      record { chosen = ps.0; names_are = s.names ∙ match_names s.chosen ps.0 ps.1; choice = choice ps.0 ps.1 }
+    where
+      -- a ready place that isn't chosen stays in the queue
+      left : (ps : List Place) → Match s.chosen ps → (p : Place) → IsReadyIn v p → ¬ Contains ps p → (e : Waiting) × Contains rest e × IsReady e × (queue_view v p ≡ view_of e)
+      left ps h p ready out =
+          let q = entry_of_place p ready in
+          let from = q.1 in
+          (q.0, subst (λ xs. Contains xs q.0) (sym s.others) (kept_in (λ e. not (is_among names e)) (queued f) from.0 q.0 from.1 from.2 (stays q.0 q.3)), q.2, q.3)
+        where
+          stays : (e : Waiting) → queue_view v p ≡ view_of e → not (is_among names e) ≡ true
+          stays e view = by_among (is_among names e) refl
+            where
+              by_among : (t : Bool) → is_among names e ≡ t → not t ≡ true
+              by_among true is = absurd (out (among_places p e ready view s.chosen ps h (ap (λ ns. is_among ns e) (sym s.names) ∙ is)))
+              by_among false is = refl
+
+      choice : (ps : List Place) → Match s.chosen ps → IsChoice key width v ps
+      choice ps h = record {
+        ready = λ j d lt. (match_at s.chosen ps h j no_waiting d (omega (arith, lt, count))).ready;
+        once = λ i j d lt within. apart (get_or s.chosen i no_waiting) (get_or s.chosen j no_waiting) (get_or ps i d) (get_or ps j d) (match_at s.chosen ps h i no_waiting d (omega (arith, lt, within, count))).view (match_at s.chosen ps h j no_waiting d (omega (arith, within, count))).view (s.once i j no_waiting lt (omega (arith, within, count)));
+        in_order = λ i j d lt within. ordered (get_or s.chosen i no_waiting) (get_or s.chosen j no_waiting) (get_or ps i d) (get_or ps j d) (match_at s.chosen ps h i no_waiting d (omega (arith, lt, within, count))).view (match_at s.chosen ps h j no_waiting d (omega (arith, within, count))).view (s.in_order i j no_waiting lt (omega (arith, within, count)));
+        most = omega (arith, s.at_most, count);
+        used_up = λ p ready out. elim (cases_lt (length s.chosen) width) [
+          | inl fewer ↦ (let q = left ps h p ready out in let from = q.1 in absurd (s.exhausted fewer from.0 q.0 from.1 (subst IsReady (sym from.2) q.2)))
+          | inr full ↦ omega (arith, full, s.at_most, count)
+        ];
+        first = λ p ready out j d lt.
+            let q = left ps h p ready out in
+            let from = q.1 in
+            ordered (get_or s.chosen j no_waiting) q.0 (get_or ps j d) p (match_at s.chosen ps h j no_waiting d (omega (arith, lt, count))).view q.3 (subst (IsInOrder (λ e. key (view_of e)) (get_or s.chosen j no_waiting)) from.2 (s.first j no_waiting (omega (arith, lt, count)) from.0 q.0 from.1 (subst IsReady (sym from.2) q.2)));
+      }
+        where
+          count : length ps ≡ length s.chosen
+          count = match_length s.chosen ps h
+
+          ordered : (e g : Waiting) (p q : Place) → queue_view v p ≡ view_of e → queue_view v q ≡ view_of g → IsInOrder (λ x. key (view_of x)) e g → IsNotAfter key v p q
+          ordered e g p q a b h = subst (λ u. AreInOrder key u (queue_view v q)) (sym a) (subst (λ u. AreInOrder key (view_of e) u) (sym b) h)
+
+          apart : (e g : Waiting) (p q : Place) → queue_view v p ≡ view_of e → queue_view v q ≡ view_of g → AreDistinct e g → is_id p.context (entry_in v p).stamp (id_in v q) ≡ false
+          apart e g p q a b h =
+              ap (λ (u : QueueView). (q.context == u.context) && ((entry_in v q).stamp == u.stamp)) a ∙ ap (λ (u : QueueView). (u.context == e.context) && (u.stamp == e.stamp)) b
+              ∙ ap (λ t. t && (g.stamp == e.stamp)) (eqb-flip g.context e.context) ∙ ap (λ t. (e.context == g.context) && t) (eqb-flip g.stamp e.stamp) ∙ h

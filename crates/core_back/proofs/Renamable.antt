@@ -96,7 +96,7 @@ lanes_eight g (a ∷ b ∷ d ∷ e ∷ f ∷ h ∷ i ∷ j ∷ k ∷ ls) count =
 
 module _ {A : Type 0} where
   -- the flight of a context is its track's
-  track_flight : (m : Inside A) (now : Machine) (c : ℕ) → machine_of m ≡ now → IsMachine m → c < 8 → (get_or m.tracks.items c no_track).context ≡ context_at now c
+  pub track_flight : (m : Inside A) (now : Machine) (c : ℕ) → machine_of m ≡ now → IsMachine m → c < 8 → (get_or m.tracks.items c no_track).context ≡ context_at now c
   track_flight m now c shows ok lt = sym (get_or-map (λ (u : Track). u.context) m.tracks.items c no_track no_context (omega (arith, lt, ok.tracks))) ∙ ap (λ (v : Machine). context_at v c) shows
 
   -- and has so many entries at most

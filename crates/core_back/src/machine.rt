@@ -11,6 +11,7 @@ ghost use Rattle.lawful_cycle.specs.Rename.{CanRename};
 ghost use Rattle.lawful_cycle.specs.Fetch.{is_fetched, is_missing, is_eligible, oldest_place};
 ghost use Rattle.origin_set.specs.Start.{start};
 ghost use Rattle.core_back.specs.Machine.{IsAlike, context_at, in_flight, with_context, with_cycle, first_done, due_in};
+ghost use Rattle.core_back.specs.Selected.{IsChosen};
 ghost use Rattle.core_back.specs.Issued.{IsIssued};
 ghost use Rattle.core_back.specs.Fetched.{IsRenamed, IsFetched};
 ghost use Rattle.core_back.specs.Renamable.{CanRenameStamp};
@@ -270,6 +271,7 @@ impl<A: Allocator> Machine<A> {
         requires idle { self.old.names ≡ [] }
         ensures selected { self.new ≡ record self.old { names = self.new.names } }
         ensures most { length self.new.names ≤ width }
+        ensures choice { IsChosen (O.key_of order.now) width self.old.view self.new.names }
     {
         events::release(&mut self.flow, self.holds);
         self.holds = false;
