@@ -30,3 +30,4 @@ pub mod RetireTurns
 pub mod Counted
 pub mod Ahead
 pub mod Laws
+pub mod IssueViews

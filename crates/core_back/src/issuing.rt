@@ -1,6 +1,7 @@
 //! The part of a cycle in which entries issue.
 
 ghost use Rattle.std.specs.Prelude.{◌≡◌, ◌+◌, ◌<◌, ◌≤◌, ◌^◌, []};
+ghost use Rattle.lawful_cycle.specs.Issue.{IsIssue};
 ghost use Rattle.core_back.specs.Machine.{IsAlike, in_flight};
 
 use crate::machine::Machine;
@@ -26,8 +27,11 @@ pub fn issue<A: Allocator, O: Order, D: Delay>(
     ensures keeps { D.may_answer delay.new ≡ D.may_answer delay.old }
     ensures keeps_greatest { D.greatest_lag delay.new ≡ D.greatest_lag delay.old }
     ensures flights { in_flight machine.new ≡ in_flight machine.old }
+    ensures lawful { IsIssue (O.key_of order.now) (D.may_answer delay.old) machine.old.view machine.new.view issued.new.items }
 {
     let width = usize::from(machine.profile().issue_width);
+    // `cycle` ensures that each context is live, so its stamps grow.
+    let _live = machine.cycle();
     machine.select(order, width);
     for _place in 0..width {
         let Some(issue) = machine.issue_next(delay) else {

@@ -1,9 +1,14 @@
-use Rattle.std.proofs.Common.{List, ap, sym, subst, ◌∙◌, refl, length, arith}
+use Rattle.std.proofs.Common.{ℕ, Bool, List, ap, sym, subst, ◌∙◌, refl, length, arith}
+use Rattle.core_profile.specs.declared.profile.Profile.{Profile}
+use Rattle.data_tags.specs.declared.delay.Kind.{Kind}
+use Rattle.data_tags.specs.declared.delay.Lag.{Lag}
 use Rattle.core_view.specs.declared.note.EntryId.{EntryId}
+use Rattle.lawful_cycle.specs.Issue.{IsIssue}
 use Rattle.core_back.specs.Machine.{Machine, IsAlike, context_at, in_flight}
 use Rattle.core_back.specs.Issued.{IsIssued}
 use Rattle.core_back.proofs.InFlight.{in_flight_same, in_flight_issued}
 use Rattle.core_back.proofs.Turns.{alike_chain, issue_alike, none_left}
+use Rattle.core_back.proofs.IssueViews.{issuing_first, issuing_next, issuing_done}
 use Rattle.core_back.proofs.issuing.issue.Goals as goal
 
 pub loop-place-init : goal.loop-place-init
@@ -11,6 +16,8 @@ loop-place-init g c =
     let e = c.select.ensures.selected in
     record {
       alike = record { origin = ap (λ (m : Machine). m.origin) e; profile = ap (λ (m : Machine). m.view.profile) e; cycle = ap (λ (m : Machine). m.view.cycle) e; room = ap (λ (m : Machine). m.fetch_room) e; targets = λ d lt. ap (λ (m : Machine). (context_at m d).target) e };
+      issuing = issuing_first (g.O.Order.key_of c.args.order.now) (g.D.Delay.may_answer c.args.delay.now) c.from-width.result c.args.machine.now c.select.new.self c.args.issued.now.items c.cycle-live.ensures.contexts (ap (λ (m : Machine). m.view) e) c.requires.fresh c.select.ensures.choice;
+      profile = c.from-width.ensures ∙ ap (λ (p : Profile). p.issue_width) c.profile.ensures;
       left = omega (arith, c.select.ensures.most);
       flights = in_flight_same c.args.machine.now c.select.new.self (ap (λ (m : Machine). m.view.contexts) e);
       room = omega (arith, ap length c.requires.fresh);
@@ -36,6 +43,10 @@ loop-place-preserved g c =
     let step : IsIssued (g.D.Delay.may_answer c.loop-place.delay) c.loop-place.machine c.issue_next.new.self c.in-Some.issue = c.in-Some.ensures.issued in
     record {
       alike = alike_chain c.args.machine.now c.loop-place.machine c.issue_next.new.self c.loop-place.invariant.alike (issue_alike c.loop-place.machine c.issue_next.new.self c.in-Some.issue step);
+      issuing = issuing_next (g.O.Order.key_of c.args.order.now) (g.D.Delay.may_answer c.args.delay.now) c.from-width.result c.args.machine.now c.loop-place.machine c.issue_next.new.self c.loop-place.issued.items c.push.new.self.items c.in-Some.issue
+          (λ d ld. (c.cycle-live.ensures.live d ld).flight.growing) c.loop-place.invariant.issuing
+          (subst (λ (says : ℕ → Kind → ℕ → Lag → Bool). IsIssued says c.loop-place.machine c.issue_next.new.self c.in-Some.issue) c.loop-place.invariant.keeps step) c.push.ensures.items;
+      profile = c.loop-place.invariant.profile;
       flights = in_flight_issued c.loop-place.machine c.issue_next.new.self c.in-Some.issue step ∙ c.loop-place.invariant.flights;
       left = omega (arith, c.loop-place.invariant.left, ap (λ (ns : List EntryId). length ns) step.names);
       room = omega (arith, c.loop-place.invariant.room, c.push.ensures.len);
@@ -64,3 +75,14 @@ returns-in_default-clause-flights g c = ap in_flight (c.issue_next.ensures.none 
 
 pub returns-clause-flights : goal.returns-clause-flights
 returns-clause-flights g c = c.loop-place.invariant.flights
+
+pub returns-in_default-clause-lawful : goal.returns-in_default-clause-lawful
+returns-in_default-clause-lawful g c =
+    let none = c.issue_next.ensures.none c.in_default.is in
+    subst (λ (m : Machine). IsIssue (g.O.Order.key_of c.args.order.now) (g.D.Delay.may_answer c.args.delay.now) c.args.machine.now.view m.view c.loop-place.issued.items) (sym none.1)
+    (issuing_done (g.O.Order.key_of c.args.order.now) (g.D.Delay.may_answer c.args.delay.now) c.from-width.result c.args.machine.now c.loop-place.machine c.loop-place.issued.items c.loop-place.invariant.issuing c.loop-place.invariant.profile none.0)
+
+pub returns-clause-lawful : goal.returns-clause-lawful
+returns-clause-lawful g c =
+    issuing_done (g.O.Order.key_of c.args.order.now) (g.D.Delay.may_answer c.args.delay.now) c.from-width.result c.args.machine.now c.loop-place.machine c.loop-place.issued.items c.loop-place.invariant.issuing c.loop-place.invariant.profile
+    (none_left c.loop-place.machine.names (omega (arith, c.loop-place.invariant.left, c.loop-place-test.false)))
