@@ -5,3 +5,4 @@ pub mod Picked
 pub mod EightOf
 pub mod AheadCounts
 pub mod Renamings
+pub mod Whole

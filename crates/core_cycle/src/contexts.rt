@@ -4,6 +4,7 @@ ghost use Rattle.std.specs.Prelude.{◌≡◌, ℕ, ◌+◌, ◌<◌, ◌^◌, [
 ghost use Rattle.arrayvec.specs.ArrayVec.{array_vec_len};
 ghost use Rattle.core_view.specs.View.{IsLive};
 ghost use Rattle.origin_set.specs.Start.{start};
+ghost use Rattle.lawful_cycle.specs.Cycle.{IsLawfulCycle, laws_of};
 ghost use Rattle.core_back.specs.Machine.{context_at, in_flight};
 
 use crate::{fetching, renaming};
@@ -80,6 +81,7 @@ impl<A: Allocator> Contexts<A> {
         ensures guess { G.may_answer guess.new ≡ G.may_answer guess.old }
         ensures delay { D.may_answer delay.new ≡ D.may_answer delay.old }
         ensures greatest { D.greatest_lag delay.new ≡ D.greatest_lag delay.old }
+        ensures lawful { IsLawfulCycle (laws_of (P.key_of pick.now) (O.key_of order.now) (G.may_answer guess.old) (D.may_answer delay.old)) self.old.view self.new.view result }
         ensures flights { result.cut + array_vec_len result.retired + in_flight self.new ≡ in_flight self.old + array_vec_len result.fetched }
     {
         let mut note = CycleNote::new();

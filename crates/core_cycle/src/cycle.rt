@@ -7,6 +7,7 @@ ghost use Rattle.checkpoint.specs.Aligned.{IsAligned};
 ghost use Rattle.core_view.specs.View.{IsLive, IsSoundFlight, StatusHolds};
 ghost use Rattle.hart_step.specs.Next.{after};
 ghost use Rattle.origin_set.specs.Start.{start};
+ghost use Rattle.lawful_cycle.specs.Cycle.{IsLawfulCycle, laws_of};
 ghost use Rattle.core_back.specs.Machine.{context_at, in_flight, IsAlike};
 ghost use Rattle.core_back.specs.First.{IsFirst, AreMarksAt};
 ghost use Rattle.core_cycle.specs.Faults.{IsBehind, IsRefusal};
@@ -132,6 +133,7 @@ impl<G: Guess + Drop, P: Pick + Drop, O: Order + Drop, D: Delay + Drop, A: Alloc
         ensures greatest { D.greatest_lag self.new.delay ≡ D.greatest_lag self.old.delay }
         ensures pick { self.new.pick ≡ self.old.pick }
         ensures order { self.new.order ≡ self.old.order }
+        ensures lawful { IsLawfulCycle (laws_of (P.key_of self.old.pick) (O.key_of self.old.order) (G.may_answer self.old.guess) (D.may_answer self.old.delay)) (shown self.old).view (shown self.new).view result }
         ensures flights { result.cut + array_vec_len result.retired + in_flight (shown self.new) ≡ in_flight (shown self.old) + array_vec_len result.fetched }
     {
         self.contexts
