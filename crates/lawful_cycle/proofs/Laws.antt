@@ -3,3 +3,5 @@
 pub use Rattle.lawful_cycle.proofs.Listed.{sum_agree}
 -- views are equal where their contexts are; what a view with entries renamed shows of a context, and with none renamed
 pub use Rattle.lawful_cycle.proofs.SameViews.{same_views, renamed_in, renamed_none}
+-- a run goes on by a lawful cycle
+pub use Rattle.lawful_cycle.proofs.Chains.{run_next}
