@@ -39,10 +39,7 @@ fn faults_of_plans(rt: HostRuntime) -> Result<(), Fail> {
             "[[jobs]]\nlimit = 1\n[[jobs]]\nlimit = 1\nprofile = { num2 = '8' }\n",
             "refused J4 1 P2 num2",
         ),
-        (
-            "programs = { loop = 'nop\nnop\nj on' }",
-            "refused J1",
-        ),
+        ("programs = { loop = 'nop\nnop\nj on' }", "refused J1"),
         (
             "programs = { loop = \"nop\\nnop\\nj on\" }\n[[jobs]]\nlimit = 1\nprofile = { num2 = '8' }\n",
             "refused J5 loop A4 line 3",

@@ -22,7 +22,9 @@ fn report_text(alloc: &Global, plan: &str) -> Result<String, Fail> {
 
 /// A plan of one program at context 0, and jobs.
 fn plan_of(alloc: &Global, program: &str, jobs: &[&str]) -> Result<String, Fail> {
-    let mut plan = format!(in *alloc; "contexts = ['only']\n[programs]\nonly = '''\n{program}'''\n")?;
+    let mut plan = format!(in *alloc;
+        "contexts = ['only']\n[programs]\nonly = '''\n{program}'''\n"
+    )?;
     for job in jobs {
         write!(plan, "[[jobs]]\n{job}")?;
     }
@@ -33,7 +35,10 @@ fn plan_of(alloc: &Global, program: &str, jobs: &[&str]) -> Result<String, Fail>
 fn blocks_after(alloc: &Global, first: &str) -> Result<String, Fail> {
     let mut text = format!(in *alloc; "smt-lab report 1\n{first}")?;
     for context in 1..8usize {
-        write!(text, "context {context} count 0 stop 1 pc 0000000000010000\n{EMPTY_MEMORY}")?;
+        write!(
+            text,
+            "context {context} count 0 stop 1 pc 0000000000010000\n{EMPTY_MEMORY}"
+        )?;
     }
     Ok(text)
 }
@@ -138,7 +143,10 @@ fn one_job_each(rt: HostRuntime) -> Result<(), Fail> {
         let plan = plan_of(&alloc, program, &[job])?;
         let blocks = blocks_after(&alloc, block)?;
         let wanted = format!(in alloc; "{blocks}{lines}")?;
-        assert_eq!(rt; report_text(&alloc, plan.as_str())?.as_str(), wanted.as_str());
+        assert_eq!(rt;
+            report_text(&alloc, plan.as_str())?.as_str(),
+            wanted.as_str()
+        );
     }
     Ok(())
 }

@@ -2,7 +2,6 @@
 
 ghost use Rattle.std.specs.Prelude.{◌≡◌};
 
-use super::refusal::Refusal;
 use std::alloc::Allocator;
 
 /// What a command writes, and how it then ends.
