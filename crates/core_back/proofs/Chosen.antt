@@ -1,6 +1,6 @@
 -- What is selected of the queue, by the places of the flights.
-use Rattle.std.proofs.Common.{◌≡◌, ◌≢◌, ℕ, zero, suc, ◌+◌, ◌<◌, ◌≤◌, Bool, true, false, not, ◌&&◌, ◌||◌, cond, List, [], ◌∷◌, length, get_or, take, map, Option, Some, None, refl, sym, ap, subst, ◌∙◌, arith, inl, inr}
-use Rattle.std.specs.Prelude.{◌==◌, nat_lt, filter, All, AllPairs, Contains, is_some}
+use Rattle.std.proofs.Common.{◌≡◌, ℕ, zero, suc, ◌<◌, ◌≤◌, Bool, true, false, not, ◌&&◌, ◌||◌, cond, List, [], ◌∷◌, length, get_or, take, map, Option, Some, None, refl, sym, ap, subst, ◌∙◌, arith, inl, inr}
+use Rattle.std.specs.Prelude.{◌==◌, nat_lt, filter, All, Contains, is_some}
 use Rattle.std.specs.List.{list_any}
 use Rattle.std.proofs.lemmas.Bool.{and_parts, eqb-true, eq-eqb, lt-ltb, ltb-true, cases_lt, true≢false}
 use Rattle.std.proofs.lemmas.List.{length-map, get_or-map, get_or_default}
@@ -11,17 +11,16 @@ use Rattle.issue_queue.specs.Entry.{Entry as Waiting, IsReady, AreDistinct, is_n
 use Rattle.issue_queue.specs.Views.{name_of, view_of}
 use Rattle.issue_queue.specs.IsSelected.{IsInOrder, IsSelected, is_among}
 use Rattle.core_view.specs.declared.note.EntryId.{EntryId}
-use Rattle.core_view.specs.declared.entry.Stage.{Stage}
-use Rattle.core_view.specs.declared.entry.Stage.TheVariants.{Fetched, Queued, Issued, Done}
+use Rattle.core_view.specs.declared.entry.Stage.TheVariants.{Queued}
 use Rattle.core_view.specs.declared.entry.Entry.{Entry}
 use Rattle.core_view.specs.Operations.{is_guessed}
 use Rattle.core_view.specs.Flight.{known, IsGrowing}
 use Rattle.core_view.specs.View.{View, Context, entry_at, no_entry}
 use Rattle.data_flow.specs.Flow.{Flow, Waiter, lane, sources_at, both, is_supplied, is_waiter, waits_of, queued_waiter, queued}
 use Rattle.lawful_cycle.specs.Views.{context_in, is_id}
-use Rattle.lawful_cycle.specs.Issue.{is_queued, is_open_guess, first_value, second_value, is_ready_on, is_ready, Place, entry_in, id_in, queue_view, IsReadyIn, IsNotAfter, no_place}
-use Rattle.core_back.specs.Queued.{is_behind, unheld, waiting_of, waiter_for}
-use Rattle.core_back.specs.Issuable.{may_issue_at, IsMarked, must_wait, AreHeld}
+use Rattle.lawful_cycle.specs.Issue.{is_queued, is_open_guess, first_value, second_value, is_ready_on, is_ready, Place, entry_in, id_in, queue_view, IsReadyIn, IsNotAfter}
+use Rattle.core_back.specs.Queued.{unheld, waiting_of, waiter_for}
+use Rattle.core_back.specs.Issuable.{may_issue_at, must_wait, AreHeld}
 use Rattle.core_back.specs.Track.{Track}
 use Rattle.core_back.specs.Cores.{is_waiting, waiters_of, IsCore}
 use Rattle.core_back.specs.Selected.{IsChoice, IsChosen}
