@@ -1,6 +1,7 @@
 //! A run of a core.
 
 ghost use Rattle.std.specs.Prelude.{◌≡◌, ◌↔◌, ◌+◌, ◌≤◌, ◌^◌, IsTrue};
+ghost use Rattle.lawful_cycle.specs.Cycle.{laws_of};
 ghost use Rattle.lawful_cycle.specs.Runs.{SomeRuns};
 ghost use Rattle.core_cycle.specs.Shown.{shown};
 ghost use Rattle.core_run.specs.Told.{figures_of};
@@ -42,7 +43,7 @@ pub fn run_to<G: Guess + Drop, P: Pick + Drop, O: Order + Drop, D: Delay + Drop,
     limit: u64,
 ) -> Run<A>
     requires { (shown core).view.cycle + limit ≤ 2 ^ 56 }
-    ensures { IsRunOf (shown core) limit result.outcome (figures_of result.figures) result.marks }
+    ensures { IsRunOf (laws_of (P.key_of core.pick) (O.key_of core.order) (G.may_answer core.guess) (D.may_answer core.delay)) (shown core) limit result.outcome (figures_of result.figures) result.marks }
 {
     let mut core = core;
     let (outcome, figures) = advance(&mut core, limit);
@@ -59,7 +60,7 @@ fn advance<G: Guess + Drop, P: Pick + Drop, O: Order + Drop, D: Delay + Drop, A:
     limit: u64,
 ) -> (Outcome, Figures)
     requires { (shown core.old).view.cycle + limit ≤ 2 ^ 56 }
-    ensures { IsRunFrom (shown core.old) (shown core.new) limit result.0 (figures_of result.1) }
+    ensures { IsRunFrom (laws_of (P.key_of core.old.pick) (O.key_of core.old.order) (G.may_answer core.old.guess) (D.may_answer core.old.delay)) (shown core.old) (shown core.new) limit result.0 (figures_of result.1) }
 {
     // `cycles` ensures that what is in flight can be counted.
     let _first = core.cycles();

@@ -8,6 +8,17 @@ use Rattle.origin_set.specs.OriginValue.{OriginValue}
 use Rattle.checkpoint.specs.MarkValue.{MarkValue}
 use Rattle.checkpoint.specs.Aligned.{AreMarksOf, IsAligned}
 use Rattle.checkpoint.specs.Further.{MarkKin}
+use Rattle.core_profile.specs.declared.profile.Profile.{Profile}
+use Rattle.fetch_policy.specs.Keys as pick
+use Rattle.fetch_policy.specs.Keys.{named_as}
+use Rattle.fetch_policy.specs.declared.named.NamedPick.{NamedPick}
+use Rattle.issue_queue.specs.Keys as order
+use Rattle.issue_queue.specs.Keys.{order_of}
+use Rattle.issue_queue.specs.declared.order.NamedOrder.{NamedOrder}
+use Rattle.branch_predict.specs.Stated.{stated}
+use Rattle.data_tags.specs.declared.latencies.Latencies.{Latencies}
+use Rattle.data_tags.specs.Latency.{HasLatenciesOf, is_lag_of}
+use Rattle.lawful_cycle.specs.Cycle.{Laws, laws_of}
 use Rattle.core_back.specs.Machine.{Machine}
 use Rattle.core_back.specs.First.{IsFirst, AreMarksAt}
 use Rattle.core_run.specs.declared.run.Outcome.{Outcome}
@@ -18,7 +29,7 @@ use Rattle.lab_plan.specs.declared.job.Job.{Job}
 use Rattle.lab_plan.specs.declared.start.JobStart.{JobStart}
 use Rattle.lab_plan.specs.declared.start.JobStart.TheVariants.{Opening, Furthest}
 use Rattle.lab_pool.specs.Counts.{counts_in, AreTargets}
-use Rattle.lab_pool.specs.Allowed.{IsJobRun, started_from}
+use Rattle.lab_pool.specs.Allowed.{IsJobRun, job_laws, started_from}
 
 -- ---- the marks at which it starts
 
@@ -39,9 +50,9 @@ start_aligned s opening book start aligned known is = subst IsAligned (sym is) (
 -- ---- where it ends
 
 -- the marks that are left are of the opening's origin
-pub left_known : (o : OriginValue) (start marks : Eight MarkValue) (job : Job) (targets : List ℕ) (limit : ℕ) (outcome : Outcome) (figures : Figures) (first last : Machine)
-    → AreMarksOf o start → IsFirst job.profile start targets first → IsRunFrom first last limit outcome (figures_of figures) → AreMarksAt last marks → AreMarksOf o marks
-left_known o start marks job targets limit outcome figures first last known begins runs ends i lt =
+pub left_known : (o : OriginValue) (start marks : Eight MarkValue) (job : Job) (targets : List ℕ) (laws : Laws) (limit : ℕ) (outcome : Outcome) (figures : Figures) (first last : Machine)
+    → AreMarksOf o start → IsFirst job.profile start targets first → IsRunFrom laws first last limit outcome (figures_of figures) → AreMarksAt last marks → AreMarksOf o marks
+left_known o start marks job targets laws limit outcome figures first last known begins runs ends i lt =
     let is = ends i lt in
     let zero_known = known 0 (omega arith) in
     record {
@@ -58,17 +69,25 @@ known_kin o book marks known left i lt =
 pub count_at : (marks : Eight MarkValue) (i : ℕ) → i < 8 → slice_index (counts_in marks) i ≡ (place_of marks i).count
 count_at marks = each_place (λ i. slice_index (counts_in marks) i ≡ (place_of marks i).count) refl refl refl refl refl refl refl refl
 
-pub job_ran : (job : Job) (from start marks : Eight MarkValue) (targets starts counts : List ℕ) (outcome : Outcome) (figures : Figures) (first last : Machine)
+-- what a core asks that names its profile's policies
+laws_as : (profile : Profile) (latencies : Latencies) (chosen : NamedPick) (ordered : NamedOrder) → chosen ≡ named_as profile.fetch → ordered ≡ order_of profile.issue
+    → laws_of (pick.named_key chosen) (order.named_key ordered) (λ c. stated) (λ c kind address. is_lag_of latencies kind) ≡ job_laws profile latencies
+laws_as profile latencies chosen ordered p o = rw (p, o) refl
+
+pub job_ran : (job : Job) (from start marks : Eight MarkValue) (targets starts counts : List ℕ) (chosen : NamedPick) (ordered : NamedOrder) (latencies : Latencies) (outcome : Outcome) (figures : Figures) (first last : Machine)
     → start ≡ from → starts ≡ counts_in start → AreTargets job.targets start targets → IsFirst job.profile start targets first
-    → IsRunFrom first last job.limit outcome (figures_of figures) → AreMarksAt last marks → counts ≡ counts_in marks
+    → chosen ≡ named_as job.profile.fetch → ordered ≡ order_of job.profile.issue → HasLatenciesOf job.profile latencies
+    → IsRunFrom (laws_of (pick.named_key chosen) (order.named_key ordered) (λ c. stated) (λ c kind address. is_lag_of latencies kind)) first last job.limit outcome (figures_of figures) → AreMarksAt last marks → counts ≡ counts_in marks
     → IsJobRun job from (record { outcome = outcome; figures = figures; starts = starts; counts = counts })
-job_ran job from start marks targets starts counts outcome figures first last is starts_are targets_are begins runs ends counts_are = record {
+job_ran job from start marks targets starts counts chosen ordered latencies outcome figures first last is starts_are targets_are begins chosen_is ordered_is latencies_are runs ends counts_are = record {
   starts = starts_are ∙ ap counts_in is;
   targets = targets;
   are_targets = subst (λ (e : Eight MarkValue). AreTargets job.targets e targets) is targets_are;
+  latencies = latencies;
+  are_latencies = latencies_are;
   first = first;
   last = last;
   begins = subst (λ (e : Eight MarkValue). IsFirst job.profile e targets first) is begins;
-  runs = runs;
+  runs = subst (λ (l : Laws). IsRunFrom l first last job.limit outcome (figures_of figures)) (laws_as job.profile latencies chosen ordered chosen_is ordered_is) runs;
   ends = λ c lt. let mark = ends c lt in ap (λ (xs : List ℕ). slice_index xs c) counts_are ∙ count_at marks c lt ∙ ap (λ (m : MarkValue). m.count) mark.mark_is;
 }

@@ -1,4 +1,6 @@
-use Rattle.std.proofs.Common.{arith}
+use Rattle.std.proofs.Common.{◌≡◌, refl, subst, ◌∙◌, arith, rules}
+use Rattle.lawful_cycle.specs.Cycle.{Laws, IsLawfulCycle, laws_of}
+use Rattle.lawful_cycle.specs.Runs.{SomeRuns}
 use Rattle.core_cycle.specs.Shown.{shown}
 use Rattle.core_run.specs.Told.{figures_of}
 use Rattle.core_run.proofs.Runs.{few_in_flight, underway_first, underway_next, underway_room}
@@ -7,15 +9,30 @@ use Rattle.core_run.proofs.run.advance.Goals as goal
 pub loop-cycle-init : goal.loop-cycle-init
 loop-cycle-init g c = record {
   few = few_in_flight (shown c.args.core.now) c.cycles-first.ensures.contexts c.cycles-first.ensures.few;
-  way = underway_first (shown c.args.core.now) (figures_of c.new-figures.result) c.new-figures.ensures c.cycles-first.ensures.live;
+  pick = refl;
+  order = refl;
+  guesses = refl;
+  delays = refl;
+  way = underway_first (laws_of (g.P.Pick.key_of c.args.core.now.pick) (g.O.Order.key_of c.args.core.now.order) (g.G.Guess.may_answer c.args.core.now.guess) (g.D.Delay.may_answer c.args.core.now.delay)) (shown c.args.core.now) (figures_of c.new-figures.result) c.new-figures.ensures c.cycles-first.ensures.live;
 }
 
 pub add-requires : goal.add-requires
-add-requires g c = underway_room (shown c.args.core.now) (shown c.loop-cycle.core) c.loop-cycle._cycle (figures_of c.loop-cycle.figures) c.loop-cycle.invariant.few (omega (arith, c.requires, c.loop-cycle-test.true)) c.loop-cycle.invariant.way
+add-requires g c =
+    underway_room (laws_of (g.P.Pick.key_of c.args.core.now.pick) (g.O.Order.key_of c.args.core.now.order) (g.G.Guess.may_answer c.args.core.now.guess) (g.D.Delay.may_answer c.args.core.now.delay)) (shown c.args.core.now) (shown c.loop-cycle.core) c.loop-cycle._cycle (figures_of c.loop-cycle.figures) c.loop-cycle.invariant.few (omega (arith, c.requires, c.loop-cycle-test.true)) c.loop-cycle.invariant.way
 
 pub loop-cycle-preserved : goal.loop-cycle-preserved
-loop-cycle-preserved g c = record {
-  few = c.loop-cycle.invariant.few;
-  way = underway_next (shown c.args.core.now) (shown c.loop-cycle.core) (shown c.cycle-note.new.self) c.loop-cycle._cycle (figures_of c.loop-cycle.figures) (figures_of c.add.new.self) c.cycle-note.result c.loop-cycle.invariant.way c.add.ensures.added c.add.ensures.short
-      c.cycle-note.ensures.origin c.cycle-note.ensures.profile c.cycle-note.ensures.cycle c.cycle-note.ensures.targets c.cycle-note.ensures.live c.cycle-note.ensures.flights;
-}
+loop-cycle-preserved g c =
+    let laws = laws_of (g.P.Pick.key_of c.args.core.now.pick) (g.O.Order.key_of c.args.core.now.order) (g.G.Guess.may_answer c.args.core.now.guess) (g.D.Delay.may_answer c.args.core.now.delay) in
+    let old = c.loop-cycle.core in
+    let same : laws_of (g.P.Pick.key_of old.pick) (g.O.Order.key_of old.order) (g.G.Guess.may_answer old.guess) (g.D.Delay.may_answer old.delay) ≡ laws = rw (c.loop-cycle.invariant.pick, c.loop-cycle.invariant.order, c.loop-cycle.invariant.guesses, c.loop-cycle.invariant.delays) refl in
+    let runs : SomeRuns (shown old).view = search (rules, c.some_runs.ensures.0) in
+    record {
+      few = c.loop-cycle.invariant.few;
+      pick = c.cycle-note.ensures.pick ∙ c.loop-cycle.invariant.pick;
+      order = c.cycle-note.ensures.order ∙ c.loop-cycle.invariant.order;
+      guesses = c.cycle-note.ensures.guess ∙ c.loop-cycle.invariant.guesses;
+      delays = c.cycle-note.ensures.delay ∙ c.loop-cycle.invariant.delays;
+      way = underway_next laws (shown c.args.core.now) (shown old) (shown c.cycle-note.new.self) c.loop-cycle._cycle (figures_of c.loop-cycle.figures) (figures_of c.add.new.self) c.cycle-note.result c.loop-cycle.invariant.way c.add.ensures.added c.add.ensures.short runs
+          (subst (λ (l : Laws). IsLawfulCycle l (shown old).view (shown c.cycle-note.new.self).view c.cycle-note.result) same c.cycle-note.ensures.lawful)
+          c.cycle-note.ensures.origin c.cycle-note.ensures.profile c.cycle-note.ensures.cycle c.cycle-note.ensures.targets c.cycle-note.ensures.live c.cycle-note.ensures.flights;
+    }
