@@ -1,10 +1,10 @@
 -- A run, cycle by cycle.
-use Rattle.std.proofs.Common.{◌≡◌, ℕ, zero, suc, ◌+◌, ◌*◌, ◌<◌, ◌≤◌, ◌^◌, List, [], ◌∷◌, length, get_or, true, false, refl, sym, subst, ◌∙◌, arith}
+use Rattle.std.proofs.Common.{◌≡◌, ℕ, zero, suc, ◌+◌, ◌*◌, ◌<◌, ◌≤◌, ◌^◌, List, [], ◌∷◌, length, get_or, refl, sym, subst, ◌∙◌, arith}
 use Rattle.std.specs.Prelude.{sum_by}
 use Rattle.std.proofs.lemmas.List.Sums.{sum_by-cons}
 use Rattle.origin_set.specs.Start.{start}
 use Rattle.core_view.specs.declared.note.CycleNote.{CycleNote}
-use Rattle.core_view.specs.View.{Context, View, IsLive}
+use Rattle.core_view.specs.View.{Context, IsLive}
 use Rattle.lawful_cycle.specs.Cycle.{Laws, IsLawfulCycle}
 use Rattle.lawful_cycle.specs.Runs.{Figures, added, no_figures, SomeRuns, IsRun, IsRunTo}
 use Rattle.lawful_cycle.proofs.Laws.{run_next}
