@@ -15,6 +15,15 @@ from typing import List, NamedTuple, Sequence, Tuple, Union
 
 Word = Union[str, bytes]
 
+PLANS = os.path.join(os.path.dirname(os.path.dirname(os.path.abspath(__file__))), "examples", "plans")
+
+
+def kept(name: str) -> str:
+    """A report that is kept beside its plan."""
+    with open(os.path.join(PLANS, name), encoding="utf-8") as file:
+        return file.read()
+
+
 COUNTDOWN = b".word 0x00A00293\n.word 0xFFF28293\n.word 0xFE029EE3\n.word 0x00000073\n"
 
 LISTING = """0000000000010000 00a00293 addi x5, x0, 10
@@ -84,6 +93,7 @@ CASES = [
     Case(["asm", "long.s"], 1, err="refused S1 long.s\n"),
     Case(["run", "lone.toml"], 0, REPORT),
     Case(["run", "--workers", "1", "lone.toml"], 0, REPORT),
+    Case(["run", os.path.join(PLANS, "twelve.toml")], 0, kept("twelve.report")),
     Case(["run", "speed.toml"], 1, err="refused J1\n"),
     Case(["run", "loop.toml"], 1, err="refused J5 l?p A4 line 3\n"),
     Case(["run", "none.toml"], 1, err="refused S1 none.toml\n"),
