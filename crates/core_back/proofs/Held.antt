@@ -18,10 +18,11 @@ use Rattle.core_view.specs.Outcomes.{image_of}
 use Rattle.core_view.specs.Flight.{seen_of, IsGrowing}
 use Rattle.core_view.specs.Events.{with_stage}
 use Rattle.core_view.specs.Loads.{newest, newest_sharing, is_clear, may_issue}
-use Rattle.core_view.specs.Queues.{stores_of, sharing_in}
+use Rattle.core_view.specs.Spans.{shares}
+use Rattle.core_view.specs.Queues.{stores_of, newest_in}
 use Rattle.core_view.specs.View.{Context, entry_at, no_entry}
 use Rattle.core_view.proofs.Accesses.{is_load_effect, effect_loads}
-use Rattle.core_view.proofs.Queues.{queue_sharing}
+use Rattle.core_view.proofs.Queues.{queue_newest}
 use Rattle.data_flow.specs.Flow.{Flow, Waiter, lane, sources_at, is_waiter, with_held, released}
 use Rattle.lawful_cycle.specs.Issue.{is_clear_on}
 use Rattle.core_back.specs.Issuable.{IsAnswered, may_issue_at, IsMarked, AreLetGo, must_wait, AreHeld, IsClear}
@@ -149,7 +150,7 @@ pub none_stored_may : (x : Context) (i a b : ℕ) → i < length x.flight → Is
 none_stored_may x i a b lt h none = clear_may (take i x.flight) (entry_at x i).operation (entry_at x i).pc a b clear
   where
     sharing : (s : Span) → newest_sharing (take i x.flight) s ≡ None
-    sharing s = sym (queue_sharing (image_of x.state) (seen_of x.state) x.state.pc 0 x.flight i no_entry s lt h.growing h.sound) ∙ ap (λ qs. sharing_in qs (entry_at x i).stamp s) none
+    sharing s = sym (queue_newest (λ b. shares b.span s) (image_of x.state) (seen_of x.state) x.state.pc 0 x.flight i no_entry lt h.growing h.sound) ∙ ap (λ qs. newest_in (λ b. shares b.span s) qs (entry_at x i).stamp) none
 
     clear : (s : Span) → is_clear (take i x.flight) s ≡ true
     clear s = rw (sharing s) refl

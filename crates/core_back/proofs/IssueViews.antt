@@ -1,8 +1,8 @@
 -- The entries that were selected issue one by one: what that makes of a view.
-use Rattle.std.proofs.Common.{◌≡◌, ◌≢◌, ℕ, zero, suc, ◌+◌, ◌<◌, ◌≤◌, Bool, true, false, List, [], ◌∷◌, ◌++◌, length, take, map, get_or, Option, Some, None, refl, sym, ap, ◌∙◌, subst, arith, inl, inr, append-nil, append_assoc}
-use Rattle.std.specs.Prelude.{◌==◌, ◌&&◌, set, find, if◌then◌else◌, nat_lt, unwrap_or, All, AllPairs, Contains}
+use Rattle.std.proofs.Common.{◌≡◌, ◌≢◌, ℕ, zero, suc, ◌+◌, ◌<◌, Bool, true, false, List, [], ◌∷◌, ◌++◌, length, take, map, get_or, Option, Some, None, refl, sym, ap, ◌∙◌, subst, arith, inl, inr, append-nil, append_assoc}
+use Rattle.std.specs.Prelude.{◌==◌, set, find, if◌then◌else◌, unwrap_or, All}
 use Rattle.std.specs.Option.{option_or}
-use Rattle.std.proofs.lemmas.Bool.{cases_lt, cases_eq, cases_Bool, eq-eqb, ne_eqb, and_from, and_left, and_right, and_parts, ltb-true}
+use Rattle.std.proofs.lemmas.Bool.{cases_lt, cases_eq, eq-eqb, ne_eqb, and_from, and_left, and_right, and_parts, ltb-true}
 use Rattle.std.proofs.lemmas.List.{length-append, length_push, length-map, length-set, map-append, get_or-map, get_or-set_same, get_or-set_other, get_or_append_left, get_or_at, ext_get_or}
 use Rattle.hart_step.specs.State.{State}
 use Rattle.issue_queue.specs.declared.entry.QueueView.{QueueView}
@@ -10,8 +10,7 @@ use Rattle.data_tags.specs.declared.delay.Kind.{Kind}
 use Rattle.data_tags.specs.declared.delay.Lag.{Lag}
 use Rattle.core_view.specs.declared.outcome.Outcome.{Outcome}
 use Rattle.core_view.specs.declared.entry.Execution.{Execution}
-use Rattle.core_view.specs.declared.entry.Stage.{Stage}
-use Rattle.core_view.specs.declared.entry.Stage.TheVariants.{Fetched, Queued, Issued, Done}
+use Rattle.core_view.specs.declared.entry.Stage.TheVariants.{Queued, Issued}
 use Rattle.core_view.specs.declared.entry.Entry.{Entry}
 use Rattle.core_view.specs.declared.note.EntryId.{EntryId}
 use Rattle.core_view.specs.declared.note.Issue.{Issue}
@@ -22,7 +21,7 @@ use Rattle.core_view.specs.Events.{with_flight, with_stage, issue_event}
 use Rattle.core_view.specs.View.{Context, View, no_entry, entry_at, seen_at}
 use Rattle.lawful_cycle.specs.Views.{context_in, ChangesEach, is_id}
 use Rattle.lawful_cycle.specs.Delays.{kind_of, address_in, IsLagOf}
-use Rattle.lawful_cycle.specs.Issue.{Place, operation_at_place, outcome_at, address_at, entry_in, id_in, IsReadyIn, IsNotAfter, issue_of, issued_if, issued_from, no_issue, no_place, HasLag, IsIssue}
+use Rattle.lawful_cycle.specs.Issue.{Place, operation_at_place, outcome_at, address_at, id_in, IsReadyIn, issue_of, issued_if, issued_from, no_issue, no_place, HasLag, IsIssue}
 use Rattle.core_back.specs.Issued.{IsIssued}
 use Rattle.core_back.specs.Selected.{IsChosen}
 use Rattle.core_back.specs.Machine.{Machine, context_at, no_context}

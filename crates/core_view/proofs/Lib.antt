@@ -12,4 +12,5 @@ pub mod Completed
 pub mod Cut
 pub mod Live
 pub mod Queues
+pub mod StoreSlots
 pub mod RingForm

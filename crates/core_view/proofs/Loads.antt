@@ -26,7 +26,7 @@ use Rattle.core_view.proofs.SpanReads.{read_apart, read_covered}
 
 -- ---- seen bytes
 
-byte_over : (memory : ℕ → ℕ) (o : Option Bytes) (x : ℕ) → overlaid memory o x ≡ byte_from memory (passing (λ b. contains b.span x) o) x
+pub byte_over : (memory : ℕ → ℕ) (o : Option Bytes) (x : ℕ) → overlaid memory o x ≡ byte_from memory (passing (λ b. contains b.span x) o) x
 byte_over memory None x = refl
 byte_over memory (Some b) x = go (contains b.span x)
   where
@@ -49,7 +49,7 @@ seen_past-value seen es s = ap (λ (bytes : ℕ → ℕ). number_in bytes s) (fu
 
 -- ---- clear loads
 
-read_over : (memory : ℕ → ℕ) (o : Option Bytes) (s : Span) → is_clear_of (passing (λ b. shares b.span s) o) s ≡ true → number_in (overlaid memory o) s ≡ forwarded memory (passing (λ b. shares b.span s) o) s
+pub read_over : (memory : ℕ → ℕ) (o : Option Bytes) (s : Span) → is_clear_of (passing (λ b. shares b.span s) o) s ≡ true → number_in (overlaid memory o) s ≡ forwarded memory (passing (λ b. shares b.span s) o) s
 read_over memory None s h = refl
 read_over memory (Some b) s h = go (shares b.span s) refl h
   where

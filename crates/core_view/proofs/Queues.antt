@@ -1,8 +1,9 @@
--- The queues answer by stamps what the flight says by places.
-use Rattle.std.proofs.Common.{◌≡◌, ℕ, zero, suc, ◌+◌, ◌<◌, ◌≤◌, Bool, true, false, ◌&&◌, ◌||◌, cond, List, [], ◌∷◌, length, get_or, take, drop, Option, Some, None, refl, sym, ap, ◌∙◌, arith, add-one}
-use Rattle.std.specs.Prelude.{nat_lt, not, if◌then◌else◌, option_map, find}
+-- The queues say by stamps what the flight says by places.
+use Rattle.std.proofs.Common.{◌≡◌, ℕ, zero, suc, ◌+◌, ◌<◌, ◌≤◌, Bool, true, false, ◌&&◌, cond, List, [], ◌∷◌, length, get_or, take, drop, Option, Some, None, refl, sym, ap, ◌∙◌, arith, add-one}
+use Rattle.std.specs.Prelude.{nat_lt, if◌then◌else◌, option_map, find}
 use Rattle.std.specs.List.{cons_option}
 use Rattle.std.specs.Option.{option_or}
+use Rattle.std.proofs.Math.Path.{fun_ext}
 use Rattle.std.proofs.lemmas.Bool.{lt-ltb, le-ltb}
 use Rattle.std.proofs.lemmas.Bool.Decides.{nat_tests}
 use Rattle.core_view.specs.declared.span.Span.{Span}
@@ -14,10 +15,10 @@ use Rattle.core_view.specs.declared.entry.Entry.{Entry}
 use Rattle.core_view.specs.Operations.{is_load, is_store}
 use Rattle.core_view.specs.Outcomes.{Image}
 use Rattle.core_view.specs.Flight.{Seen, seen_after, pc_past, span_read, bytes_done, touches, before_touch, clean_length, HasOutcome, IsSound, IsGrowing}
-use Rattle.core_view.specs.Loads.{newest_sharing, is_clear, seen_value, forwarded}
-use Rattle.core_view.specs.Queues.{is_renamed, AllRenamed, StoreSlot, LoadSlot, stores_of, loads_of, sharing_in, answer_in, conflict_in, conflict_of, older, younger, cut_from}
+use Rattle.core_view.specs.Spans.{contains, shares, number_in}
+use Rattle.core_view.specs.Loads.{newest, byte_from, is_clear_of, is_clear, seen_value}
+use Rattle.core_view.specs.Queues.{is_renamed, StoreSlot, LoadSlot, stores_of, loads_of, newest_in, is_clear_in, value_seen_in, conflict_in, conflict_of, older, younger, cut_from}
 use Rattle.core_view.proofs.Accesses.{stage_span, stage_bytes, none_touched}
-use Rattle.core_view.proofs.Loads.{clear_value}
 
 -- ---- stamps and places
 
@@ -57,7 +58,7 @@ younger_drop low (e ∷ es) (suc i) d lt g =
     let past : nat_lt (get_or es i d).stamp e.stamp ≡ false = le-ltb (get_or es i d).stamp e.stamp (omega (arith, from)) in
     rw past (younger_drop (e.stamp + 1) es i d (omega arith) g.1)
 
--- ---- the answer to a load
+-- ---- the stores that a load sees
 
 none_last : (n : Option Bytes) → option_or n None ≡ n
 none_last None = refl
@@ -70,35 +71,37 @@ unplaced_bytes image seen o pc Queued h out = refl
 unplaced_bytes image seen o pc (Issued execution) h out = refl
 unplaced_bytes image seen o pc (Done execution) h out = stage_bytes image seen o pc (Done execution) (grind (arith, nat_tests, h)) out
 
-sharing_older : (image : Image) (seen : Seen) (pc : ℕ) (es : List Entry) (k : ℕ) (s : Span) → IsSound image seen pc es → sharing_in (stores_of es) k s ≡ newest_sharing (older k es) s
-sharing_older image seen pc [] k s h = refl
-sharing_older image seen pc (e ∷ es) k s h = go (is_store e.operation && is_renamed e.stage) (nat_lt e.stamp k) refl refl (sharing_older image (seen_after seen e) e.followed es k s h.2)
+newest_older : (test : Bytes → Bool) (image : Image) (seen : Seen) (pc : ℕ) (es : List Entry) (k : ℕ) → IsSound image seen pc es → newest_in test (stores_of es) k ≡ newest test (older k es)
+newest_older test image seen pc [] k h = refl
+newest_older test image seen pc (e ∷ es) k h = go (is_store e.operation && is_renamed e.stage) (nat_lt e.stamp k) refl refl (newest_older test image (seen_after seen e) e.followed es k h.2)
   where
     slot : StoreSlot
     slot = record { stamp = e.stamp; bytes = bytes_done e.stage }
 
-    go : (t u : Bool) → (is_store e.operation && is_renamed e.stage) ≡ t → nat_lt e.stamp k ≡ u → sharing_in (stores_of es) k s ≡ newest_sharing (older k es) s
-        → sharing_in (cons_option (if t then Some slot else None) (stores_of es)) k s ≡ newest_sharing (cond u (e ∷ older k es) (older k es)) s
+    go : (t u : Bool) → (is_store e.operation && is_renamed e.stage) ≡ t → nat_lt e.stamp k ≡ u → newest_in test (stores_of es) k ≡ newest test (older k es)
+        → newest_in test (cons_option (if t then Some slot else None) (stores_of es)) k ≡ newest test (cond u (e ∷ older k es) (older k es))
     go true true p q ih = rw (q, ih) refl
-    go true false p q ih = rw (q, ih) (none_last (newest_sharing (older k es) s))
+    go true false p q ih = rw (q, ih) (none_last (newest test (older k es)))
     go false true p q ih =
         let none : bytes_done e.stage ≡ None = unplaced_bytes image seen e.operation e.pc e.stage p h.0.outcome in
-        rw (none, ih) (sym (none_last (newest_sharing (older k es) s)))
+        rw (none, ih) (sym (none_last (newest test (older k es))))
     go false false p q ih = ih
 
--- the store queue's newest sharing store, asked at the stamp of the entry at a place, is the flight's
-pub queue_sharing : (image : Image) (seen : Seen) (pc low : ℕ) (es : List Entry) (i : ℕ) (d : Entry) (s : Span) → i < length es → IsGrowing low es → IsSound image seen pc es
-    → sharing_in (stores_of es) (get_or es i d).stamp s ≡ newest_sharing (take i es) s
-queue_sharing image seen pc low es i d s lt g h = sharing_older image seen pc es (get_or es i d).stamp s h ∙ ap (λ fs. newest_sharing fs s) (older_take low es i d lt g)
+-- the newest store of the queue that passes a test, asked at the stamp of the entry at a place, is the flight's before it
+pub queue_newest : (test : Bytes → Bool) (image : Image) (seen : Seen) (pc low : ℕ) (es : List Entry) (i : ℕ) (d : Entry) → i < length es → IsGrowing low es → IsSound image seen pc es
+    → newest_in test (stores_of es) (get_or es i d).stamp ≡ newest test (take i es)
+queue_newest test image seen pc low es i d lt g h = newest_older test image seen pc es (get_or es i d).stamp h ∙ ap (λ fs. newest test fs) (older_take low es i d lt g)
 
--- so it answers a load exactly where it is clear, with the value that is seen
-pub queue_answer : (image : Image) (seen : Seen) (pc low : ℕ) (es : List Entry) (i : ℕ) (d : Entry) (s : Span) → i < length es → IsGrowing low es → IsSound image seen pc es
-    → answer_in seen.bytes (stores_of es) (get_or es i d).stamp s ≡ (if is_clear (take i es) s then Some (seen_value seen.bytes (take i es) s) else None)
-queue_answer image seen pc low es i d s lt g h = rw (queue_sharing image seen pc low es i d s lt g h) (go (is_clear (take i es) s) refl)
-  where
-    go : (t : Bool) → is_clear (take i es) s ≡ t → (if t then Some (forwarded seen.bytes (newest_sharing (take i es) s) s) else None) ≡ (if t then Some (seen_value seen.bytes (take i es) s) else None)
-    go true is = ap (λ (n : ℕ). Some n) (sym (clear_value seen (take i es) s is))
-    go false is = refl
+-- so a load is clear in the queue where it is in the flight
+pub queue_clear : (image : Image) (seen : Seen) (pc low : ℕ) (es : List Entry) (i : ℕ) (d : Entry) (s : Span) → i < length es → IsGrowing low es → IsSound image seen pc es
+    → is_clear_in (stores_of es) (get_or es i d).stamp s ≡ is_clear (take i es) s
+queue_clear image seen pc low es i d s lt g h = ap (λ (n : Option Bytes). is_clear_of n s) (queue_newest (λ b. shares b.span s) image seen pc low es i d lt g h)
+
+-- and the number that is seen is the same
+pub queue_value : (image : Image) (seen : Seen) (pc low : ℕ) (memory : ℕ → ℕ) (es : List Entry) (i : ℕ) (d : Entry) (s : Span) → i < length es → IsGrowing low es → IsSound image seen pc es
+    → value_seen_in memory (stores_of es) (get_or es i d).stamp s ≡ seen_value memory (take i es) s
+queue_value image seen pc low memory es i d s lt g h =
+    ap (λ (bytes : ℕ → ℕ). number_in bytes s) (fun_ext (λ x. ap (λ (n : Option Bytes). byte_from memory n x) (queue_newest (λ b. contains b.span x) image seen pc low es i d lt g h)))
 
 -- ---- the oldest conflict
 

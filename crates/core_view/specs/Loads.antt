@@ -61,10 +61,6 @@ abbrev pub forwarded : (ℕ → ℕ) → Option Bytes → Span → ℕ
 forwarded memory None s = number_in memory s
 forwarded memory (Some b) s = part_of b s
 
--- the number for a load, given the newest store that shares a byte with it: none yet where the load isn't clear of it
-abbrev pub answer_by : (ℕ → ℕ) → Option Bytes → Span → Option ℕ
-answer_by memory newest s = if is_clear_of newest s then Some (forwarded memory newest s) else None
-
 -- the span that a load asks for, whether or not it will stop
 abbrev pub span_asked : Effect → Option Span
 span_asked (Loads kind address) = Some (load_span address (load_bytes kind))

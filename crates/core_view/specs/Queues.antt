@@ -1,4 +1,4 @@
--- What the load and store queues of a context hold of its flight, oldest first, and their answers by stamps.
+-- What the load and store queues of a context hold of its flight, oldest first, and what these say by stamps.
 use Rattle.std.specs.Prelude.{◌≡◌, ℕ, Bool, true, false, ◌&&◌, nat_lt, List, [], ◌∷◌, if◌then◌else◌, Option, Some, None, option_map, filter, filter_map, find}
 use Rattle.std.specs.Option.{option_or}
 use Rattle.core_view.specs.declared.span.Span.{Span}
@@ -6,10 +6,10 @@ use Rattle.core_view.specs.declared.span.Bytes.{Bytes}
 use Rattle.core_view.specs.declared.entry.Stage.{Stage}
 use Rattle.core_view.specs.declared.entry.Stage.TheVariants.{Fetched, Queued, Issued, Done}
 use Rattle.core_view.specs.declared.entry.Entry.{Entry}
-use Rattle.core_view.specs.Spans.{shares}
+use Rattle.core_view.specs.Spans.{contains, shares, number_in}
 use Rattle.core_view.specs.Operations.{is_load, is_store}
 use Rattle.core_view.specs.Flight.{bytes_done, span_read, touches}
-use Rattle.core_view.specs.Loads.{passing, answer_by}
+use Rattle.core_view.specs.Loads.{passing, byte_from, is_clear_of}
 
 -- ---- what they hold
 
@@ -47,16 +47,28 @@ stores_of es = filter_map store_slot es
 abbrev pub loads_of : List Entry → List LoadSlot
 loads_of es = filter_map load_slot es
 
--- ---- the answer to a load
+-- ---- what a load sees
 
--- the newest store older than a stamp that shares a byte with a span
-abbrev pub sharing_in : List StoreSlot → ℕ → Span → Option Bytes
-sharing_in [] k s = None
-sharing_in (q ∷ qs) k s = option_or (sharing_in qs k s) (if nat_lt q.stamp k then passing (λ b. shares b.span s) q.bytes else None)
+-- the bytes of a store that is older than a stamp, once it has completed without a stop
+abbrev pub bytes_before : ℕ → StoreSlot → Option Bytes
+bytes_before k q = if nat_lt q.stamp k then q.bytes else None
 
--- the number for a load with a stamp, or None where it waits
-abbrev pub answer_in : (ℕ → ℕ) → List StoreSlot → ℕ → Span → Option ℕ
-answer_in memory qs k s = answer_by memory (sharing_in qs k s) s
+-- the newest of these that passes a test
+abbrev pub newest_in : (Bytes → Bool) → List StoreSlot → ℕ → Option Bytes
+newest_in test [] k = None
+newest_in test (q ∷ qs) k = option_or (newest_in test qs k) (passing test (bytes_before k q))
+
+-- the byte at an address: that of the newest such store that covers it, else memory's
+abbrev pub byte_seen_in : (ℕ → ℕ) → List StoreSlot → ℕ → ℕ → ℕ
+byte_seen_in memory qs k x = byte_from memory (newest_in (λ b. contains b.span x) qs k) x
+
+-- the number that these bytes spell at a span
+abbrev pub value_seen_in : (ℕ → ℕ) → List StoreSlot → ℕ → Span → ℕ
+value_seen_in memory qs k s = number_in (byte_seen_in memory qs k) s
+
+-- a load of a span is clear: no such store shares a byte with it, or the newest that does covers all of it
+abbrev pub is_clear_in : List StoreSlot → ℕ → Span → Bool
+is_clear_in qs k s = is_clear_of (newest_in (λ b. shares b.span s) qs k) s
 
 -- ---- conflicts
 

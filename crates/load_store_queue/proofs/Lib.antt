@@ -2,3 +2,4 @@ pub mod Ends
 pub mod Replacing
 pub mod Scans
 pub mod Numbers
+pub mod Asked

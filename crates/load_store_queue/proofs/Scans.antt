@@ -1,15 +1,13 @@
 -- What a scan from the youngest entry down knows of those that it has passed.
-use Rattle.std.proofs.Common.{◌≡◌, ℕ, zero, suc, ◌-◌, ◌<◌, ◌≤◌, Bool, true, false, ◌&&◌, cond, List, [], ◌∷◌, length, get_or, drop, slice_get, Option, Some, None, refl, ap, sym, arith, inl, inr}
-use Rattle.std.specs.Prelude.{nat_lt, not, if◌then◌else◌, option_map, find}
+use Rattle.std.proofs.Common.{◌≡◌, ℕ, zero, suc, ◌-◌, ◌<◌, ◌≤◌, Bool, true, false, ◌&&◌, cond, List, [], ◌∷◌, length, get_or, drop, slice_get, Option, Some, None, refl, ap, arith, inl, inr}
+use Rattle.std.specs.Prelude.{nat_lt, if◌then◌else◌, option_map, find}
 use Rattle.std.specs.Option.{option_or}
 use Rattle.std.proofs.lemmas.Bool.{cases_eq, lt-ltb, le-ltb, and_right}
 use Rattle.std.proofs.lemmas.Option.{get_or_from_slice_get, slice_get_within}
-use Rattle.core_view.specs.declared.span.Span.{Span}
 use Rattle.core_view.specs.declared.span.Bytes.{Bytes}
 use Rattle.core_view.specs.Flight.{touches}
 use Rattle.core_view.specs.Loads.{passing}
-use Rattle.core_view.specs.Spans.{shares}
-use Rattle.core_view.specs.Queues.{LoadSlot, StoreSlot, conflict_in, sharing_in}
+use Rattle.core_view.specs.Queues.{LoadSlot, StoreSlot, conflict_in, bytes_before, newest_in}
 use Rattle.reorder_buffer.specs.Growing.{IsGrowing}
 use Rattle.load_store_queue.specs.Queues.{load_stamp}
 use Rattle.load_store_queue.proofs.Ends.{drop_before}
@@ -60,12 +58,12 @@ conflict_found xs p q k b growing some read older = ap (option_map (λ l. l.stam
 
 -- ---- stores
 
-pub sharing_more : (xs : List StoreSlot) (p : ℕ) (q : StoreSlot) (k : ℕ) (s : Span) → 0 < p → slice_get xs (p - 1) ≡ Some q
-    → sharing_in (drop (p - 1) xs) k s ≡ option_or (sharing_in (drop p xs) k s) (if nat_lt q.stamp k then passing (λ b. shares b.span s) q.bytes else None)
-sharing_more xs p q k s some read = rw (drop_before xs p q some read) refl
+pub newest_more : (test : Bytes → Bool) (xs : List StoreSlot) (p : ℕ) (q : StoreSlot) (k : ℕ) → 0 < p → slice_get xs (p - 1) ≡ Some q
+    → newest_in test (drop (p - 1) xs) k ≡ option_or (newest_in test (drop p xs) k) (passing test (bytes_before k q))
+newest_more test xs p q k some read = rw (drop_before xs p q some read) refl
 
--- what the younger stores answer, all of them answer
-pub sharing_found : (xs : List StoreSlot) (p k : ℕ) (s : Span) (b : Bytes) → sharing_in (drop p xs) k s ≡ Some b → sharing_in xs k s ≡ Some b
-sharing_found xs zero k s b found = found
-sharing_found [] (suc p) k s b found = found
-sharing_found (x ∷ xs) (suc p) k s b found = rw (sharing_found xs p k s b found) refl
+-- the newest of the younger stores is the newest of all
+pub newest_found : (test : Bytes → Bool) (xs : List StoreSlot) (p k : ℕ) (b : Bytes) → newest_in test (drop p xs) k ≡ Some b → newest_in test xs k ≡ Some b
+newest_found test xs zero k b found = found
+newest_found test [] (suc p) k b found = found
+newest_found test (x ∷ xs) (suc p) k b found = rw (newest_found test xs p k b found) refl

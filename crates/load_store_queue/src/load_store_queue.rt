@@ -1,13 +1,14 @@
 //! The load queue and the store queue of one context.
 
-ghost use Rattle.std.specs.Prelude.{◌≡◌, ◌↔◌, ◌<◌, ◌≤◌, [], ◌∷◌, ◌++◌, All, length, map, false, None, Some, Err, IfOk, OnOk, OnErr, IsOk, IsTrue, if◌then◌else◌};
+ghost use Rattle.std.specs.Prelude.{◌≡◌, ◌↔◌, ◌<◌, ◌≤◌, [], ◌∷◌, ◌++◌, All, length, map, false, None, Some, Err, is_some, IfOk, IfSome, OnOk, OnErr, IsOk, IsTrue, if◌then◌else◌};
 ghost use Rattle.reorder_buffer.specs.Growing.{IsGrowing, below};
-ghost use Rattle.paged_memory.specs.Cells.{byte_at, bytes_of, load_of, IsByteMap};
+ghost use Rattle.paged_memory.specs.Cells.{byte_at, bytes_of};
 ghost use Rattle.core_view.specs.Outcomes.{load_span};
-ghost use Rattle.core_view.specs.Queues.{answer_in, conflict_in, sharing_in};
+ghost use Rattle.core_view.specs.Spans.{shares};
+ghost use Rattle.core_view.specs.Queues.{newest_in, is_clear_in, value_seen_in, conflict_in};
 ghost use Rattle.load_store_queue.specs.Queues.{empty_queues, load_stamp, store_stamp, with_span, slot_with_bytes};
 ghost use Rattle.load_store_queue.specs.Replaced.{without_oldest};
-ghost use Rattle.load_store_queue.specs.Answered.{number_answered, bytes_read};
+ghost use Rattle.load_store_queue.specs.Answered.{number_answered};
 
 use crate::answer::LoadAnswer;
 use crate::fault::QueueFault;
@@ -136,16 +137,13 @@ impl<A: Allocator> LoadStoreQueue<A> {
         conflict(&self.loads, stamp, stored)
     }
 
-    /// What answers a load with a stamp that asks for a width at an address: the newest older store that has completed
-    /// and shares a byte with it, where that covers it, or memory where there is none. A store that hasn't completed
-    /// is passed.
+    /// What answers a load with a stamp that asks for a width at an address. It sees each byte of the newest older store
+    /// that has completed and covers it, else memory's; a store that hasn't completed is passed. It waits where the newest
+    /// of these that shares a byte with it has only some of its bytes.
     #[inline]
     pub fn ask_load(&self, memory: &Memory<A>, stamp: u64, address: u64, width: Width) -> LoadAnswer
-        ensures answer { number_answered result ≡ answer_in (bytes_read memory.now (load_of memory.now address (bytes_of width))) self.now.stores stamp (load_span address (bytes_of width)) }
-        ensures loaded { IsOk (load_of memory.now address (bytes_of width)) →
-            number_answered result ≡ answer_in (byte_at memory.now) self.now.stores stamp (load_span address (bytes_of width)) }
-        ensures exact { IsByteMap memory.now →
-            number_answered result ≡ answer_in (byte_at memory.now) self.now.stores stamp (load_span address (bytes_of width)) }
+        ensures clear { is_some (number_answered result) ≡ is_clear_in self.now.stores stamp (load_span address (bytes_of width)) }
+        ensures seen { IfSome (number_answered result) (λ value. value ≡ value_seen_in (byte_at memory.now) self.now.stores stamp (load_span address (bytes_of width))) }
     {
         let span = span_of(address, width);
         let Some(store) = newest_sharing(&self.stores, stamp, span) else {
@@ -210,7 +208,7 @@ fn newest_sharing<A: Allocator>(
     stamp: u64,
     span: Span,
 ) -> Option<Bytes>
-    ensures { result ≡ sharing_in stores.now.items stamp span }
+    ensures { result ≡ newest_in (λ b. shares b.span span) stores.now.items stamp }
 {
     let mut place = stores.len();
     while place > 0 {

@@ -1,9 +1,10 @@
 //! The places of loads and stores.
 
-ghost use Rattle.std.specs.Prelude.{◌≡◌, nat_lt, Some, None, if◌then◌else◌};
+ghost use Rattle.std.specs.Prelude.{◌≡◌, Some, if◌then◌else◌};
 ghost use Rattle.core_view.specs.Spans.{shares};
 ghost use Rattle.core_view.specs.Flight.{touches};
 ghost use Rattle.core_view.specs.Loads.{passing};
+ghost use Rattle.core_view.specs.Queues.{bytes_before};
 
 use core_view::{Bytes, Span};
 use reorder_buffer::Stamped;
@@ -88,7 +89,7 @@ impl StorePlace {
     /// Its bytes, where it is older than a load and shares a byte with its span.
     #[inline]
     pub fn shared_with(&self, stamp: u64, span: Span) -> Option<Bytes>
-        ensures { result ≡ (if nat_lt self.now.stamp stamp then passing (λ b. shares b.span span) self.now.bytes else None) }
+        ensures { result ≡ passing (λ b. shares b.span span) (bytes_before stamp self.now) }
     {
         if self.stamp >= stamp {
             return None;

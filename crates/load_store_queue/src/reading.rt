@@ -1,8 +1,7 @@
 //! The numbers that memory's bytes spell, also where an access would be refused.
 
 ghost use Rattle.std.specs.Prelude.{◌≡◌, ◌+◌, ◌≤◌};
-ghost use Rattle.paged_memory.specs.Cells.{bytes_of, load_of, number_at};
-ghost use Rattle.load_store_queue.specs.Answered.{addressed_byte, bytes_read};
+ghost use Rattle.paged_memory.specs.Cells.{byte_at, bytes_of, number_at, IsByteMap};
 
 use core_view::Span;
 use paged_memory::{Memory, Width};
@@ -22,7 +21,7 @@ pub fn span_of(address: u64, width: Width) -> Span
 /// The number that memory's bytes spell at an address, 0 for those that are not mapped.
 #[inline]
 pub fn number<A: Allocator>(memory: &Memory<A>, address: u64, width: Width) -> u64
-    ensures { result ≡ number_at (bytes_read memory.now (load_of memory.now address (bytes_of width))) address (bytes_of width) }
+    ensures { result ≡ number_at (byte_at memory.now) address (bytes_of width) }
 {
     match memory.load(address, width) {
         Ok(value) => value,
@@ -34,7 +33,7 @@ pub fn number<A: Allocator>(memory: &Memory<A>, address: u64, width: Width) -> u
 #[cold]
 fn number_by_bytes<A: Allocator>(memory: &Memory<A>, span: Span) -> u64
     requires { span.size ≤ 8 }
-    ensures { result ≡ number_at (addressed_byte memory.now) span.address span.size }
+    ensures { result ≡ number_at (byte_at memory.now) span.address span.size }
 {
     let mut number: u64 = 0;
     let mut offset = span.size;
@@ -48,10 +47,13 @@ fn number_by_bytes<A: Allocator>(memory: &Memory<A>, span: Span) -> u64
 
 /// The byte so far past an address, 0 where none is mapped.
 fn byte_past<A: Allocator>(memory: &Memory<A>, address: u64, offset: u8) -> u8
-    ensures { result ≡ addressed_byte memory.now (address + offset) }
+    ensures value { result ≡ byte_at memory.now (address + offset) }
+    ensures bytes { IsByteMap memory.now }
 {
+    // `byte` ensures that none is mapped past the last address.
+    let _first = memory.byte(address);
     match address.checked_add(u64::from(offset)) {
         None => 0,
-        Some(address) => memory.byte(address),
+        Some(past) => memory.byte(past),
     }
 }

@@ -11,5 +11,5 @@ loop-offset-init g c = record {
 pub loop-offset-preserved : goal.loop-offset-preserved
 loop-offset-preserved g c = record {
   within = omega (arith, c.loop-offset.invariant.within);
-  read = number_more c.args.memory.now c.args.span.address c.args.span.size c.loop-offset.offset c.from.result c.loop-offset.number c.loop-offset-test.true c.loop-offset.invariant.within c.requires (c.from.ensures ∙ c.byte_past-byte.ensures) (c.loop-offset.invariant.read);
+  read = number_more c.args.memory.now c.args.span.address c.args.span.size c.loop-offset.offset c.from.result c.loop-offset.number c.byte_past-byte.ensures.bytes c.loop-offset-test.true c.loop-offset.invariant.within c.requires (c.from.ensures ∙ c.byte_past-byte.ensures.value) (c.loop-offset.invariant.read);
 }
