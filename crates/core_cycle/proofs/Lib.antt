@@ -1,3 +1,4 @@
+pub mod FirstCycle
 pub mod Alike
 pub mod Blocks
 pub mod PickTurns

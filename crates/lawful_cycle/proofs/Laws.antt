@@ -5,3 +5,5 @@ pub use Rattle.lawful_cycle.proofs.Listed.{sum_agree}
 pub use Rattle.lawful_cycle.proofs.SameViews.{same_views, renamed_in, renamed_none}
 -- a run goes on by a lawful cycle
 pub use Rattle.lawful_cycle.proofs.Chains.{run_next}
+-- a lawful cycle leaves nothing issued that was due before the next one
+pub use Rattle.lawful_cycle.proofs.Timing.{cycle_due}

@@ -1,3 +1,4 @@
+pub mod Timing
 pub mod SameViews
 pub mod Idle
 pub mod OneContext
