@@ -7,6 +7,7 @@ ghost use Rattle.lab_commands.specs.Commands as spec;
 
 mod command_line;
 mod ending;
+mod help;
 mod jobs;
 mod listing;
 mod output;

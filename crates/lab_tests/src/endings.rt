@@ -73,9 +73,12 @@ fn wrong_words_are_explained(rt: HostRuntime) -> Result<(), Fail> {
 fn help_is_written(rt: HostRuntime) -> Result<(), Fail> {
     let alloc = rt.alloc();
     let (outcome, written) = explained(&alloc, &["--help"])?;
-    let about = "Runs RV64I programs and merges their checkpoints\n";
+    let about = "Simulates a simultaneous multithreading out-of-order RV64I core, cycle by cycle\n";
     assert!(rt; written.as_str().starts_with(about));
     assert_eq!(rt; told(&alloc, &outcome)?.as_str(), "");
+    assert!(rt; status(&outcome) == ExitCode::SUCCESS);
+    let (outcome, written) = explained(&alloc, &["--version"])?;
+    assert_eq!(rt; written.as_str(), "smt-lab 0.1.0\n");
     assert!(rt; status(&outcome) == ExitCode::SUCCESS);
     Ok(())
 }

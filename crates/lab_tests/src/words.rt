@@ -63,13 +63,15 @@ fn words_that_are_wrong(rt: HostRuntime) -> Result<(), Fail> {
         assert!(rt; error.use_stderr());
         assert_eq!(rt; error.exit_code(), 2);
     }
-    let helps: [&[&str]; 6] = [
+    let helps: [&[&str]; 8] = [
         &["--help"],
         &["-h"],
         &["help"],
         &["step", "--help"],
         &["asm", "-h"],
         &["run", "--help"],
+        &["--version"],
+        &["-V"],
     ];
     for words_given in helps {
         let error = words(alloc, words_given).err().ok_or("no error")?;

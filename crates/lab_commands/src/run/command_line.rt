@@ -4,6 +4,7 @@ ghost use Rattle.std.specs.Prelude.{◌≡◌, IfNone, IfOk, IfSome, IsSomeAnd, 
 ghost use Rattle.clap.specs.Words.{FailsBy, HasMatchesOf, app_of, fault_of, found_of, rows_of, rule_of, subcommand_rows_of};
 ghost use Rattle.lab_commands.specs.CommandLine as spec;
 
+use super::help;
 use clap::{Arg, ArgAction, ArgMatches, Command, Error};
 use std::alloc::{AllocError, Global};
 use std::convert::AsStr;
@@ -49,7 +50,7 @@ fn file<'a>(alloc: Global) -> Arg<'a>
 {
     Arg::new(alloc, "file")
         .value_name("FILE")
-        .help("The program's assembler text")
+        .help("The program: assembler text, UTF-8, at most 64 MiB")
         .required(true)
         .action(ArgAction::Set)
 }
@@ -61,7 +62,7 @@ fn plan<'a>(alloc: Global) -> Arg<'a>
 {
     Arg::new(alloc, "plan")
         .value_name("PLAN")
-        .help("The plan's text")
+        .help("The plan: TOML text, UTF-8, at most 64 MiB")
         .required(true)
         .action(ArgAction::Set)
 }
@@ -87,7 +88,7 @@ fn workers<'a>(alloc: Global) -> Arg<'a>
     Arg::new(alloc, "workers")
         .long("workers")
         .value_name("N")
-        .help("How many workers run the jobs: 1")
+        .help("How many workers run the jobs: 1, the default")
         .action(ArgAction::Set)
         .value_parser(clap::value_parser!(u64).range(1..2))
 }
@@ -98,6 +99,7 @@ fn asm_command<'a>(alloc: Global) -> Result<Command<'a>, AllocError>
 {
     Command::new(alloc, "asm")
         .about("Assembles a program and lists its words")
+        .after_help(help::ASM)
         .arg(file(alloc))
 }
 
@@ -109,17 +111,18 @@ fn step_command<'a>(alloc: Global) -> Result<Command<'a>, AllocError>
         alloc,
         "count",
         "N",
-        "How many instructions the program goes on",
+        "How many instructions to run, 0 to 2^40; fewer where the program stops",
     )
     .required(true);
     let with = number_option(
         alloc,
         "with",
         "M",
-        "Joins it with the mark after so many instructions",
+        "Also runs M from the start, 0 to 2^40, and prints the further state",
     );
     Command::new(alloc, "step")
-        .about("Steps a program and prints its context")
+        .about("Runs a program on plain RV64I and prints its state")
+        .after_help(help::STEP)
         .arg(file(alloc))?
         .arg(count)?
         .arg(with)
@@ -130,7 +133,8 @@ fn run_command<'a>(alloc: Global) -> Result<Command<'a>, AllocError>
     ensures { IfOk result (spec.Is spec.run) }
 {
     Command::new(alloc, "run")
-        .about("Runs a plan's jobs and prints their report")
+        .about("Runs the jobs of a plan on the simulated core and prints a report")
+        .after_help(help::RUN)
         .arg(plan(alloc))?
         .arg(workers(alloc))
 }
@@ -141,7 +145,9 @@ fn bare_command<'a>(alloc: Global) -> Result<Command<'a>, AllocError>
 {
     let command = Command::new(alloc, "smt-lab")
         .bin_name("smt-lab")?
-        .about("Runs RV64I programs and merges their checkpoints")
+        .version(help::VERSION)
+        .about("Simulates a simultaneous multithreading out-of-order RV64I core, cycle by cycle")
+        .after_help(help::PROGRAM)
         .no_binary_name(true)
         .subcommand_required(true);
     Ok(command)
