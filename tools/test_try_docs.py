@@ -56,6 +56,14 @@ class Documents(unittest.TestCase):
         self.assertEqual(tried(block("$ ./smt-lab one two", "one"))[0], 1)
         self.assertEqual(tried(block("$ ./smt-lab one", "one", "two"))[0], 1)
 
+    def test_code_that_is_quoted(self) -> None:
+        command = block("$ ./smt-lab a", "a")
+        self.assertEqual(tried(command + "\n```rust program\n  #!/bin/sh\n```\n")[0], 0)
+        self.assertEqual(tried(command + "\n```rust program\n#!/bin/sh\nexit\n```\n")[0], 1)
+        status, said = tried(command + "\n```rust none.rt\nexit\n```\n")
+        self.assertEqual(status, 1)
+        self.assertTrue(said.startswith("README.md:7: none.rt doesn't have these lines\n"), said)
+
     def test_lines_left_out(self) -> None:
         self.assertEqual(tried(block("$ ./smt-lab a b c d", "a", "..", "d"))[0], 0)
         self.assertEqual(tried(block("$ ./smt-lab a b c d", "a", ".."))[0], 0)

@@ -1,12 +1,15 @@
 #!/usr/bin/env python3
-"""Runs the commands that the documents show, and compares what they print with what the documents say.
+"""Runs the commands that the documents show, and compares what they print with what the documents say; and finds the
+code that they quote.
 
 usage: tools/try_docs.py PROGRAM [FOLDER]
 
 A command stands in a block that is fenced as `console`, on a line that begins with `$ `; what it prints stands below it,
 up to the next command or the block's end. A line `..` there stands for any number of lines. Commands run in the top folder,
-with PROGRAM in place of `./smt-lab`, and no other command is tried. It prints a line for each command that differs; the
-status is 0 where none does, and 1 where there is none to try.
+with PROGRAM in place of `./smt-lab`, and no other command is tried. Code that is quoted from a file of the folder stands
+in a block that is fenced as `rust PATH`, and has to stand in that file, line by line, with whatever indentation. It
+prints a line for each command that differs and each quotation that isn't found; the status is 0 where there is none, and
+1 where there is no command to try.
 """
 
 import glob
@@ -54,6 +57,33 @@ def shown_in(name: str, text: str) -> List[Shown]:
     return found
 
 
+def quoted_in(name: str, text: str) -> List[Shown]:
+    """The code that a document quotes, each with the path of its file for a command."""
+    found: List[Shown] = []
+    inside = False
+    for number, line in enumerate(text.splitlines(), 1):
+        words = line.strip().split()
+        if not inside and len(words) == 2 and words[0] == "```rust":
+            inside = True
+            found.append(Shown(f"{name}:{number}", words[1], []))
+        elif inside and line.strip() == "```":
+            inside = False
+        elif inside:
+            found[-1].lines.append(line.strip())
+    return found
+
+
+def is_quoted(it: Shown, folder: str) -> bool:
+    """Whether a file has the lines that are quoted from it."""
+    try:
+        with open(os.path.join(folder, it.command), encoding="utf-8") as file:
+            lines = [line.strip() for line in file]
+    except OSError:
+        return False
+    count = len(it.lines)
+    return any(lines[start:start + count] == it.lines for start in range(len(lines) - count + 1))
+
+
 def is_alike(wanted: List[str], printed: List[str]) -> bool:
     """Whether the lines are those that are wanted, where `..` stands for any number of them."""
     if ".." not in wanted:
@@ -85,15 +115,21 @@ def main(words: List[str]) -> int:
     program = os.path.abspath(words[0])
     folder = os.path.abspath(words[1]) if len(words) == 2 else TOP
     found: List[Shown] = []
+    quoted: List[Shown] = []
     for pattern in DOCUMENTS:
         for path in sorted(glob.glob(f"{folder}/{pattern}", recursive=True)):
             with open(path, encoding="utf-8") as file:
-                found += shown_in(os.path.relpath(path, folder), file.read())
+                text = file.read()
+            found += shown_in(os.path.relpath(path, folder), text)
+            quoted += quoted_in(os.path.relpath(path, folder), text)
     wrong = [(it, said) for it in found for said in [differs(it, program, folder)] if said]
     for it, said in wrong:
         print(f"{it.place}: {it.command}: {said}")
+    lost = [it for it in quoted if not is_quoted(it, folder)]
+    for it in lost:
+        print(f"{it.place}: {it.command} doesn't have these lines")
     print(f"{len(found) - len(wrong)} of {len(found)} commands print what the documents show")
-    return 0 if found and not wrong else 1
+    return 0 if found and not wrong and not lost else 1
 
 
 if __name__ == "__main__":
