@@ -1,0 +1,10 @@
+use Rattle.std.specs.Int.{w64}
+use Rattle.std.proofs.lemmas.Nat.Bits.{bit_at_set_same}
+use Rattle.bit_vector.proofs.Bits.{bit-kept}
+use Rattle.bit_vector.proofs.slots.set_slot.Goals as goal
+
+pub returns-clause-set : goal.returns-clause-set
+returns-clause-set c = bit_at_set_same w64 c.args.word c.args.slot c.requires
+
+pub returns-clause-others : goal.returns-clause-others
+returns-clause-others c i h = bit-kept c.args.word _ i h

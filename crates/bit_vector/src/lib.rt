@@ -1,0 +1,8 @@
+//! Words of 64 bits as vectors of bits: a bit a place, bit 0 for the first place.
+#![tactic(auto)]
+
+mod places;
+mod slots;
+
+pub use places::{assign, count, first, next, push, without_first};
+pub use slots::{clear_slot, set_slot, turn};

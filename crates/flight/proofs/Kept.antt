@@ -1,0 +1,244 @@
+-- What is true of a flight, event by event.
+use Rattle.std.proofs.Common.{◌≡◌, ◌≢◌, ℕ, zero, suc, ◌+◌, ◌-◌, ◌%◌, ◌<◌, ◌≤◌, min, List, [], ◌∷◌, ◌++◌, length, take, drop, set, get_or, refl, sym, ◌∙◌, ap, arith, inl, inr, ◌⊎◌, length-set, length-append, length-drop}
+use Rattle.std.specs.Int.{bit_at}
+use Rattle.std.proofs.lemmas.List.{length-take-le, get_or-set_same, get_or-set_other, take-append-le, take-take}
+use Rattle.std.proofs.lemmas.Grind.{get_or_after_one}
+use Rattle.std.proofs.Math.Seq.{take-set-lt}
+use Rattle.core_view.specs.declared.entry.Entry.{Entry}
+use Rattle.core_view.specs.declared.entry.Execution.{Execution}
+use Rattle.core_view.specs.declared.entry.Stage.{Stage}
+use Rattle.core_view.specs.declared.entry.Stage.TheVariants.{Fetched, Queued, Issued, Done}
+use Rattle.core_view.specs.View.{no_entry}
+use Rattle.flight.specs.declared.marks.Marks.{Marks}
+use Rattle.flight.specs.Marked.{marks_of}
+use Rattle.flight.specs.Flights.{entry_in, IsFlight, IsAhead, IsHinted}
+use Rattle.flight.proofs.Looks.{lt-or, eq-or}
+
+-- ---- lists
+
+abbrev no_entries : List Entry
+no_entries = []
+
+take-none : (n : ℕ) → take n no_entries ≡ no_entries
+take-none zero = refl
+take-none (suc n) = refl
+
+drop-take-one : (n : ℕ) (es : List Entry) → drop 1 (take n es) ≡ take (n - 1) (drop 1 es)
+drop-take-one zero es = refl
+drop-take-one (suc n) [] = sym (take-none (suc n - 1))
+drop-take-one (suc n) (e ∷ es) = let same : n ≡ suc n - 1 = omega arith in ap (λ k. take k es) same
+
+-- the place past the end is no entry, which is fetched
+stage-push : (es : List Entry) (e : Entry) (i : ℕ) → e.stage ≡ Fetched → (entry_in (es ++ e ∷ []) i).stage ≡ (entry_in es i).stage
+stage-push [] e zero fetched = fetched
+stage-push [] e (suc i) fetched = refl
+stage-push (x ∷ es) e zero fetched = refl
+stage-push (x ∷ es) e (suc i) fetched = stage-push es e i fetched
+
+-- so is what is past a cut
+stage-take : (n i : ℕ) (es : List Entry) → ((entry_in (take n es) i).stage ≡ (entry_in es i).stage) ⊎ ((entry_in (take n es) i).stage ≡ Fetched)
+stage-take zero i es = inr refl
+stage-take (suc n) i [] = inr refl
+stage-take (suc n) zero (e ∷ es) = inl refl
+stage-take (suc n) (suc i) (e ∷ es) = stage-take n i es
+
+take-more : (n : ℕ) (es : List Entry) (e : Entry) → n < length es → take (n + 1) (set es n e) ≡ take n es ++ e ∷ []
+take-more n [] e lt = absurd (omega arith)
+take-more zero (x ∷ es) e lt = refl
+take-more (suc n) (x ∷ es) e lt = let one : suc n + 1 ≡ suc (n + 1) = omega arith in rw one (ap (λ fs. x ∷ fs) (take-more n es e (omega arith)))
+
+-- ---- stages
+
+fetched-issued : (x : Execution) → Fetched ≡ Issued x → ⊥
+fetched-issued x e = cc
+
+queued-fetched : Queued ≡ Fetched → ⊥
+queued-fetched e = cc
+
+issued-fetched : (x : Execution) → Issued x ≡ Fetched → ⊥
+issued-fetched x e = cc
+
+-- what waits or is issued is renamed
+pub queued-renamed : (es : List Entry) (r i : ℕ) → IsAhead r es → (entry_in es i).stage ≡ Queued → i < r
+queued-renamed es r i ahead is = elim (lt-or i r) [ inl lt ↦ lt | inr ge ↦ absurd (queued-fetched (sym is ∙ ahead i ge)) ]
+
+pub issued-renamed : (es : List Entry) (r i : ℕ) (x : Execution) → IsAhead r es → (entry_in es i).stage ≡ Issued x → i < r
+issued-renamed es r i x ahead is = elim (lt-or i r) [ inl lt ↦ lt | inr ge ↦ absurd (issued-fetched x (sym is ∙ ahead i ge)) ]
+
+abbrev due_in : Stage → ℕ
+due_in Fetched = 0
+due_in Queued = 0
+due_in (Issued x) = x.due
+due_in (Done x) = x.due
+
+-- ---- hints
+
+-- entries that were issued before keep their hints
+hinted-still : (words : List ℕ) (base : ℕ) (es fs : List Entry) → IsHinted words base es →
+    ((i : ℕ) (x : Execution) → (entry_in fs i).stage ≡ Issued x → (entry_in es i).stage ≡ Issued x) → IsHinted words base fs
+hinted-still words base es fs h still i x is = h i x (still i x is)
+
+slot-next : (base i : ℕ) → ((base + 1) % 64 + i) % 64 ≡ (base + (1 + i)) % 64
+slot-next base i = omega arith
+
+hinted-retired : (words : List ℕ) (base : ℕ) (es : List Entry) → IsHinted words base es → IsHinted words ((base + 1) % 64) (drop 1 es)
+hinted-retired words base es h i x is =
+    let same : ((base + 1) % 64 + i) % 64 ≡ (base + (1 + i)) % 64 = slot-next base i in
+    ap (λ s. bit_at (get_or words (x.due % 64) 0) s) same ∙ h (1 + i) x (ap (λ (e : Entry). e.stage) (sym (get_or_after_one es i no_entry)) ∙ is)
+
+hinted-here : (words : List ℕ) (base place : ℕ) (es : List Entry) (e : Entry) (x : Execution) → place < length es → length words ≡ 64 →
+    e.stage ≡ Issued x → (w : ℕ) → bit_at w ((base + place) % 64) ≡ 1 → (i : ℕ) (y : Execution) → (entry_in (set es place e) i).stage ≡ Issued y → i ≡ place →
+    bit_at (get_or (set words (x.due % 64) w) (y.due % 64) 0) ((base + i) % 64) ≡ 1
+hinted-here words base place es e x within size issued w bit i y is here =
+    let at : (entry_in (set es place e) i) ≡ e = ap (λ k. entry_in (set es place e) k) here ∙ get_or-set_same es place e no_entry within in
+    let due : y.due ≡ x.due = ap due_in (sym is ∙ ap (λ (e : Entry). e.stage) at ∙ issued) in
+    let low : x.due % 64 < length words = omega arith in
+    ap (λ d. bit_at (get_or (set words (x.due % 64) w) (d % 64) 0) ((base + i) % 64)) due ∙ ap (λ v. bit_at v ((base + i) % 64)) (get_or-set_same words (x.due % 64) w 0 low) ∙ ap (λ k. bit_at w ((base + k) % 64)) here ∙ bit
+
+hinted-other : (words : List ℕ) (base : ℕ) (es : List Entry) (x : Execution) → IsHinted words base es → length words ≡ 64 →
+    (w : ℕ) → ((j : ℕ) → bit_at (get_or words (x.due % 64) 0) j ≡ 1 → bit_at w j ≡ 1) → (i : ℕ) (y : Execution) → (entry_in es i).stage ≡ Issued y → ((y.due % 64) ≡ (x.due % 64)) ⊎ ((y.due % 64) ≢ (x.due % 64)) →
+    bit_at (get_or (set words (x.due % 64) w) (y.due % 64) 0) ((base + i) % 64) ≡ 1
+hinted-other words base es x h size w more i y is (inl same) =
+    let low : x.due % 64 < length words = omega arith in
+    ap (λ d. bit_at (get_or (set words (x.due % 64) w) d 0) ((base + i) % 64)) same ∙ ap (λ v. bit_at v ((base + i) % 64)) (get_or-set_same words (x.due % 64) w 0 low) ∙ more ((base + i) % 64) (ap (λ d. bit_at (get_or words d 0) ((base + i) % 64)) (sym same) ∙ h i y is)
+hinted-other words base es x h size w more i y is (inr other) =
+    ap (λ v. bit_at v ((base + i) % 64)) (get_or-set_other words (x.due % 64) (y.due % 64) w 0 other) ∙ h i y is
+
+hinted-issued : (words : List ℕ) (base place : ℕ) (es : List Entry) (e : Entry) (x : Execution) → IsHinted words base es → place < length es → length words ≡ 64 →
+    e.stage ≡ Issued x → (w : ℕ) → bit_at w ((base + place) % 64) ≡ 1 → ((j : ℕ) → bit_at (get_or words (x.due % 64) 0) j ≡ 1 → bit_at w j ≡ 1) → IsHinted (set words (x.due % 64) w) base (set es place e)
+hinted-issued words base place es e x h within size issued w bit more i y is =
+    elim (eq-or i place) [
+      | inl here ↦ hinted-here words base place es e x within size issued w bit i y is here
+      | inr other ↦ hinted-other words base es x h size w more i y (ap (λ (e : Entry). e.stage) (sym (get_or-set_other es place i e no_entry other)) ∙ is) (eq-or (y.due % 64) (x.due % 64))
+    ]
+
+slots-differ : (base i place : ℕ) → i < 64 → place < 64 → i ≢ place → (base + i) % 64 ≢ (base + place) % 64
+slots-differ base i place a b other = omega arith
+
+-- the bit of an entry that isn't due in any cycle of a word is cleared there
+pub hinted-cleared : (words : List ℕ) (base place r cycle w : ℕ) (es : List Entry) → IsHinted words base es → IsAhead r es → r ≤ 64 → place < r → length words ≡ 64 →
+    ((x : Execution) → (entry_in es place).stage ≡ Issued x → (x.due % 64) ≢ (cycle % 64)) →
+    ((j : ℕ) → j < 64 → j ≢ (base + place) % 64 → bit_at w j ≡ bit_at (get_or words (cycle % 64) 0) j) → IsHinted (set words (cycle % 64) w) base es
+hinted-cleared words base place r cycle w es h ahead few renamed size idle others i y is = by-word (eq-or (y.due % 64) (cycle % 64)) (eq-or i place)
+  where
+    room : cycle % 64 < length words
+    room = omega arith
+
+    here-idle : i ≡ place → (y.due % 64) ≢ (cycle % 64)
+    here-idle here = idle y (ap (λ k. (entry_in es k).stage) (sym here) ∙ is)
+
+    by-word : ((y.due % 64) ≡ (cycle % 64)) ⊎ ((y.due % 64) ≢ (cycle % 64)) → (i ≡ place) ⊎ (i ≢ place) → bit_at (get_or (set words (cycle % 64) w) (y.due % 64) 0) ((base + i) % 64) ≡ 1
+    by-word (inr differs) _ = ap (λ v. bit_at v ((base + i) % 64)) (get_or-set_other words (cycle % 64) (y.due % 64) w 0 differs) ∙ h i y is
+    by-word (inl same) (inl here) = absurd (here-idle here same)
+    by-word (inl same) (inr other) =
+        let low : i < r = issued-renamed es r i y ahead is in
+        let slot : (base + i) % 64 < 64 = omega arith in
+        ap (λ d. bit_at (get_or (set words (cycle % 64) w) d 0) ((base + i) % 64)) same ∙ ap (λ v. bit_at v ((base + i) % 64)) (get_or-set_same words (cycle % 64) w 0 room)
+        ∙ others ((base + i) % 64) slot (slots-differ base i place (omega arith) (omega arith) other) ∙ ap (λ d. bit_at (get_or words d 0) ((base + i) % 64)) (sym same) ∙ h i y is
+
+-- ---- events
+
+pub flight-fetched : (es fs : List Entry) (e : Entry) (r base : ℕ) (m : Marks) (words : List ℕ) → IsFlight es r base m words → e.stage ≡ Fetched → fs ≡ es ++ e ∷ [] → IsFlight fs r base m words
+flight-fetched es fs e r base m words f fetched made = rw made (record {
+  within = omega (arith, f.within, length-append es (e ∷ []));
+  few = f.few;
+  marked = f.marked ∙ ap marks_of (sym (take-append-le r es (e ∷ []) f.within));
+  ahead = λ i h. stage-push es e i fetched ∙ f.ahead i h;
+  hinted = hinted-still words base es (es ++ e ∷ []) f.hinted (λ i x is. sym (stage-push es e i fetched) ∙ is);
+})
+
+pub flight-retired : (es fs : List Entry) (r base : ℕ) (m n : Marks) (words : List ℕ) → IsFlight es r base m words → 0 < r → fs ≡ drop 1 es →
+    ((xs : List Entry) → m ≡ marks_of xs → n ≡ marks_of (drop 1 xs)) → IsFlight fs (r - 1) ((base + 1) % 64) n words
+flight-retired es fs r base m n words f some is marks = rw is (record {
+  within = omega (arith, f.within, some, length-drop 1 es);
+  few = omega (arith, f.few);
+  marked = marks (take r es) f.marked ∙ ap marks_of (drop-take-one r es);
+  ahead = λ i h. ap (λ (e : Entry). e.stage) (get_or_after_one es i no_entry) ∙ f.ahead (1 + i) (omega arith);
+  hinted = hinted-retired words base es f.hinted;
+})
+
+-- another entry at the first place that isn't renamed, and not yet issued
+pub flight-renamed : (es fs : List Entry) (e : Entry) (r base : ℕ) (m n : Marks) (words : List ℕ) → IsFlight es r base m words → r < length es → r < 64 → fs ≡ set es r e → ((x : Execution) → e.stage ≡ Issued x → ⊥) →
+    ((xs : List Entry) → m ≡ marks_of xs → r ≡ length xs → n ≡ marks_of (xs ++ e ∷ [])) → IsFlight fs (r + 1) base n words
+flight-renamed es fs e r base m n words f some few made idle marks = rw made (record {
+  within = omega (arith, some, length-set es r e);
+  few = omega (arith, few);
+  marked = marks (take r es) f.marked (sym (length-take-le r es f.within)) ∙ ap marks_of (sym (take-more r es e some));
+  ahead = λ i h. let other : i ≢ r = omega arith in ap (λ (e : Entry). e.stage) (get_or-set_other es r i e no_entry other) ∙ f.ahead i (omega arith);
+  hinted = hinted-still words base es (set es r e) f.hinted still;
+})
+  where
+    still : (i : ℕ) (x : Execution) → (entry_in (set es r e) i).stage ≡ Issued x → (entry_in es i).stage ≡ Issued x
+    still i x is = elim (eq-or i r) [
+      | inl here ↦ absurd (idle x (ap (λ (e : Entry). e.stage) (sym (get_or-set_same es r e no_entry some) ∙ ap (λ k. entry_in (set es r e) k) (sym here)) ∙ is))
+      | inr other ↦ ap (λ (e : Entry). e.stage) (sym (get_or-set_other es r i e no_entry other)) ∙ is
+    ]
+
+-- another entry at a renamed place
+flight-set : (es : List Entry) (e : Entry) (place r base : ℕ) (m n : Marks) (words vs : List ℕ) → IsFlight es r base m words → place < r →
+    ((xs : List Entry) → m ≡ marks_of xs → place < length xs → length xs ≤ 64 → n ≡ marks_of (set xs place e)) →
+    IsHinted vs base (set es place e) → IsFlight (set es place e) r base n vs
+flight-set es e place r base m n words vs f within marks hinted =
+    let long : length (take r es) ≡ r = length-take-le r es f.within in record {
+      within = omega (arith, f.within, length-set es place e);
+      few = f.few;
+      marked = marks (take r es) f.marked (omega arith) (omega (arith, f.few)) ∙ ap marks_of (sym (take-set-lt r es place e within));
+      ahead = λ i h. let other : i ≢ place = omega arith in ap (λ (e : Entry). e.stage) (get_or-set_other es place i e no_entry other) ∙ f.ahead i h;
+      hinted = hinted;
+    }
+
+pub flight-issued : (es fs : List Entry) (e : Entry) (place r base : ℕ) (m n : Marks) (words : List ℕ) (x : Execution) (w : ℕ) → IsFlight es r base m words → place < r → length words ≡ 64 →
+    e.stage ≡ Issued x → fs ≡ set es place e →
+    ((xs : List Entry) → m ≡ marks_of xs → place < length xs → length xs ≤ 64 → n ≡ marks_of (set xs place e)) →
+    bit_at w ((base + place) % 64) ≡ 1 → ((j : ℕ) → bit_at (get_or words (x.due % 64) 0) j ≡ 1 → bit_at w j ≡ 1) →
+    IsFlight fs r base n (set words (x.due % 64) w)
+flight-issued es fs e place r base m n words x w f within size is made marks bit more =
+    rw made (flight-set es e place r base m n words (set words (x.due % 64) w) f within marks
+    (hinted-issued words base place es e x f.hinted (omega (arith, f.within)) size is w bit more))
+
+pub flight-finished : (es fs : List Entry) (e : Entry) (place r base : ℕ) (m n : Marks) (words : List ℕ) → IsFlight es r base m words → place < r → ((x : Execution) → e.stage ≡ Issued x → ⊥) → fs ≡ set es place e →
+    ((xs : List Entry) → m ≡ marks_of xs → place < length xs → length xs ≤ 64 → n ≡ marks_of (set xs place e)) → IsFlight fs r base n words
+flight-finished es fs e place r base m n words f within idle made marks =
+    rw made (flight-set es e place r base m n words words f within marks (hinted-still words base es (set es place e) f.hinted still))
+  where
+    still : (i : ℕ) (x : Execution) → (entry_in (set es place e) i).stage ≡ Issued x → (entry_in es i).stage ≡ Issued x
+    still i x is = elim (eq-or i place) [
+      | inl here ↦ absurd (idle x (ap (λ (e : Entry). e.stage) (sym (get_or-set_same es place e no_entry (omega (arith, f.within))) ∙ ap (λ k. entry_in (set es place e) k) (sym here)) ∙ is))
+      | inr other ↦ ap (λ (e : Entry). e.stage) (sym (get_or-set_other es place i e no_entry other)) ∙ is
+    ]
+
+-- the first so many entries are left
+pub flight-cut : (es fs : List Entry) (k r base : ℕ) (m n : Marks) (words : List ℕ) → IsFlight es r base m words → fs ≡ take (length fs) es → k ≡ min r (length fs) →
+    ((xs : List Entry) → m ≡ marks_of xs → length xs ≤ 64 → n ≡ marks_of (take k xs)) → IsFlight fs k base n words
+flight-cut es fs k r base m n words f front is marks =
+    let long : length (take r es) ≡ r = length-take-le r es f.within in record {
+      within = omega arith;
+      few = omega (arith, f.few);
+      marked = marks (take r es) f.marked (omega (arith, f.few)) ∙ ap marks_of (take-take k r es (omega arith) ∙ sym (take-take k (length fs) es (omega arith)) ∙ ap (λ xs. take k xs) (sym front));
+      ahead = λ i h. elim (lt-or i (length fs)) [
+        | inl lt ↦ (let past : r ≤ i = omega arith in elim (at i) [ inl same ↦ same ∙ f.ahead i past | inr none ↦ none ])
+        | inr ge ↦ past-end fs i ge
+      ];
+      hinted = hinted-still words base es fs f.hinted (λ i x is. elim (at i) [ inl same ↦ sym same ∙ is | inr none ↦ absurd (fetched-issued x (sym none ∙ is)) ]);
+    }
+  where
+    at : (i : ℕ) → ((entry_in fs i).stage ≡ (entry_in es i).stage) ⊎ ((entry_in fs i).stage ≡ Fetched)
+    at i = rw front (stage-take (length fs) i es)
+
+    past-end : (xs : List Entry) (i : ℕ) → length xs ≤ i → (entry_in xs i).stage ≡ Fetched
+    past-end [] i le = refl
+    past-end (x ∷ xs) zero le = absurd (omega arith)
+    past-end (x ∷ xs) (suc i) le = past-end xs i (omega arith)
+
+pub flight-none : (base : ℕ) (words : List ℕ) → IsFlight [] 0 base (marks_of []) words
+flight-none base words = record {
+  within = omega arith;
+  few = omega arith;
+  marked = refl;
+  ahead = λ i h. refl;
+  hinted = λ i x is. absurd (fetched-issued x is);
+}
+
+-- what was put at a place is found there
+pub placed : (es fs : List Entry) (e d : Entry) (place : ℕ) → place < length es → fs ≡ set es place d → e ≡ entry_in fs place → e ≡ d
+placed es fs e d place within is at = at ∙ ap (λ gs. entry_in gs place) is ∙ get_or-set_same es place d no_entry within

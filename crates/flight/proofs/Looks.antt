@@ -1,0 +1,75 @@
+-- What the words and the hints of a flight show of its entries.
+use Rattle.std.proofs.Common.{◌≡◌, ◌≢◌, ℕ, ◌+◌, ◌%◌, ◌<◌, ◌≤◌, Bool, true, false, List, length, take, get_or, Some, None, is_some, refl, sym, ◌∙◌, ap, arith, inl, inr, ◌⊎◌}
+use Rattle.std.specs.Prelude.{◌==◌, if◌then◌else◌}
+use Rattle.std.specs.Int.{bit_at}
+use Rattle.std.proofs.lemmas.Bool.{eqb-true}
+use Rattle.core_view.specs.declared.entry.Entry.{Entry}
+use Rattle.core_view.specs.declared.entry.Execution.{Execution}
+use Rattle.core_view.specs.declared.entry.Stage.{Stage}
+use Rattle.core_view.specs.declared.entry.Stage.TheVariants.{Fetched, Queued, Issued, Done}
+use Rattle.core_view.specs.Events.{due_at}
+use Rattle.flight.specs.Marked.{word_of}
+use Rattle.flight.specs.Flights.{entry_in, IsHinted, IsAhead, NoneFrom, IsNext, is_due}
+use Rattle.flight.proofs.Words.{bit-clear, bit-set}
+
+-- ---- cases of places
+
+pub lt-or : (a b : ℕ) → (a < b) ⊎ (b ≤ a)
+lt-or a b = grind arith
+
+pub eq-or : (a b : ℕ) → (a ≡ b) ⊎ (a ≢ b)
+eq-or a b = grind arith
+
+-- ---- what is due
+
+no-one : ◌≡◌ {A = ℕ} 0 1 → ⊥
+no-one e = omega (arith, e)
+
+stage-not-due : (words : List ℕ) (slot cycle : ℕ) (s : Stage) → ((x : Execution) → s ≡ Issued x → bit_at (get_or words (x.due % 64) 0) slot ≡ 1) →
+    bit_at (get_or words (cycle % 64) 0) slot ≡ 0 → is_some (due_at cycle s) ≡ false
+stage-not-due words slot cycle Fetched h clear = refl
+stage-not-due words slot cycle Queued h clear = refl
+stage-not-due words slot cycle (Done x) h clear = refl
+stage-not-due words slot cycle (Issued x) h clear = go (x.due == cycle) refl
+  where
+    go : (b : Bool) → (x.due == cycle) ≡ b → is_some (if b then Some x else None) ≡ false
+    go false e = refl
+    go true e = absurd (no-one (sym clear ∙ ap (λ d. bit_at (get_or words (d % 64) 0) slot) (sym (eqb-true x.due cycle e)) ∙ h x refl))
+
+-- an entry whose slot has no bit in the word of a cycle isn't due then
+pub not-due : (words : List ℕ) (base cycle i : ℕ) (es : List Entry) → IsHinted words base es → bit_at (get_or words (cycle % 64) 0) ((base + i) % 64) ≡ 0 → is_due cycle (entry_in es i) ≡ false
+not-due words base cycle i es h clear = stage-not-due words ((base + i) % 64) cycle (entry_in es i).stage (h i) clear
+
+pub fetched-not-due : (cycle i : ℕ) (es : List Entry) → (entry_in es i).stage ≡ Fetched → is_due cycle (entry_in es i) ≡ false
+fetched-not-due cycle i es is = ap (λ s. is_some (due_at cycle s)) is
+
+-- ---- along a loop
+
+-- none before a place, not the one there, and none after it
+pub skip : (f : ℕ → Bool) (from at to : ℕ) → ((i : ℕ) → from ≤ i → i < at → f i ≡ false) → f at ≡ false → ((i : ℕ) → at + 1 ≤ i → i < to → f i ≡ false) → (i : ℕ) → from ≤ i → i < to → f i ≡ false
+skip f from at to before here later i after below = elim (lt-or i at) [ inl lt ↦ before i after lt | inr ge ↦ elim (lt-or at i) [ inl gt ↦ later i (omega arith) below | inr le ↦ (let same : i ≡ at = omega arith in ap f same ∙ here) ] ]
+
+-- none before a place, and all from there on are fetched, which don't pass
+pub none-from : (test : Entry → Bool) (es : List Entry) (from place r : ℕ) → ((i : ℕ) → from ≤ i → i < place → test (entry_in es i) ≡ false) → r ≤ place → IsAhead r es →
+    ((e : Entry) → e.stage ≡ Fetched → test e ≡ false) → NoneFrom test es from
+none-from test es from place r before past ahead fetched i after = elim (lt-or i place) [ inl lt ↦ before i after lt | inr ge ↦ fetched (entry_in es i) (ahead i (omega arith)) ]
+
+-- ---- a word
+
+-- no bit of a word from a place to another
+pub word-none : (test : Entry → Bool) (es : List Entry) (w r from place : ℕ) → w ≡ word_of test (take r es) → r ≤ length es → IsAhead r es → ((e : Entry) → e.stage ≡ Fetched → test e ≡ false) →
+    ((i : ℕ) → from ≤ i → i < place → bit_at w i ≡ 0) → (i : ℕ) → from ≤ i → i < place → test (entry_in es i) ≡ false
+word-none test es w r from place is within ahead fetched clear i after below = elim (lt-or i r) [ inl lt ↦ bit-clear test es w r i is within lt (clear i after below) | inr ge ↦ fetched (entry_in es i) (ahead i ge) ]
+
+pub word-next : (test : Entry → Bool) (es : List Entry) (w r from place : ℕ) → w ≡ word_of test (take r es) → r ≤ length es → IsAhead r es → ((e : Entry) → e.stage ≡ Fetched → test e ≡ false) →
+    from ≤ place → place < r → bit_at w place ≡ 1 → ((i : ℕ) → from ≤ i → i < place → bit_at w i ≡ 0) → IsNext test es from place
+word-next test es w r from place is within ahead fetched after renamed set clear = record {
+  after = after;
+  within = omega arith;
+  passes = bit-set test es w r place is within renamed set;
+  first = word-none test es w r from place is within ahead fetched clear;
+}
+
+pub word-past : (test : Entry → Bool) (es : List Entry) (w r from place : ℕ) → w ≡ word_of test (take r es) → r ≤ length es → IsAhead r es → ((e : Entry) → e.stage ≡ Fetched → test e ≡ false) →
+    r ≤ place → ((i : ℕ) → from ≤ i → i < place → bit_at w i ≡ 0) → NoneFrom test es from
+word-past test es w r from place is within ahead fetched past clear = none-from test es from place r (word-none test es w r from place is within ahead fetched clear) past ahead fetched

@@ -1,0 +1,300 @@
+//! The entries of a context in flight.
+
+ghost use Rattle.std.specs.Prelude.{◌≡◌, ◌≢◌, ℕ, ◌+◌, ◌-◌, ◌<◌, ◌≤◌, ◌%◌, false, [], ◌∷◌, ◌++◌, length, take, drop, slice_get, slice_set, option_copied, IfOk, MatchOption, All, count_by};
+ghost use Rattle.std.specs.List.{list_any};
+ghost use Rattle.circular_buffer.specs.Buffer.{buffer, last_item};
+ghost use Rattle.reorder_buffer.specs.Growing.{IsGrowing};
+ghost use Rattle.core_view.specs.declared.entry.Stage.TheVariants.{Fetched, Queued, Issued};
+ghost use Rattle.core_view.specs.Events.{due_at};
+ghost use Rattle.core_view.specs.declared.entry.Entry.{Entry};
+ghost use Rattle.core_view.specs.declared.entry.Execution.{Execution};
+ghost use Rattle.flight.specs.Marked.{is_waiting, is_waiting_load, is_open_guess, is_missed_load};
+ghost use Rattle.flight.specs.Flights.{entry_in, empty_flight, fetched_one, renamed_one, issued_one, finished_one, retired_one, none_left, cut_at, is_due, NoneFrom, IsNext};
+
+use crate::marks::Marks;
+use bit_vector::{clear_slot, count, next, set_slot, turn};
+use core_view::{Entry, Execution, Stage};
+use reorder_buffer::Ring;
+use std::alloc::{AllocError, Allocator, Global};
+use std::marker::Model;
+
+/// The entries of a context in flight, of which the oldest, at most 64, are renamed.
+#[derive(Drop)]
+pub struct Flight<A: Allocator = Global> {
+    ring: Ring<Entry, A>,
+    renamed: usize,
+    marks: Marks,
+    // The slot of the oldest entry, below 64.
+    base: usize,
+    // A word a cycle modulo 64, with a bit a slot: what is due then has its bit.
+    hints: [u64; 64],
+}
+
+impl<A: Allocator> Model for Flight<A> {
+    ghost use Rattle.std.specs.Prelude.{◌<◌};
+    ghost use Rattle.flight.specs.Flights.{Flight, IsFlight};
+    ghost use Rattle.flight.specs.FlightCode.{coded_flight};
+
+    ghost Value = { Flight };
+
+    ghost view = { λ f. record { entries = f.ring.items; renamed = f.renamed; capacity = f.ring.capacity } };
+
+    ghost invariant = { λ f. (f.base < 64) × IsFlight f.ring.items f.renamed f.base f.marks f.hints };
+
+    ghost coded = { coded_flight };
+}
+
+impl<A: Allocator> Flight<A> {
+    /// No entry, with room for so many.
+    pub fn new(alloc: A, capacity: usize) -> Result<Self, AllocError>
+        ensures { IfOk result (λ f. f ≡ empty_flight capacity) }
+    {
+        let Ok(ring) = Ring::new(alloc, capacity) else {
+            return Err(AllocError);
+        };
+        Ok(Flight {
+            ring,
+            renamed: 0,
+            marks: Marks::new(),
+            base: 0,
+            hints: [0; 64],
+        })
+    }
+
+    /// How many entries there are.
+    pub fn len(&self) -> usize
+        ensures value { result ≡ length self.now.entries }
+        ensures bound { result ≤ self.now.capacity }
+        ensures growing { IsGrowing (λ (e : Entry). e.stamp) self.now.entries }
+    {
+        self.ring.len()
+    }
+
+    /// How many of them are renamed: the oldest.
+    pub fn renamed_count(&self) -> usize
+        ensures value { result ≡ self.now.renamed }
+        ensures within { result ≤ length self.now.entries }
+        ensures few { result ≤ 64 }
+    {
+        self.renamed
+    }
+
+    /// The oldest entry.
+    pub fn head(&self) -> Option<&Entry>
+        ensures { option_copied result ≡ slice_get self.now.entries 0 }
+    {
+        self.ring.head()
+    }
+
+    /// The youngest entry.
+    pub fn last(&self) -> Option<&Entry>
+        ensures { option_copied result ≡ last_item self.now.entries }
+    {
+        self.ring.last()
+    }
+
+    /// The entry at a place, counted from the oldest.
+    pub fn get(&self, place: usize) -> Option<&Entry>
+        ensures { option_copied result ≡ slice_get self.now.entries place }
+    {
+        self.ring.get(place)
+    }
+
+    /// An entry is fetched: it is the youngest.
+    pub fn push(&mut self, entry: Entry)
+        requires room { length self.old.entries < self.old.capacity }
+        requires younger { All (λ e. e.stamp < entry.stamp) self.old.entries }
+        requires fetched { entry.stage ≡ Fetched }
+        ensures { self.new ≡ fetched_one self.old entry }
+    {
+        push_in(&mut self.ring, entry);
+    }
+
+    /// The oldest fetched entry is renamed in a cycle.
+    pub fn rename(&mut self, cycle: u64)
+        requires some { self.old.renamed < length self.old.entries }
+        requires few { self.old.renamed < 64 }
+        ensures { self.new ≡ renamed_one cycle self.old }
+    {
+        let _len = self.ring.len();
+        let entry = at(&self.ring, self.renamed).renamed(cycle);
+        set_in(&mut self.ring, self.renamed, entry);
+        self.marks.push(self.renamed, &entry);
+        self.renamed += 1;
+    }
+
+    /// The entry at a place, which waits for issue, issues.
+    pub fn issue(&mut self, place: usize, execution: Execution)
+        requires place { place < length self.old.entries }
+        requires queued { (entry_in self.old.entries place).stage ≡ Queued }
+        ensures { self.new ≡ issued_one self.old place execution }
+    {
+        let entry = at(&self.ring, place).issued(execution);
+        set_in(&mut self.ring, place, entry);
+        self.marks.assign(place, &entry);
+        let cycle = (execution.due % 64) as usize;
+        self.hints[cycle] = set_slot(self.hints[cycle], (self.base + place) % 64);
+    }
+
+    /// The entry at a place, which is issued, completes. Nothing is cut.
+    pub fn finish(&mut self, place: usize, execution: Execution)
+        requires place { place < length self.old.entries }
+        requires issued { (entry_in self.old.entries place).stage ≡ Issued execution }
+        ensures { self.new ≡ finished_one self.old place execution }
+    {
+        let entry = at(&self.ring, place).completed(execution);
+        set_in(&mut self.ring, place, entry);
+        self.marks.assign(place, &entry);
+    }
+
+    /// The oldest entry leaves.
+    pub fn retire(&mut self)
+        requires { 0 < self.old.renamed }
+        ensures { self.new ≡ retired_one self.old }
+    {
+        let _oldest = self.ring.retire();
+        self.marks.retire();
+        self.renamed -= 1;
+        self.base = (self.base + 1) % 64;
+    }
+
+    /// The entries from a stamp on leave.
+    pub fn cut_from(&mut self, stamp: u64)
+        ensures { self.new ≡ cut_at self.old stamp }
+    {
+        self.ring.cut_from(stamp);
+        self.renamed = self.renamed.min(self.ring.len());
+        self.marks.keep(self.renamed);
+    }
+
+    /// All entries leave.
+    pub fn clear(&mut self)
+        ensures { self.new ≡ none_left self.old }
+    {
+        self.ring.cut_from(0);
+        self.marks = Marks::new();
+        self.renamed = 0;
+    }
+
+    /// Whether one of the renamed entries is guessed and has not completed.
+    pub fn has_open_guess(&self) -> bool
+        ensures { result ≡ list_any is_open_guess (take self.now.renamed self.now.entries) }
+    {
+        self.marks.open_guesses != 0
+    }
+
+    /// How many loads were issued, have not completed, and missed.
+    pub fn missed_loads(&self) -> usize
+        ensures { result ≡ count_by is_missed_load (take self.now.renamed self.now.entries) }
+    {
+        count(self.marks.missed_loads)
+    }
+
+    /// The first place from one on whose entry waits for issue.
+    pub fn next_waiting(&self, from: usize) -> Option<usize>
+        requires { from ≤ 64 }
+        ensures { MatchOption result (NoneFrom is_waiting self.now.entries from) (λ place. IsNext is_waiting self.now.entries from place) }
+    {
+        let place = next(self.marks.waiting, from);
+        if place < self.renamed {
+            Some(place)
+        } else {
+            None
+        }
+    }
+
+    /// The first place from one on whose entry is a load that waits for issue.
+    pub fn next_waiting_load(&self, from: usize) -> Option<usize>
+        requires { from ≤ 64 }
+        ensures { MatchOption result (NoneFrom is_waiting_load self.now.entries from) (λ place. IsNext is_waiting_load self.now.entries from place) }
+    {
+        let place = next(self.marks.waiting_loads, from);
+        if place < self.renamed {
+            Some(place)
+        } else {
+            None
+        }
+    }
+
+    /// The first place from one on whose entry is due in a cycle. Bits of what was cut are cleared on the way.
+    pub fn next_due(&mut self, cycle: u64, from: usize) -> Option<usize>
+        requires { from ≤ 64 }
+        ensures next { MatchOption result (NoneFrom (is_due cycle) self.old.entries from) (λ place. IsNext (is_due cycle) self.old.entries from place) }
+        ensures same { self.new ≡ self.old }
+    {
+        let mut place = self.next_hint(cycle, from);
+        while place < self.renamed_count() {
+            if at(&self.ring, place).stage.due(cycle).is_some() {
+                return Some(place);
+            }
+            self.clear_hint(cycle, place);
+            place = self.next_hint(cycle, place + 1);
+        }
+        None
+    }
+
+    /// The first place from one on that may be due in a cycle, or 64.
+    #[inline]
+    fn next_hint(&self, cycle: u64, from: usize) -> usize
+        requires { from ≤ 64 }
+        ensures from { from ≤ result }
+        ensures within { result ≤ 64 }
+        ensures none { (i : ℕ) → from ≤ i → i < result → is_due cycle (entry_in self.now.entries i) ≡ false }
+    {
+        next(turn(self.hints[(cycle % 64) as usize], self.base), from)
+    }
+
+    /// The entry at a place that isn't due in a cycle loses its bit there, unless it is due so many times 64 later.
+    #[inline]
+    fn clear_hint(&mut self, cycle: u64, place: usize)
+        requires { place < self.old.renamed }
+        ensures { self.new ≡ self.old }
+    {
+        let _len = self.ring.len();
+        if is_due_in_round(at(&self.ring, place), cycle) {
+            return;
+        }
+        let word = (cycle % 64) as usize;
+        self.hints[word] = clear_slot(self.hints[word], (self.base + place) % 64);
+    }
+}
+
+/// The entry at a place that is there.
+#[inline]
+fn at<A: Allocator>(ring: &Ring<Entry, A>, place: usize) -> &Entry
+    requires { place < length ring.now.items }
+    ensures { result.now ≡ entry_in ring.now.items place }
+{
+    ring.get(place).unwrap()
+}
+
+/// An entry is pushed into a ring with room.
+#[inline]
+fn push_in<A: Allocator>(ring: &mut Ring<Entry, A>, entry: Entry)
+    requires room { length ring.old.items < ring.old.capacity }
+    requires younger { All (λ e. e.stamp < entry.stamp) ring.old.items }
+    ensures { ring.new ≡ buffer (ring.old.items ++ entry ∷ []) ring.old.capacity }
+{
+    let _pushed = ring.push(entry);
+}
+
+/// An entry takes the place of one with its stamp.
+#[inline]
+fn set_in<A: Allocator>(ring: &mut Ring<Entry, A>, place: usize, entry: Entry)
+    requires place { place < length ring.old.items }
+    requires stamp { (entry_in ring.old.items place).stamp ≡ entry.stamp }
+    ensures { ring.new ≡ buffer (slice_set ring.old.items place entry) ring.old.capacity }
+{
+    ring.set(place, entry);
+}
+
+/// Whether an entry is issued and due a number of times 64 cycles from a cycle.
+#[inline]
+fn is_due_in_round(entry: &Entry, cycle: u64) -> bool
+    ensures { result ≡ false → (x : Execution) → entry.now.stage ≡ Issued x → x.due % 64 ≢ cycle % 64 }
+{
+    match entry.stage {
+        Stage::Issued { execution } => execution.due % 64 == cycle % 64,
+        _ => false,
+    }
+}

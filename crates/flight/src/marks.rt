@@ -1,0 +1,124 @@
+//! The words of a flight.
+
+ghost use Rattle.std.specs.Prelude.{◌≡◌, ◌&&◌, ◌<◌, ◌≤◌, List, [], ◌∷◌, ◌++◌, length, take, drop, slice_set};
+ghost use Rattle.core_view.specs.declared.entry.Entry.{Entry};
+ghost use Rattle.flight.specs.Marked.{marks_of, is_waiting, is_waiting_load, is_open_guess, is_missed_load, has_missed};
+
+use bit_vector::{assign, first, push, without_first};
+use core_view::{Entry, Stage};
+
+/// A bit a renamed entry, bit 0 for the oldest.
+#[derive(Clone, Copy)]
+pub struct Marks {
+    /// It waits for issue.
+    pub waiting: u64,
+    /// It is a load that waits for issue.
+    pub waiting_loads: u64,
+    /// It is guessed and has not completed.
+    pub open_guesses: u64,
+    /// It is a load that was issued, has not completed, and missed.
+    pub missed_loads: u64,
+}
+
+impl Marks {
+    /// Of no entry.
+    pub fn new() -> Marks
+        ensures { result ≡ marks_of [] }
+    {
+        Marks {
+            waiting: 0,
+            waiting_loads: 0,
+            open_guesses: 0,
+            missed_loads: 0,
+        }
+    }
+
+    /// With an entry more, the youngest.
+    #[inline]
+    pub fn push(&mut self, place: usize, entry: &Entry)
+        requires { place < 64 }
+        ensures { (es : List Entry) → self.old ≡ marks_of es → place ≡ length es → self.new ≡ marks_of (es ++ entry.now ∷ []) }
+    {
+        self.waiting = push(self.waiting, place, is_waiting(entry));
+        self.waiting_loads = push(self.waiting_loads, place, is_waiting_load(entry));
+        self.open_guesses = push(self.open_guesses, place, is_open_guess(entry));
+        self.missed_loads = push(self.missed_loads, place, is_missed_load(entry));
+    }
+
+    /// With another entry at a place.
+    #[inline]
+    pub fn assign(&mut self, place: usize, entry: &Entry)
+        requires { place < 64 }
+        ensures { (es : List Entry) → self.old ≡ marks_of es → place < length es → length es ≤ 64 → self.new ≡ marks_of (slice_set es place entry.now) }
+    {
+        self.waiting = assign(self.waiting, place, is_waiting(entry));
+        self.waiting_loads = assign(self.waiting_loads, place, is_waiting_load(entry));
+        self.open_guesses = assign(self.open_guesses, place, is_open_guess(entry));
+        self.missed_loads = assign(self.missed_loads, place, is_missed_load(entry));
+    }
+
+    /// Without the oldest entry.
+    #[inline]
+    pub fn retire(&mut self)
+        ensures { (es : List Entry) → self.old ≡ marks_of es → self.new ≡ marks_of (drop 1 es) }
+    {
+        self.waiting = without_first(self.waiting);
+        self.waiting_loads = without_first(self.waiting_loads);
+        self.open_guesses = without_first(self.open_guesses);
+        self.missed_loads = without_first(self.missed_loads);
+    }
+
+    /// Of the oldest entries.
+    #[inline]
+    pub fn keep(&mut self, count: usize)
+        ensures { (es : List Entry) → self.old ≡ marks_of es → length es ≤ 64 → self.new ≡ marks_of (take count es) }
+    {
+        self.waiting = first(self.waiting, count);
+        self.waiting_loads = first(self.waiting_loads, count);
+        self.open_guesses = first(self.open_guesses, count);
+        self.missed_loads = first(self.missed_loads, count);
+    }
+}
+
+/// Whether an entry waits for issue.
+#[inline]
+fn is_waiting(entry: &Entry) -> bool
+    ensures { result ≡ is_waiting entry.now }
+{
+    matches!(entry.stage, Stage::Queued)
+}
+
+/// Whether an entry is a load that waits for issue.
+#[inline]
+fn is_waiting_load(entry: &Entry) -> bool
+    ensures { result ≡ is_waiting_load entry.now }
+{
+    is_waiting(entry) && entry.operation.is_load()
+}
+
+/// Whether an entry is guessed and has not completed.
+#[inline]
+fn is_open_guess(entry: &Entry) -> bool
+    ensures { result ≡ is_open_guess entry.now }
+{
+    entry.operation.is_guessed() && !entry.stage.is_done()
+}
+
+/// Whether an entry is a load that was issued, has not completed, and missed.
+#[inline]
+fn is_missed_load(entry: &Entry) -> bool
+    ensures { result ≡ is_missed_load entry.now }
+{
+    entry.operation.is_load() && has_missed(&entry.stage)
+}
+
+/// Whether a stage is that of an execution that missed and has not completed.
+#[inline]
+fn has_missed(stage: &Stage) -> bool
+    ensures { result ≡ has_missed stage.now }
+{
+    match stage {
+        Stage::Issued { execution } => execution.miss,
+        _ => false,
+    }
+}
