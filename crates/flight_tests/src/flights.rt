@@ -1,0 +1,31 @@
+// One load that is fetched, renamed and cut.
+use core_view::{Entry, Operation};
+use flight::Flight;
+use hart_step::Stop;
+use rv64_decode::decode;
+use std::process::Abort;
+use std::test::Fail;
+
+// LW a0, 0(a1), or what stands where that is no instruction.
+fn load() -> Operation {
+    match decode(0x0005_a503) {
+        Some(insn) => Operation::Performs { insn },
+        None => Operation::Stops { why: Stop::Illegal },
+    }
+}
+
+#[test]
+fn a_load_waits_and_is_cut(rt: HostRuntime) -> Result<(), Fail> {
+    let mut flight = Flight::new(rt.alloc(), 80)?;
+    flight.push(Entry::new(7, 1, 0x1000, load(), 0x1004));
+    flight.rename(5);
+    assert_eq!(rt; flight.next_waiting_load(0), Some(0));
+    let Some(entry) = flight.get(0) else {
+        return Err("no entry".into());
+    };
+    assert!(rt; !entry.stage.is_done());
+    assert_eq!(rt; flight.next_due(70, 0), None);
+    flight.cut_from(7);
+    assert_eq!(rt; flight.len(), 0);
+    Ok(())
+}
