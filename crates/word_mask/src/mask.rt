@@ -1,0 +1,62 @@
+//! The bits of a word.
+
+ghost use Rattle.std.specs.Prelude.{◌≡◌, ℕ, ◌+◌, ◌<◌, true, false, not, ◌&&◌, ◌==◌, count_ones, if◌then◌else◌};
+ghost use Rattle.word_mask.specs.Mask.{has};
+
+/// Whether a word has the bit of a place.
+pub fn has(word: u64, place: usize) -> bool
+    ensures { result ≡ has word place }
+{
+    place < 64 && (word >> place as u32) & 1 == 1
+}
+
+/// The word with the bit of a place as told, and all others as they are.
+pub fn assigned(word: u64, place: usize, flag: bool) -> u64
+    requires { place < 64 }
+    ensures { (p : ℕ) → has result p ≡ (if p == place then flag else has word p) }
+{
+    let bit = 1u64 << place as u32;
+    if flag { word | bit } else { word & !bit }
+}
+
+/// The word without a bit that it has.
+pub fn cleared(word: u64, place: usize) -> u64
+    requires bound { place < 64 }
+    requires set { has word place ≡ true }
+    ensures bits { (p : ℕ) → has result p ≡ (has word p && not (p == place)) }
+    ensures ones { count_ones result + 1 ≡ count_ones word }
+{
+    word & !(1u64 << place as u32)
+}
+
+/// The bits that both words have.
+pub fn both(left: u64, right: u64) -> u64
+    ensures { (p : ℕ) → has result p ≡ (has left p && has right p) }
+{
+    left & right
+}
+
+/// The bits of a word that another lacks.
+pub fn without(word: u64, other: u64) -> u64
+    ensures { (p : ℕ) → has result p ≡ (has word p && not (has other p)) }
+{
+    word & !other
+}
+
+/// The lowest place of a word that isn't 0.
+pub fn lowest(word: u64) -> usize
+    requires { 0 < word }
+    ensures set { has word result ≡ true }
+    ensures bound { result < 64 }
+{
+    word.trailing_zeros() as usize
+}
+
+/// The lowest place that a word lacks.
+pub fn lowest_clear(word: u64) -> usize
+    requires { count_ones word < 64 }
+    ensures clear { has word result ≡ false }
+    ensures bound { result < 64 }
+{
+    word.trailing_ones() as usize
+}
