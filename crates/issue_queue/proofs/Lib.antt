@@ -1,5 +1,10 @@
 pub mod Filtered
 pub mod Named
-pub mod Taken
+pub mod Lists
+pub mod Walks
+pub mod Masks
 pub mod Marked
-pub mod Scanned
+pub mod Kept
+pub mod Best
+pub mod Chosen
+pub mod Oldest

@@ -5,3 +5,4 @@ pub mod IssueQueue
 pub mod IsSelected
 pub mod Candidates
 pub mod Stamps
+pub mod Board

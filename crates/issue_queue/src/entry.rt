@@ -2,14 +2,14 @@
 
 ghost use Rattle.std.specs.Prelude.{◌≡◌, ◌↔◌, ◌==◌, IsTrue, [], not, filter};
 ghost use Rattle.std.specs.Option.{option_to_list};
-ghost use Rattle.issue_queue.specs.Entry.{IsReady, is_named};
+ghost use Rattle.std.specs.List.{filter_map};
+ghost use Rattle.issue_queue.specs.Entry.{IsReady, is_named, is_ready};
 ghost use Rattle.issue_queue.specs.IssueQueue.{awake, is_from};
-ghost use Rattle.issue_queue.specs.Views.{entry_of, name_of, view_of};
+ghost use Rattle.issue_queue.specs.Views.{as_entry, entry_of, name_of, view_of};
 
 use core_view::EntryId;
 use join_law::Ctx;
 use rename_file::PhysicalRegister;
-use std::marker::Model;
 
 /// An entry that enters the queue.
 #[derive(Clone, Copy, Debug, PartialEq, Eq)]
@@ -40,7 +40,7 @@ pub struct QueueView {
 }
 
 /// An entry in the queue.
-#[derive(Drop)]
+#[derive(Clone, Copy)]
 pub(crate) struct Queued {
     context: Ctx,
     stamp: u64,
@@ -49,23 +49,6 @@ pub(crate) struct Queued {
     held: bool,
     first: Option<PhysicalRegister>,
     second: Option<PhysicalRegister>,
-}
-
-impl Model for Queued {
-    ghost use Rattle.std.specs.Prelude.{◌++◌};
-    ghost use Rattle.std.specs.Option.{option_to_list};
-    ghost use Rattle.issue_queue.specs.Entry.{Entry};
-
-    ghost Value = { Entry };
-
-    ghost view = { λ q. record {
-      stamp = q.stamp;
-      context = q.context;
-      guessed = q.guessed;
-      speculative = q.speculative;
-      held = q.held;
-      waits = option_to_list q.first ++ option_to_list q.second;
-    } };
 }
 
 impl Default for Queued {
@@ -86,7 +69,7 @@ impl Default for Queued {
 impl Queued {
     /// The entry that enters.
     pub(crate) fn new(waiting: Waiting) -> Queued
-        ensures { result ≡ entry_of waiting }
+        ensures { as_entry result ≡ entry_of waiting }
     {
         let [first, second] = waiting.sources;
         Queued {
@@ -102,28 +85,35 @@ impl Queued {
 
     /// Its context.
     pub(crate) fn context(&self) -> Ctx
-        ensures { result ≡ self.now.context }
+        ensures { result ≡ (as_entry self.now).context }
     {
         self.context
     }
 
+    /// The registers that it waits for.
+    pub(crate) fn sources(&self) -> [Option<PhysicalRegister>; 2]
+        ensures { (as_entry self.now).waits ≡ filter_map (λ source. source) result }
+    {
+        [self.first, self.second]
+    }
+
     /// Its stamp.
     pub(crate) fn stamp(&self) -> u64
-        ensures { result ≡ self.now.stamp }
+        ensures { result ≡ (as_entry self.now).stamp }
     {
         self.stamp
     }
 
     /// Whether it is a conditional branch or a JALR.
     pub(crate) fn is_guessed(&self) -> bool
-        ensures { result ≡ self.now.guessed }
+        ensures { result ≡ (as_entry self.now).guessed }
     {
         self.guessed
     }
 
     /// What an order sees of it.
     pub(crate) fn view(&self) -> QueueView
-        ensures { result ≡ view_of self.now }
+        ensures { result ≡ view_of (as_entry self.now) }
     {
         QueueView {
             stamp: self.stamp,
@@ -135,7 +125,7 @@ impl Queued {
 
     /// Its name.
     pub(crate) fn name(&self) -> EntryId
-        ensures { result ≡ name_of self.now }
+        ensures { result ≡ name_of (as_entry self.now) }
     {
         EntryId {
             context: self.context,
@@ -145,28 +135,29 @@ impl Queued {
 
     /// Whether it is the entry of a context and stamp.
     pub(crate) fn is_named(&self, context: Ctx, stamp: u64) -> bool
-        ensures { result ≡ is_named context stamp self.now }
+        ensures { result ≡ is_named context stamp (as_entry self.now) }
     {
         self.context == context && self.stamp == stamp
     }
 
     /// Whether it is of a context and has at least this stamp.
     pub(crate) fn is_from(&self, context: Ctx, stamp: u64) -> bool
-        ensures { result ≡ is_from context stamp self.now }
+        ensures { result ≡ is_from context stamp (as_entry self.now) }
     {
         self.context == context && self.stamp >= stamp
     }
 
     /// Whether it waits for nothing and is not held.
     pub(crate) fn is_ready(&self) -> bool
-        ensures { IsTrue result ↔ IsReady self.now }
+        ensures ready { IsTrue result ↔ IsReady (as_entry self.now) }
+        ensures test { result ≡ is_ready (as_entry self.now) }
     {
         self.first.is_none() && self.second.is_none() && !self.held
     }
 
     /// Waits for a register no more.
     pub(crate) fn wake(&mut self, register: PhysicalRegister)
-        ensures { self.new ≡ awake register self.old }
+        ensures { as_entry self.new ≡ awake register (as_entry self.old) }
     {
         self.first = other_than(self.first, register);
         self.second = other_than(self.second, register);
@@ -174,14 +165,14 @@ impl Queued {
 
     /// Marks whether an older guessed entry of its context has not completed.
     pub(crate) fn set_speculative(&mut self, speculative: bool)
-        ensures { self.new ≡ record self.old { speculative = speculative } }
+        ensures { as_entry self.new ≡ record (as_entry self.old) { speculative = speculative } }
     {
         self.speculative = speculative;
     }
 
     /// Marks whether it is a load that is not clear.
     pub(crate) fn set_held(&mut self, held: bool)
-        ensures { self.new ≡ record self.old { held = held } }
+        ensures { as_entry self.new ≡ record (as_entry self.old) { held = held } }
     {
         self.held = held;
     }

@@ -3,8 +3,8 @@
 #![tactic(auto)]
 
 mod entry;
-mod marks;
 mod order;
+mod places;
 mod queue;
 mod selecting;
 mod stamps;

@@ -3,13 +3,14 @@
 ghost use Rattle.std.specs.Prelude.{◌≡◌, ◌↔◌, ◌<◌, ◌≤◌, ◌==◌, ◌&&◌, false, [], ◌∷◌, ◌++◌, length, map, filter, not, count_by, IsTrue, IfSome, IsOk, OnOk, OnErr, IfErr};
 ghost use Rattle.std.specs.List.{list_any};
 ghost use Rattle.issue_queue.specs.Entry.{is_named};
+ghost use Rattle.issue_queue.specs.Board.{waits_for};
 ghost use Rattle.issue_queue.specs.IssueQueue.{awake, with_speculative, with_held, released, is_from};
 ghost use Rattle.issue_queue.specs.IsSelected.{IsSelected};
 ghost use Rattle.issue_queue.specs.Stamps.{place_of_oldest};
 ghost use Rattle.issue_queue.specs.Views.{entry_of, view_of};
 
-use crate::entry::Queued;
-use crate::{Order, Waiting, marks, selecting, stamps};
+use crate::places::Places;
+use crate::{Order, Waiting, selecting, stamps};
 use arrayvec::ArrayVec;
 use core_view::EntryId;
 use join_law::Ctx;
@@ -27,17 +28,19 @@ pub enum QueueFault {
 #[derive(Drop)]
 pub struct Queue {
     capacity: usize,
-    entries: ArrayVec<Queued, 64>,
+    places: Places,
+    order: ArrayVec<u8, 64>,
 }
 
 impl Model for Queue {
-    ghost use Rattle.issue_queue.specs.IssueQueue.{IssueQueue, IsSound};
+    ghost use Rattle.issue_queue.specs.IssueQueue.{IssueQueue};
+    ghost use Rattle.issue_queue.specs.Board.{IsKept, listed};
 
     ghost Value = { IssueQueue };
 
-    ghost view = { λ q. record { capacity = q.capacity; entries = q.entries.items } };
+    ghost view = { λ q. record { capacity = q.capacity; entries = listed q.places.slots q.order.items } };
 
-    ghost invariant = { λ q. IsSound q.capacity q.entries.items };
+    ghost invariant = { λ q. IsKept q.capacity q.places q.order.items };
 }
 
 impl Queue {
@@ -48,7 +51,8 @@ impl Queue {
     {
         Queue {
             capacity,
-            entries: ArrayVec::new(),
+            places: Places::new(),
+            order: ArrayVec::new(),
         }
     }
 
@@ -57,14 +61,14 @@ impl Queue {
         ensures value { result ≡ length self.now.entries }
         ensures fits { result ≤ self.now.capacity }
     {
-        self.entries.len()
+        self.order.len()
     }
 
     /// Whether it holds no entry.
     pub fn is_empty(&self) -> bool
         ensures { IsTrue result ↔ (self.now.entries ≡ []) }
     {
-        self.entries.is_empty()
+        self.order.is_empty()
     }
 
     /// How many entries it can hold.
@@ -86,10 +90,7 @@ impl Queue {
     pub fn contains(&self, context: Ctx, stamp: u64) -> bool
         ensures { result ≡ list_any (is_named context stamp) self.now.entries }
     {
-        self.entries
-            .as_slice()
-            .iter()
-            .any(|entry| entry.is_named(context, stamp))
+        self.places.find(context, stamp).is_some()
     }
 
     /// Puts an entry behind the others. It is not held.
@@ -107,36 +108,44 @@ impl Queue {
         if self.is_full() {
             return Err((waiting, QueueFault::Full));
         }
-        self.entries.push(Queued::new(waiting));
+        let place = self.places.put(waiting);
+        self.order.push(place as u8);
         Ok(())
     }
 
-    /// No entry waits for a register any more.
-    pub fn wake(&mut self, register: PhysicalRegister)
-        ensures { self.new ≡ record self.old { entries = map (awake register) self.old.entries } }
+    /// No entry waits for a register any more. Gives how many places it looked at: those that waited for it.
+    pub fn wake(&mut self, register: PhysicalRegister) -> usize
+        ensures entries { self.new ≡ record self.old { entries = map (awake register) self.old.entries } }
+        ensures looked { result ≡ count_by (waits_for register) self.old.entries }
     {
-        marks::wake_all(self.entries.as_mut_slice(), register);
+        self.places.wake(register)
     }
 
     /// Tells whether an older guessed entry of its context has not completed, of the entry of a context and stamp.
     pub fn speculate(&mut self, context: Ctx, stamp: u64, speculative: bool)
         ensures { self.new ≡ record self.old { entries = map (with_speculative context stamp speculative) self.old.entries } }
     {
-        marks::mark_speculative(self.entries.as_mut_slice(), context, stamp, speculative);
+        let Some(place) = self.places.find(context, stamp) else {
+            return;
+        };
+        self.places.set_speculative(place, speculative);
     }
 
     /// Holds the load of a context and stamp, or lets it go. A held entry is not ready.
     pub fn hold(&mut self, context: Ctx, stamp: u64, held: bool)
         ensures { self.new ≡ record self.old { entries = map (with_held context stamp held) self.old.entries } }
     {
-        marks::mark_held(self.entries.as_mut_slice(), context, stamp, held);
+        let Some(place) = self.places.find(context, stamp) else {
+            return;
+        };
+        self.places.set_held(place, held);
     }
 
     /// Lets all loads go.
     pub fn release(&mut self)
         ensures { self.new ≡ record self.old { entries = map released self.old.entries } }
     {
-        marks::release_all(self.entries.as_mut_slice());
+        self.places.release();
     }
 
     /// Removes the first ready entries by (key, stamp), at most `width` of them, and gives their names in that
@@ -146,36 +155,36 @@ impl Queue {
         ensures capacity { self.new.capacity ≡ self.old.capacity }
         ensures selected { IsSelected (λ e. O.key_of order.now (view_of e)) width self.old.entries self.new.entries result.items }
     {
-        selecting::take_first(&mut self.entries, order, width)
+        let best = selecting::best_of(&self.places.slots, self.places.ready, order, width);
+        let selected = self.places.take(best.as_slice());
+        let valid = self.places.valid;
+        self.order
+            .retain(|place| word_mask::has(valid, *place as usize));
+        selected
     }
 
     /// Drops the entries of a context that have at least this stamp.
     pub fn drop_from(&mut self, context: Ctx, stamp: u64)
         ensures { self.new ≡ record self.old { entries = filter (λ e. not (is_from context stamp e)) self.old.entries } }
     {
-        self.entries.retain(|entry| !entry.is_from(context, stamp));
+        self.places.free_from(context, stamp);
+        let valid = self.places.valid;
+        self.order
+            .retain(|place| word_mask::has(valid, *place as usize));
     }
 
     /// How many entries of a context it holds.
     pub fn count(&self, context: Ctx) -> usize
         ensures { result ≡ count_by (λ e. e.context == context) self.now.entries }
     {
-        self.entries
-            .as_slice()
-            .iter()
-            .filter(|entry| entry.context() == context)
-            .count()
+        self.places.count(context)
     }
 
     /// How many guessed entries of a context it holds.
     pub fn guessed_count(&self, context: Ctx) -> usize
         ensures { result ≡ count_by (λ e. (e.context == context) && e.guessed) self.now.entries }
     {
-        self.entries
-            .as_slice()
-            .iter()
-            .filter(|entry| entry.context() == context && entry.is_guessed())
-            .count()
+        self.places.guessed_count(context)
     }
 
     /// How many entries are older than the oldest entry of a context, or `None` where it has none.
@@ -183,6 +192,7 @@ impl Queue {
         ensures place { result ≡ place_of_oldest context self.now.entries }
         ensures bound { IfSome result (λ place. place ≤ 64) }
     {
-        stamps::oldest_place(self.entries.as_slice(), context)
+        let entries = self.places.listed(&self.order);
+        stamps::oldest_place(entries.as_slice(), context)
     }
 }

@@ -93,7 +93,7 @@ fn wakes_63_of_64(rt: HostRuntime) {
     put(&rt, &mut queue, other);
     assert!(rt; queue.is_full());
     assert_eq!(rt; queue.select(&OldestFirst, 8).len(), 0);
-    queue.wake(woken);
+    assert_eq!(rt; queue.wake(woken), 63);
     let selected = queue.select(&OldestFirst, 8);
     assert_stamps(
         &rt,
@@ -112,9 +112,9 @@ fn forgets_the_waits_of_a_dropped_entry(rt: HostRuntime) {
     queue.drop_from(context(&rt, 0), 7);
     assert!(rt; queue.is_empty());
     put(&rt, &mut queue, waiting(context(&rt, 0), 8, [second, None]));
-    queue.wake(register(&rt, 5));
+    assert_eq!(rt; queue.wake(register(&rt, 5)), 0);
     assert_eq!(rt; queue.select(&OldestFirst, 8).len(), 0);
-    queue.wake(register(&rt, 6));
+    assert_eq!(rt; queue.wake(register(&rt, 6)), 1);
     assert_stamps(&rt, queue.select(&OldestFirst, 8).as_slice(), &[8]);
 }
 

@@ -30,7 +30,7 @@ invariant_of-self g c =
     let h = here c.self.inside c.args.self.now c.args.context c.index.result c.index-ring.result.now c.self.view_is c.self.invariant c.index.ensures.value c.index.ensures.bound c.index-ring.ensures in
     let at = at_place c.index-ring.result.now c.args.place c.get.result c.unwrap-renamed.result c.get.ensures c.unwrap-renamed.ensures in
     let k = finish_leaves c.self.inside c.args.self.now c.args.context c.index.result c.args.place c.args.value c.index-ring.result.now c.unwrap-renamed.result.now c.write.new.self c.wake.new.self
-    c.self.view_is c.self.invariant h at (not_true _ (sym c.if-not-has_destination.ensures)) c.write.ensures.written c.wake.ensures in
+    c.self.view_is c.self.invariant h at (not_true _ (sym c.if-not-has_destination.ensures)) c.write.ensures.written c.wake.ensures.entries in
     record { file = c.write.ensures.file; tied = k.tied; waiting = k.waiting }
 
 pub returns : goal.returns
@@ -38,4 +38,4 @@ returns g c =
     let h = here c.self.inside c.args.self.now c.args.context c.index.result c.index-ring.result.now c.self.view_is c.self.invariant c.index.ensures.value c.index.ensures.bound c.index-ring.ensures in
     let at = at_place c.index-ring.result.now c.args.place c.get.result c.unwrap-renamed.result c.get.ensures c.unwrap-renamed.ensures in
     (finish_leaves c.self.inside c.args.self.now c.args.context c.index.result c.args.place c.args.value c.index-ring.result.now c.unwrap-renamed.result.now c.write.new.self c.wake.new.self
-    c.self.view_is c.self.invariant h at (not_true _ (sym c.if-not-has_destination.ensures)) c.write.ensures.written c.wake.ensures).shows
+    c.self.view_is c.self.invariant h at (not_true _ (sym c.if-not-has_destination.ensures)) c.write.ensures.written c.wake.ensures.entries).shows

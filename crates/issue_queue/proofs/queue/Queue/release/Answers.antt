@@ -1,12 +1,13 @@
-use Rattle.std.proofs.Common.{arith, ap, length}
-use Rattle.arrayvec.proofs.ArrayVecLemmas.{items-with_items}
+use Rattle.std.proofs.Common.{ap, refl}
+use Rattle.issue_queue.specs.IssueQueue.{released}
+use Rattle.issue_queue.proofs.Kept.{entries_changed, kept_changed}
 use Rattle.issue_queue.proofs.queue.Queue.release.Goals as goal
 
 pub invariant_of-self : goal.invariant_of-self
 invariant_of-self c =
-    rw (items-with_items c.self.inside.entries c.release_all.new.entries (omega (arith, ap length c.as_mut_slice.ensures.value)))
-    (record {
-      bounded = c.self.invariant.bounded;
-      within = omega (arith, ap length c.as_mut_slice.ensures.value);
-      distinct = c.release_all.ensures.distinct;
-    })
+    kept_changed released (λ e. refl) (λ e. refl) c.self.inside.capacity c.self.inside.places c.release.new.self c.self.inside.order.items c.self.invariant c.release.ensures.step c.release.ensures.valid c.release.ensures.slots
+
+pub returns : goal.returns
+returns c =
+    rw (← c.self.view_is) (ap (λ es. record { capacity = c.self.inside.capacity; entries = es })
+    (entries_changed released c.self.inside.capacity c.self.inside.places c.release.new.self.slots c.self.inside.order.items c.self.invariant c.release.ensures.slots))

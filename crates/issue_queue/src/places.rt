@@ -1,0 +1,295 @@
+//! The 64 places of the queue, and words with a bit for each.
+
+ghost use Rattle.std.specs.Prelude.{◌≡◌, ℕ, ◌<◌, ◌≤◌, true, false, not, ◌&&◌, ◌||◌, ◌==◌, ◌^◌, slice_index, slice_index_or, length, map, All, AllPairs, count_ones, if◌then◌else◌, IfSome, IfNone};
+ghost use Rattle.std.specs.List.{list_any};
+ghost use Rattle.std.specs.Option.{option_to_list};
+ghost use Rattle.word_mask.specs.Mask.{has};
+ghost use Rattle.issue_queue.specs.Board.{InStep, IsMask, blank, slot, waits_for};
+ghost use Rattle.issue_queue.specs.Candidates.{is_at};
+ghost use Rattle.issue_queue.specs.Entry.{is_named, is_ready};
+ghost use Rattle.issue_queue.specs.IssueQueue.{awake, is_from, released};
+ghost use Rattle.issue_queue.specs.Views.{as_entry, entry_of, name_of};
+
+use crate::Waiting;
+use crate::entry::Queued;
+use crate::selecting::Candidate;
+use arrayvec::ArrayVec;
+use core_view::EntryId;
+use join_law::Ctx;
+use rename_file::PhysicalRegister;
+
+/// Sixty-four places for entries, and of each word the bit of a place.
+#[derive(Drop)]
+pub(crate) struct Places {
+    /// What stands at each place; at one that is free, what stood there last.
+    pub(crate) slots: [Queued; 64],
+    /// The places that are taken.
+    pub(crate) valid: u64,
+    /// Those that wait for nothing and are not held.
+    pub(crate) ready: u64,
+    /// Those of conditional branches and JALRs.
+    pub(crate) guesses: u64,
+    /// Those of each context.
+    pub(crate) contexts: [u64; 8],
+    /// Those that wait for each physical register.
+    pub(crate) waiters: [u64; 480],
+}
+
+// What a wake leaves: the word of ready places, and how many places it looked at.
+#[derive(Drop)]
+struct Woken {
+    ready: u64,
+    looked: usize,
+}
+
+// The bit of a place in the word of an index.
+fn mark(words: &mut [u64], index: usize, place: usize, flag: bool)
+    requires index { index < length words.old }
+    requires place { place < 64 }
+    ensures words { (i p : ℕ) → has (slice_index words.new i) p ≡ (if (p == place) && (i == index) then flag else has (slice_index words.old i) p) }
+    ensures length { length words.new ≡ length words.old }
+{
+    words[index] = word_mask::assigned(words[index], place, flag);
+}
+
+// The bit of a place in the word of a source, if there is one.
+fn mark_source(words: &mut [u64], source: Option<PhysicalRegister>, place: usize, flag: bool)
+    requires length { length words.old ≡ 480 }
+    requires place { place < 64 }
+    ensures words { (i p : ℕ) → has (slice_index words.new i) p ≡ (if (p == place) && list_any (λ r. r == i) (option_to_list source) then flag else has (slice_index words.old i) p) }
+    ensures length { length words.new ≡ length words.old }
+{
+    let Some(register) = source else {
+        return;
+    };
+    mark(words, register.index(), place, flag);
+}
+
+// The bit of a place in the word of each source of an entry.
+fn mark_sources(words: &mut [u64; 480], entry: &Queued, place: usize, flag: bool)
+    requires { place < 64 }
+    ensures { (i p : ℕ) → has (slice_index words.new i) p ≡ (if (p == place) && waits_for i (as_entry entry.now) then flag else has (slice_index words.old i) p) }
+{
+    let [first, second] = entry.sources();
+    mark_source(words, first, place, flag);
+    mark_source(words, second, place, flag);
+}
+
+// Wakes the entries of a word's places.
+fn wake_places(slots: &mut [Queued; 64], ready: u64, word: u64, register: PhysicalRegister) -> Woken
+    ensures slots { (p : ℕ) → slot slots.new p ≡ (if has word p then awake register (slot slots.old p) else slot slots.old p) }
+    ensures ready { (p : ℕ) → has result.ready p ≡ (if has word p then is_ready (slot slots.new p) else has ready p) }
+    ensures looked { result.looked ≡ count_ones word }
+{
+    let mut woken = ready;
+    let mut left = word;
+    let mut looked = 0usize;
+    while left != 0 {
+        let place = word_mask::lowest(left);
+        left = word_mask::cleared(left, place);
+        let mut entry = slots[place];
+        entry.wake(register);
+        woken = word_mask::assigned(woken, place, entry.is_ready());
+        slots[place] = entry;
+        looked += 1;
+    }
+    Woken {
+        ready: woken,
+        looked,
+    }
+}
+
+impl Places {
+    /// Sixty-four free places.
+    pub(crate) fn new() -> Places
+        ensures step { InStep result }
+        ensures free { result.valid ≡ 0 }
+    {
+        Places {
+            slots: [Queued::default(); 64],
+            valid: 0,
+            ready: 0,
+            guesses: 0,
+            contexts: [0; 8],
+            waiters: [0; 480],
+        }
+    }
+
+    /// Puts an entry into a free place, which it gives.
+    pub(crate) fn put(&mut self, waiting: Waiting) -> usize
+        requires step { InStep self.old }
+        requires room { count_ones self.old.valid < 64 }
+        ensures step { InStep self.new }
+        ensures free { has self.old.valid result ≡ false }
+        ensures bound { result < 64 }
+        ensures valid { (p : ℕ) → has self.new.valid p ≡ (has self.old.valid p || (p == result)) }
+        ensures slots { (p : ℕ) → slot self.new.slots p ≡ (if p == result then entry_of waiting else slot self.old.slots p) }
+    {
+        let place = word_mask::lowest_clear(self.valid);
+        let entry = Queued::new(waiting);
+        self.valid = word_mask::assigned(self.valid, place, true);
+        self.ready = word_mask::assigned(self.ready, place, entry.is_ready());
+        self.guesses = word_mask::assigned(self.guesses, place, entry.is_guessed());
+        mark(&mut self.contexts, entry.context().index(), place, true);
+        mark_sources(&mut self.waiters, &entry, place, true);
+        self.slots[place] = entry;
+        place
+    }
+
+    /// Frees a place. It leaves every word.
+    pub(crate) fn free(&mut self, place: usize)
+        requires step { InStep self.old }
+        requires bound { place < 64 }
+        requires set { has self.old.valid place ≡ true }
+        ensures step { InStep self.new }
+        ensures valid { (p : ℕ) → has self.new.valid p ≡ (has self.old.valid p && not (p == place)) }
+        ensures slots { self.new.slots ≡ self.old.slots }
+    {
+        let entry = self.slots[place];
+        self.valid = word_mask::cleared(self.valid, place);
+        self.ready = word_mask::assigned(self.ready, place, false);
+        self.guesses = word_mask::assigned(self.guesses, place, false);
+        mark(&mut self.contexts, entry.context().index(), place, false);
+        mark_sources(&mut self.waiters, &entry, place, false);
+    }
+
+    /// No entry waits for a register any more. Gives how many places it looked at.
+    pub(crate) fn wake(&mut self, register: PhysicalRegister) -> usize
+        requires step { InStep self.old }
+        ensures step { InStep self.new }
+        ensures valid { self.new.valid ≡ self.old.valid }
+        ensures slots { (p : ℕ) → has self.old.valid p ≡ true → slot self.new.slots p ≡ awake register (slot self.old.slots p) }
+        ensures looked { result ≡ count_ones (slice_index self.old.waiters register) }
+    {
+        let index = register.index();
+        let word = self.waiters[index];
+        let woken = wake_places(&mut self.slots, self.ready, word, register);
+        self.ready = woken.ready;
+        self.waiters[index] = 0;
+        woken.looked
+    }
+
+    /// Holds the entry of a place, or lets it go.
+    pub(crate) fn set_held(&mut self, place: usize, held: bool)
+        requires step { InStep self.old }
+        requires bound { place < 64 }
+        requires set { has self.old.valid place ≡ true }
+        ensures step { InStep self.new }
+        ensures valid { self.new.valid ≡ self.old.valid }
+        ensures slots { (p : ℕ) → slot self.new.slots p ≡ (if p == place then record (slot self.old.slots p) { held = held } else slot self.old.slots p) }
+    {
+        let mut entry = self.slots[place];
+        entry.set_held(held);
+        self.ready = word_mask::assigned(self.ready, place, entry.is_ready());
+        self.slots[place] = entry;
+    }
+
+    /// Lets all entries go.
+    pub(crate) fn release(&mut self)
+        requires step { InStep self.old }
+        ensures step { InStep self.new }
+        ensures valid { self.new.valid ≡ self.old.valid }
+        ensures slots { (p : ℕ) → has self.old.valid p ≡ true → slot self.new.slots p ≡ released (slot self.old.slots p) }
+    {
+        let mut left = self.valid;
+        while left != 0 {
+            let place = word_mask::lowest(left);
+            left = word_mask::cleared(left, place);
+            self.set_held(place, false);
+        }
+    }
+
+    /// Marks the entry of a place as speculative or not.
+    pub(crate) fn set_speculative(&mut self, place: usize, speculative: bool)
+        requires step { InStep self.old }
+        requires bound { place < 64 }
+        ensures step { InStep self.new }
+        ensures valid { self.new.valid ≡ self.old.valid }
+        ensures slots { (p : ℕ) → slot self.new.slots p ≡ (if p == place then record (slot self.old.slots p) { speculative = speculative } else slot self.old.slots p) }
+    {
+        let mut entry = self.slots[place];
+        entry.set_speculative(speculative);
+        self.slots[place] = entry;
+    }
+
+    /// The place of the entry of a context and stamp.
+    pub(crate) fn find(&self, context: Ctx, stamp: u64) -> Option<usize>
+        requires { InStep self.now }
+        ensures found { IfSome result (λ p. (p < 64) × (has self.now.valid p ≡ true) × (is_named context stamp (slot self.now.slots p) ≡ true)) }
+        ensures missing { IfNone result ((p : ℕ) → has self.now.valid p ≡ true → is_named context stamp (slot self.now.slots p) ≡ false) }
+    {
+        let mut left = self.contexts[context.index()];
+        while left != 0 {
+            let place = word_mask::lowest(left);
+            if self.slots[place].is_named(context, stamp) {
+                return Some(place);
+            }
+            left = word_mask::cleared(left, place);
+        }
+        None
+    }
+
+    /// Frees the places of the entries of a context that have at least this stamp.
+    pub(crate) fn free_from(&mut self, context: Ctx, stamp: u64)
+        requires { InStep self.old }
+        ensures step { InStep self.new }
+        ensures valid { (p : ℕ) → has self.new.valid p ≡ (has self.old.valid p && not (is_from context stamp (slot self.old.slots p))) }
+        ensures slots { self.new.slots ≡ self.old.slots }
+    {
+        let mut left = self.contexts[context.index()];
+        while left != 0 {
+            let place = word_mask::lowest(left);
+            left = word_mask::cleared(left, place);
+            if self.slots[place].is_from(context, stamp) {
+                self.free(place);
+            }
+        }
+    }
+
+    /// How many entries of a context there are.
+    pub(crate) fn count(&self, context: Ctx) -> usize
+        requires { InStep self.now }
+        ensures { (word : ℕ) × (word < 2 ^ 64) × (result ≡ count_ones word) × IsMask (λ e. e.context == context) self.now.valid self.now.slots word }
+    {
+        self.contexts[context.index()].count_ones() as usize
+    }
+
+    /// How many guessed entries of a context there are.
+    pub(crate) fn guessed_count(&self, context: Ctx) -> usize
+        requires { InStep self.now }
+        ensures { (word : ℕ) × (word < 2 ^ 64) × (result ≡ count_ones word) × IsMask (λ e. (e.context == context) && e.guessed) self.now.valid self.now.slots word }
+    {
+        (self.contexts[context.index()] & self.guesses).count_ones() as usize
+    }
+
+    /// What stands at these places.
+    pub(crate) fn listed(&self, order: &ArrayVec<u8, 64>) -> ArrayVec<Queued, 64>
+        requires { All (λ p. p < 64) order.now.items }
+        ensures { result.items ≡ map (λ p. slice_index_or self.now.slots p blank) order.now.items }
+    {
+        let mut entries = ArrayVec::new();
+        for place in order.as_slice() {
+            entries.push(self.slots[*place as usize]);
+        }
+        entries
+    }
+
+    /// Frees the places of candidates, and gives the names of what stood there.
+    pub(crate) fn take(&mut self, best: &[Candidate]) -> ArrayVec<EntryId, 8>
+        requires step { InStep self.old }
+        requires short { length best.now ≤ 8 }
+        requires taken { All (λ c. (c.place < 64) × (has self.old.valid c.place ≡ true)) best.now }
+        requires once { AllPairs (λ c d. (c.place == d.place) ≡ false) best.now }
+        ensures step { InStep self.new }
+        ensures valid { (p : ℕ) → has self.new.valid p ≡ (has self.old.valid p && not (is_at best.now p)) }
+        ensures slots { self.new.slots ≡ self.old.slots }
+        ensures names { result.items ≡ map (λ c. name_of (slot self.old.slots c.place)) best.now }
+    {
+        let mut selected = ArrayVec::new();
+        for candidate in best {
+            selected.push(self.slots[candidate.place].name());
+            self.free(candidate.place);
+        }
+        selected
+    }
+}
