@@ -69,10 +69,6 @@ clear_read seen (e ∷ es) s h = go (newest_sharing es s) (clear_read (seen_afte
     go None ih h = ih refl ∙ read_over seen.bytes (bytes_done e.stage) s h
     go (Some b) ih h = ih h
 
--- so what the queue forwards is the value that is seen
-pub clear_value : (memory : Seen) (es : List Entry) (s : Span) → is_clear es s ≡ true → seen_value memory.bytes es s ≡ forwarded memory.bytes (newest_sharing es s) s
-clear_value memory es s h = sym (seen_past-value memory es s) ∙ clear_read memory es s h
-
 -- ---- the outcome of a load
 
 -- a load that goes on computes with the number that is seen; one that stops asks for none

@@ -1,5 +1,5 @@
 -- The queues say by stamps what the flight says by places.
-use Rattle.std.proofs.Common.{◌≡◌, ℕ, zero, suc, ◌+◌, ◌<◌, ◌≤◌, Bool, true, false, ◌&&◌, cond, List, [], ◌∷◌, length, get_or, take, drop, Option, Some, None, refl, sym, ap, ◌∙◌, arith, add-one}
+use Rattle.std.proofs.Common.{◌≡◌, ℕ, zero, suc, ◌+◌, ◌<◌, ◌≤◌, Bool, true, false, ◌&&◌, cond, List, [], ◌∷◌, length, get_or, take, drop, Option, Some, None, refl, sym, ap, ◌∙◌, arith}
 use Rattle.std.specs.Prelude.{nat_lt, if◌then◌else◌, option_map, find}
 use Rattle.std.specs.List.{cons_option}
 use Rattle.std.specs.Option.{option_or}
@@ -14,7 +14,7 @@ use Rattle.core_view.specs.declared.entry.Stage.TheVariants.{Fetched, Queued, Is
 use Rattle.core_view.specs.declared.entry.Entry.{Entry}
 use Rattle.core_view.specs.Operations.{is_load, is_store}
 use Rattle.core_view.specs.Outcomes.{Image}
-use Rattle.core_view.specs.Flight.{Seen, seen_after, pc_past, span_read, bytes_done, touches, before_touch, clean_length, HasOutcome, IsSound, IsGrowing}
+use Rattle.core_view.specs.Flight.{Seen, seen_after, span_read, bytes_done, touches, before_touch, HasOutcome, IsSound, IsGrowing}
 use Rattle.core_view.specs.Spans.{contains, shares, number_in}
 use Rattle.core_view.specs.Loads.{newest, byte_from, is_clear_of, is_clear, seen_value}
 use Rattle.core_view.specs.Queues.{is_renamed, StoreSlot, LoadSlot, stores_of, loads_of, newest_in, is_clear_in, value_seen_in, conflict_in, conflict_of, older, younger, cut_from}
@@ -165,13 +165,3 @@ cut_conflict low b (e ∷ es) g = ap (λ c. cut_from c (e ∷ es)) (conflict_ste
     go : (t : Bool) → cut_from (conflict_of es b) es ≡ before_touch b es → cut_from (if t then Some e.stamp else conflict_of es b) (e ∷ es) ≡ (if t then [] else e ∷ before_touch b es)
     go true ih = rw (le-ltb e.stamp e.stamp (omega arith)) (older_none e.stamp (e.stamp + 1) es (omega arith) g.1)
     go false ih = by_stamp (conflict_of es b) refl ih
-
--- fetch goes on at the load that was cut
-pub resumes : (image : Image) (seen : Seen) (pc : ℕ) (b : Option Bytes) (es : List Entry) (d : Entry) → clean_length b es < length es → IsSound image seen pc es → pc_past pc (before_touch b es) ≡ (get_or es (clean_length b es) d).pc
-resumes image seen pc b [] d lt h = absurd (omega arith)
-resumes image seen pc b (e ∷ es) d lt h = go (touches b (span_read e.stage)) lt (λ below. resumes image (seen_after seen e) e.followed b es d below h.2)
-  where
-    go : (t : Bool) → (if t then 0 else clean_length b es + 1) < length (e ∷ es) → (clean_length b es < length es → pc_past e.followed (before_touch b es) ≡ (get_or es (clean_length b es) d).pc)
-        → pc_past pc (if t then [] else e ∷ before_touch b es) ≡ (get_or (e ∷ es) (if t then 0 else clean_length b es + 1) d).pc
-    go true lt ih = sym h.0.place
-    go false lt ih = rw add-one (ih (omega arith))
