@@ -19,16 +19,13 @@ use Rattle.core_view.specs.View.{View, Context, entry_at, no_entry}
 use Rattle.data_flow.specs.Flow.{Flow, Waiter, lane, sources_at, both, is_supplied, is_waiter, waits_of, queued_waiter, queued}
 use Rattle.lawful_cycle.specs.Views.{context_in, is_id}
 use Rattle.lawful_cycle.specs.Issue.{is_queued, is_open_guess, first_value, second_value, is_ready_on, is_ready, Place, entry_in, id_in, queue_view, IsReadyIn, IsNotAfter}
-use Rattle.core_back.specs.Queued.{unheld, waiting_of, waiter_for}
-use Rattle.core_back.specs.Issuable.{may_issue_at, must_wait, AreHeld}
-use Rattle.core_back.specs.Track.{Track}
-use Rattle.core_back.specs.Cores.{is_waiting, waiters_of, IsCore}
+use Rattle.core_context.specs.Queued.{unheld, waiting_of, waiter_for}
+use Rattle.core_context.specs.Issuable.{may_issue_at, must_wait, AreHeld}
+use Rattle.core_context.specs.Track.{Track}
+use Rattle.core_context.specs.Cores.{is_waiting, waiters_of, IsCore}
 use Rattle.core_back.specs.Selected.{IsChoice, IsChosen}
-use Rattle.core_back.proofs.Issues.{queued_renamed}
-use Rattle.core_back.proofs.Queue.{behind_at}
-use Rattle.core_back.proofs.Seen.{sources_are}
+use Rattle.core_context.proofs.Laws.{queued_renamed, behind_at, sources_are, eqb-flip, same_place, queued_stage}
 use Rattle.core_back.proofs.Selections.{no_waiter, no_waiting, supplied_is}
-use Rattle.core_back.proofs.Waiting.{eqb-flip, same_place, queued_stage}
 
 -- ---- what waits, and its place
 

@@ -14,7 +14,7 @@ use Rattle.core_view.specs.View.{Context}
 use Rattle.core_back.specs.declared.machine.Machine.TheInside.{Inside}
 use Rattle.core_back.specs.Machine.{Machine, context_at, in_flight, no_context, with_context}
 use Rattle.core_back.specs.Shown.{machine_of}
-use Rattle.core_back.specs.Track.{Track}
+use Rattle.core_context.specs.Track.{Track}
 use Rattle.data_tags.specs.declared.delay.Kind.{Kind}
 use Rattle.data_tags.specs.declared.delay.Lag.{Lag}
 use Rattle.core_back.specs.Issued.{IsIssued}

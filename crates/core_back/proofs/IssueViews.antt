@@ -25,7 +25,7 @@ use Rattle.lawful_cycle.specs.Issue.{Place, operation_at_place, outcome_at, addr
 use Rattle.core_back.specs.Issued.{IsIssued}
 use Rattle.core_back.specs.Selected.{IsChosen}
 use Rattle.core_back.specs.Machine.{Machine, context_at, no_context}
-use Rattle.core_back.proofs.Waiting.{same_place}
+use Rattle.core_context.proofs.Laws.{same_place}
 
 -- ---- a flight of which some entries issued
 

@@ -1,5 +1,5 @@
 -- The laws of the machine, for callers to cite.
 -- two places of a flight with one stamp are one
-pub use Rattle.core_back.proofs.Waiting.{same_place}
+pub use Rattle.core_context.proofs.Laws.{same_place}
 -- the contexts in order
-pub use Rattle.core_back.proofs.Turns.{nth_context}
+pub use Rattle.core_back.proofs.ContextByContext.{nth_context}

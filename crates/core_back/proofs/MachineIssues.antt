@@ -15,23 +15,20 @@ use Rattle.core_view.specs.declared.entry.Execution.{Execution}
 use Rattle.core_view.specs.declared.entry.Stage.TheVariants.{Queued}
 use Rattle.core_back.specs.declared.machine.Machine.TheInside.{Inside}
 use Rattle.data_flow.specs.Flow.{Flow, lane, queued, waits_in, sources_at, released}
-use Rattle.core_back.specs.Track.{Track, issued}
-use Rattle.core_back.specs.Issuable.{may_issue_at, IsMarked, AreLetGo, AreHeld, IsClear}
+use Rattle.core_context.specs.Track.{Track, issued}
+use Rattle.core_context.specs.Issuable.{may_issue_at, IsMarked, AreLetGo, AreHeld, IsClear}
 use Rattle.data_tags.specs.declared.delay.Kind.{Kind}
 use Rattle.data_tags.specs.declared.delay.Lag.{Lag}
 use Rattle.lawful_cycle.specs.Delays.{kind_of, address_in, IsLagOf}
 use Rattle.lawful_cycle.specs.Issue.{first_value, second_value, outcome_at, address_at}
 use Rattle.core_back.specs.Issued.{IsPerformed, IsIssued}
-use Rattle.core_back.specs.Steps.{IsRemarked}
-use Rattle.core_back.specs.Cores.{is_selected, IsCore}
+use Rattle.core_context.specs.Steps.{IsRemarked}
+use Rattle.core_context.specs.Cores.{is_selected, IsCore}
 use Rattle.core_back.specs.Machine.{Machine, context_at, with_context, no_track}
 use Rattle.core_back.specs.Shown.{machine_of, IsMachine, AreApart, IsSuppliedIn}
-use Rattle.core_back.proofs.Held.{remarked_twice, remarked_lane, held_kept, issued_clear, released_remarked, released_all, let_go_marked}
-use Rattle.core_back.proofs.Issues.{core_sources, issue_core, issue_other}
+use Rattle.core_context.proofs.Laws.{remarked_twice, remarked_lane, held_kept, issued_clear, released_remarked, released_all, let_go_marked, core_sources, issue_core, issue_other, eight-remarked, node_count}
 use Rattle.core_back.proofs.Machines.{At, at_context, idle_names, room_after}
-use Rattle.core_back.proofs.Queue.{eight-remarked}
 use Rattle.core_back.proofs.Selections.{first_apart, rest_apart, ready_place, name_selected, remarked_core, select_core, select_waiters, select_apart, select_supplied, select_free, select_clear, select_idle}
-use Rattle.core_back.proofs.Seen.{node_count}
 use Rattle.core_back.proofs.Chosen.{is_chosen}
 use Rattle.core_back.proofs.Renamable.{track_flight}
 use Rattle.core_back.specs.Selected.{IsChosen}

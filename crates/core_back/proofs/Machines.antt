@@ -10,11 +10,11 @@ use Rattle.core_profile.specs.declared.profile.Profile.{Profile}
 use Rattle.core_view.specs.View.{Context, IsLive}
 use Rattle.core_back.specs.declared.machine.Machine.TheInside.{Inside}
 use Rattle.data_flow.specs.Flow.{Flow}
-use Rattle.core_back.specs.Track.{Track}
-use Rattle.core_back.specs.Cores.{IsCore}
+use Rattle.core_context.specs.Track.{Track}
+use Rattle.core_context.specs.Cores.{IsCore}
 use Rattle.core_back.specs.Machine.{Machine, context_at, with_context, with_fetched, no_track, no_context}
 use Rattle.core_back.specs.Shown.{machine_of, IsMachine, HasRoom}
-use Rattle.core_back.proofs.Others.{IsLeft, left_core, KeepsSizes}
+use Rattle.core_context.proofs.Laws.{IsLeft, left_core, KeepsSizes}
 
 -- the room that there is stays
 pub room_after : (p : Profile) (f g : Flow) (ts : List Track) (c : ℕ) (u : Track) → HasRoom p f ts → c < length ts → g.extra ≡ f.extra → g.places ≡ f.places

@@ -15,15 +15,15 @@ use Rattle.lawful_cycle.specs.Issue.{is_queued}
 use Rattle.lawful_cycle.specs.Rename.{renamed_by, of_all, has_register, HasRoom, oldest_fetched, CanRename}
 use Rattle.core_profile.specs.declared.profile.Profile.{Profile}
 use Rattle.core_back.specs.declared.machine.Machine.TheInside.{Inside}
-use Rattle.core_back.specs.Cores.{node_of_entry, AllFetched}
-use Rattle.core_back.specs.Track.{Track}
-use Rattle.core_back.specs.Renamable.{IsRenamable, CanRenameStamp}
+use Rattle.core_context.specs.Cores.{node_of_entry, AllFetched}
+use Rattle.core_context.specs.Track.{Track}
+use Rattle.core_back.specs.Renamable.{CanRenameStamp}
+use Rattle.core_context.specs.Renamable.{IsRenamable}
 use Rattle.core_back.specs.Machine.{Machine, context_at, no_track, no_context}
 use Rattle.core_back.specs.Shown.{machine_of, IsMachine}
-use Rattle.core_back.specs.Queued.{waiting_of}
-use Rattle.core_back.specs.Cores.{waiters_of}
-use Rattle.core_back.proofs.Ahead.{count_cons, count_split, fetched_none}
-use Rattle.core_back.proofs.Counts.{sum_eight_same, count_waiters}
+use Rattle.core_context.specs.Queued.{waiting_of}
+use Rattle.core_context.specs.Cores.{waiters_of}
+use Rattle.core_context.proofs.Laws.{count_cons, count_split, fetched_none, sum_eight_same, count_waiters}
 use Rattle.core_back.proofs.Machines.{At, idle_names}
 
 -- ---- the oldest fetched entry

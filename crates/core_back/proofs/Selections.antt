@@ -18,19 +18,13 @@ use Rattle.core_view.specs.View.{entry_at, no_entry}
 use Rattle.data_flow.specs.Wired.{waiter_of}
 use Rattle.data_flow.specs.Flow.{Waiter, Lane, Flow, lane, seen_past_node, seen_past_nodes, sources_of, sources_at, is_supplied, is_waiter, waits_in, waits_of, queued_waiter, queued}
 use Rattle.lawful_cycle.specs.Issue.{is_queued}
-use Rattle.core_back.specs.Queued.{unheld, waiting_of, waiter_for}
-use Rattle.core_back.specs.Issuable.{may_issue_at, IsMarked, must_wait, AreHeld, IsClear}
+use Rattle.core_context.specs.Queued.{unheld, waiting_of, waiter_for}
+use Rattle.core_context.specs.Issuable.{may_issue_at, IsMarked, must_wait, AreHeld, IsClear}
 use Rattle.core_back.specs.Shown.{AreApart, IsSuppliedIn}
-use Rattle.core_back.specs.Steps.{IsRemarked}
-use Rattle.core_back.specs.Track.{Track}
-use Rattle.core_back.specs.Cores.{operands_of, node_of_entry, is_selected, is_waiting, waiters_of, IsCore}
-use Rattle.core_back.proofs.Flights.{growing_take}
-use Rattle.core_back.proofs.Held.{remarked_lane}
-use Rattle.core_back.proofs.Issues.{selected_at}
-use Rattle.core_back.proofs.Others.{other_core}
-use Rattle.core_back.proofs.Seen.{node_count, operands_at}
-use Rattle.core_back.proofs.Waiting.{eqb-flip, growing_at}
-use Rattle.core_back.proofs.Queue.{core_waiting, waiting-remarked}
+use Rattle.core_context.specs.Steps.{IsRemarked}
+use Rattle.core_context.specs.Track.{Track}
+use Rattle.core_context.specs.Cores.{operands_of, node_of_entry, is_selected, is_waiting, waiters_of, IsCore}
+use Rattle.core_context.proofs.Laws.{growing_take, remarked_lane, selected_at, other_core, node_count, operands_at, eqb-flip, growing_at, core_waiting, waiting-remarked}
 
 -- ---- names
 

@@ -2,11 +2,10 @@
 use Rattle.std.specs.Prelude.{◌≡◌, ℕ, ◌<◌, Bool, true, length}
 use Rattle.rv64_decode.specs.declared.insn.Insn.{Insn}
 use Rattle.core_view.specs.declared.entry.Stage.TheVariants.{Fetched}
-use Rattle.core_view.specs.declared.entry.Entry.{Entry}
 use Rattle.core_view.specs.declared.status.Status.TheVariants.{Running}
 use Rattle.core_view.specs.Operations.{operation_at}
 use Rattle.core_view.specs.Flight.{pc_past, is_open}
-use Rattle.core_view.specs.View.{Context, entry_at}
+use Rattle.core_view.specs.View.{entry_at}
 use Rattle.core_view.specs.Events.{rename_event, fetch_event, fetched_entry}
 use Rattle.lawful_cycle.specs.Rename.{CanRename}
 use Rattle.lawful_cycle.specs.Fetch.{IsFollowedBy, ends_block, is_eligible}
@@ -21,11 +20,6 @@ pub record IsRenamed (old new : Machine) (c stamp : ℕ) : Type 0 where
   pub fetched : (entry_at (context_at old c) place).stage ≡ Fetched
   pub can : CanRename old.view c (entry_at (context_at old c) place)
   pub after : new ≡ with_context old c (rename_event old.view.cycle (context_at old c) place)
-
--- what stands where a flight ends, as it is fetched
-pub record IsNextEntry (may_answer : ℕ → Insn → ℕ → Bool) (stamp cycle : ℕ) (c : Context) (e : Entry) : Type 0 where
-  pub entry : e ≡ fetched_entry stamp cycle (pc_past c.state.pc c.flight) (operation_at c.state.memory (pc_past c.state.pc c.flight)) e.followed
-  pub follows : IsFollowedBy (may_answer (pc_past c.state.pc c.flight)) (operation_at c.state.memory (pc_past c.state.pc c.flight)) (pc_past c.state.pc c.flight) e.followed
 
 -- one more entry of a context was fetched
 pub record IsFetched (may_answer : ℕ → ℕ → Insn → ℕ → Bool) (old new : Machine) (c : ℕ) (f : Fetch) : Type 0 where

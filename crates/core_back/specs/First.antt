@@ -9,8 +9,8 @@ use Rattle.checkpoint.specs.MarkValue.{MarkValue, state_of}
 use Rattle.core_view.specs.View.{Context, first_context}
 use Rattle.data_flow.specs.Flow.{Lane, Flow, lane, with_lane, first_lane}
 use Rattle.core_profile.specs.declared.profile.Profile.{Profile}
-use Rattle.core_back.specs.Track.{Track, first_track}
-use Rattle.core_back.specs.Cores.{front_room}
+use Rattle.core_context.specs.Track.{Track, first_track}
+use Rattle.core_context.specs.Cores.{front_room}
 use Rattle.core_back.specs.Machine.{Machine, context_at, no_track}
 
 -- a context in the state of its mark, after the mark's count, with nothing in flight

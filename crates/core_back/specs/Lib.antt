@@ -1,14 +1,7 @@
-pub mod Track
-pub mod TrackCode
-pub mod Effects
-pub mod Queued
-pub mod Cores
-pub mod Steps
 pub mod Machine
 pub mod Shown
 pub mod Issued
 pub mod Selected
-pub mod Issuable
 pub mod Fetched
 pub mod Renamable
 pub mod First

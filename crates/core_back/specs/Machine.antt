@@ -1,18 +1,15 @@
 -- What the parts of a core show together.
-use Rattle.std.specs.Prelude.{◌≡◌, ℕ, ◌+◌, ◌-◌, ◌<◌, List, [], ◌∷◌, length, sum_by, get_or, slice_get, option_and_then, slice_set, Option, Some, None}
+use Rattle.std.specs.Prelude.{◌≡◌, ℕ, ◌+◌, ◌-◌, ◌<◌, List, [], length, sum_by, get_or, slice_get, option_and_then, slice_set, Option}
 use Rattle.hart_step.specs.declared.environment.Environment.TheVariants.{One}
 use Rattle.hart_step.specs.State.{State}
 use Rattle.paged_memory.specs.Start.{start_cells}
 use Rattle.origin_set.specs.OriginValue.{OriginValue}
 use Rattle.core_view.specs.declared.note.EntryId.{EntryId}
-use Rattle.core_view.specs.declared.outcome.Outcome.{Outcome}
-use Rattle.core_view.specs.declared.entry.Stage.{Stage}
-use Rattle.core_view.specs.declared.entry.Stage.TheVariants.{Fetched, Queued, Issued, Done}
 use Rattle.core_view.specs.declared.entry.Execution.{Execution}
 use Rattle.core_view.specs.declared.entry.Entry.{Entry}
 use Rattle.core_view.specs.Events.{due_at, with_flight, completed_at}
 use Rattle.core_view.specs.View.{Context, View, first_context}
-use Rattle.core_back.specs.Track.{Track, first_track}
+use Rattle.core_context.specs.Track.{Track, first_track}
 
 -- the origin of the contexts, the view, what was selected and has not issued yet, and how many more entries may be fetched in this cycle
 pub record Machine : Type 0 where
@@ -64,18 +61,6 @@ pub record IsAlike (old new : Machine) : Type 0 where
   pub cycle : new.view.cycle ≡ old.view.cycle
   pub room : new.fetch_room ≡ old.fetch_room
   pub targets : (c : ℕ) → c < 8 → (context_at new c).target ≡ (context_at old c).target
-
--- the outcome of an entry that is done
-abbrev pub done_outcome : Stage → Option Outcome
-done_outcome Fetched = None
-done_outcome Queued = None
-done_outcome (Issued x) = None
-done_outcome (Done x) = Some x.outcome
-
--- the outcome of the oldest entry, where it is done
-abbrev pub first_done : List Entry → Option Outcome
-first_done [] = None
-first_done (e ∷ es) = done_outcome e.stage
 
 -- the execution of the entry at a place, where it is due in a cycle
 abbrev pub due_in : ℕ → List Entry → ℕ → Option Execution

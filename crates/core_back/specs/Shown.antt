@@ -8,9 +8,9 @@ use Rattle.core_back.specs.declared.machine.Machine.TheInside.{Inside}
 use Rattle.core_view.specs.Flight.{known}
 use Rattle.data_flow.specs.Flow.{Flow, lane, is_supplied, waits_in}
 use Rattle.core_profile.specs.declared.profile.Profile.{Profile}
-use Rattle.core_back.specs.Track.{Track}
-use Rattle.core_back.specs.Cores.{IsCore}
-use Rattle.core_back.specs.Issuable.{AreLetGo, IsClear}
+use Rattle.core_context.specs.Track.{Track}
+use Rattle.core_context.specs.Cores.{IsCore}
+use Rattle.core_context.specs.Issuable.{AreLetGo, IsClear}
 use Rattle.core_back.specs.Machine.{Machine, no_track}
 
 abbrev pub machine_of : {A : Type 0} → Inside A → Machine

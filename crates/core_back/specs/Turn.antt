@@ -9,7 +9,8 @@ use Rattle.core_view.specs.declared.outcome.Outcome.TheVariants.{Goes, Stops}
 use Rattle.core_view.specs.Events.{stop_event}
 use Rattle.core_view.specs.View.{Context}
 use Rattle.lawful_cycle.specs.Retire.{is_done_on, past, KeepsDone}
-use Rattle.core_back.specs.Machine.{Machine, first_done, context_at, with_context}
+use Rattle.core_back.specs.Machine.{Machine, context_at, with_context}
+use Rattle.core_context.specs.Heads.{first_done}
 
 -- the n oldest entries of x have retired: a front, all done without a stop, none past the target
 pub record IsFrontGone (n : ℕ) (x y : Context) : Type 0 where

@@ -8,8 +8,8 @@ ghost use Rattle.data_flow.specs.Flow.{lane, with_lane};
 ghost use Rattle.core_back.specs.Machine.{no_track};
 ghost use Rattle.core_back.specs.First.{IsTarget, IsFirstTrack, AreFirstTracks, AreFirstLanes, IsReached};
 
-use crate::track::Track;
 use checkpoint::Mark;
+use core_context::Track;
 use core_profile::Profile;
 use data_flow::DataFlow;
 use join_law::{Ctx, Eight};

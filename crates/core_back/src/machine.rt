@@ -1,6 +1,6 @@
 //! Eight contexts, and the data flow that they share.
 
-ghost use Rattle.std.specs.Prelude.{◌≡◌, ◌≢◌, ◌↔◌, ℕ, ◌+◌, ◌-◌, ◌<◌, ◌≤◌, ◌%◌, ◌^◌, ◌==◌, ◌&&◌, true, false, not, length, count_by, slice_get, slice_index, [], ◌∷◌, IfOk, IfSome, IsSome, IsTrue, Some, None, Err};
+ghost use Rattle.std.specs.Prelude.{◌≡◌, ℕ, ◌+◌, ◌-◌, ◌<◌, ◌≤◌, ◌^◌, ◌&&◌, false, not, length, count_by, slice_get, slice_index, [], IfOk, IfSome, Some, None};
 ghost use Rattle.core_view.specs.declared.outcome.Outcome.TheVariants.{Goes, Stops};
 ghost use Rattle.core_view.specs.declared.entry.Stage.TheVariants.{Issued};
 ghost use Rattle.core_view.specs.Events.{retire_event, stop_event, complete_event};
@@ -10,7 +10,8 @@ ghost use Rattle.lawful_cycle.specs.Issue.{is_queued};
 ghost use Rattle.lawful_cycle.specs.Rename.{CanRename};
 ghost use Rattle.lawful_cycle.specs.Fetch.{is_fetched, is_missing, is_eligible, oldest_place};
 ghost use Rattle.origin_set.specs.Start.{start};
-ghost use Rattle.core_back.specs.Machine.{IsAlike, context_at, in_flight, with_context, with_cycle, first_done, due_in};
+ghost use Rattle.core_back.specs.Machine.{IsAlike, context_at, in_flight, with_context, with_cycle, due_in};
+ghost use Rattle.core_context.specs.Heads.{first_done};
 ghost use Rattle.core_back.specs.Selected.{IsChosen};
 ghost use Rattle.core_back.specs.Issued.{IsIssued};
 ghost use Rattle.core_back.specs.Fetched.{IsRenamed, IsFetched};
@@ -19,14 +20,12 @@ ghost use Rattle.core_back.specs.First.{IsFirst, IsTarget, AreMarksAt};
 ghost use Rattle.checkpoint.specs.Aligned.{IsAligned};
 ghost use Rattle.join_law.specs.Eight.{place_of};
 
-use crate::events;
-use crate::fetching::{Fetch, next_entry};
+use crate::fetching::Fetch;
 use crate::first::{first_flow, first_tracks, marks_of, origins_of};
-use crate::lags::lag_of;
-use crate::track::Track;
 use arrayvec::ArrayVec;
 use branch_predict::Guess;
 use checkpoint::Mark;
+use core_context::{Track, events, lag_of, next_entry};
 use core_profile::Profile;
 use core_view::{Entry, EntryId, Execution, Issue, Outcome, Status, Step};
 use data_flow::DataFlow;
@@ -36,7 +35,6 @@ use issue_queue::Order;
 use join_law::{Ctx, Eight};
 use origin_set::Origin;
 use paged_memory::Memory;
-use reorder_buffer::Ring;
 use std::alloc::{AllocError, Allocator, Global};
 use std::marker::Model;
 use std::sync::Arc;

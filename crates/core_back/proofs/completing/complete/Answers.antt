@@ -1,9 +1,9 @@
 use Rattle.std.proofs.Common.{arith, ap, sym, subst, ◌∙◌, ◌≡◌, ◌+◌, ◌<◌, get_or, length, List, ℕ, refl}
 use Rattle.core_back.specs.Machine.{Machine, context_at, with_context, with_contexts, completed_context}
 use Rattle.core_back.specs.Coming.{number_of}
-use Rattle.core_back.proofs.Counted.{sum_to, sum_first, sum_next, number_now, complete_lawful}
+use Rattle.core_back.proofs.CompletedCount.{sum_to, sum_first, sum_next, number_now, complete_lawful}
 use Rattle.core_back.proofs.InFlight.{in_flight-with_context}
-use Rattle.core_back.proofs.Turns.{mapped_all, mapped_alike, mapped_length, mapped_next, nth_context}
+use Rattle.core_back.proofs.ContextByContext.{mapped_all, mapped_alike, mapped_length, mapped_next, nth_context}
 use Rattle.core_back.proofs.completing.complete.Goals as goal
 
 pub loop-context-preserved : goal.loop-context-preserved

@@ -1,8 +1,8 @@
 use Rattle.std.proofs.Common.{◌≡◌, ◌+◌, ◌*◌, ◌<◌, ◌≤◌, length}
 use Rattle.core_back.specs.Machine.{in_flight, context_at, with_contexts, completed_context}
 use Rattle.core_back.specs.Coming.{number_of}
-use Rattle.core_back.proofs.Counted.{sum_to}
-use Rattle.core_back.proofs.Turns.{mapped}
+use Rattle.core_back.proofs.CompletedCount.{sum_to}
+use Rattle.core_back.proofs.ContextByContext.{mapped}
 use Rattle.core_back.proofs.completing.complete.Given as goal
 
 abbrev pub invariant-loop-context : goal.invariant-loop-context

@@ -4,8 +4,8 @@ use Rattle.core_view.specs.Events.{with_flight, completed_at, completed_from}
 use Rattle.core_view.proofs.Completed.{from_end}
 use Rattle.core_back.specs.Machine.{Machine, context_at, with_context}
 use Rattle.core_back.specs.Coming.{to_come}
-use Rattle.core_back.proofs.Counted.{come_end}
-use Rattle.core_back.proofs.Turns.{flight_chain}
+use Rattle.core_back.proofs.CompletedCount.{come_end}
+use Rattle.core_back.proofs.CompletedByPlace.{flight_chain}
 use Rattle.core_back.proofs.completing.complete_context.Goals as goal
 
 pub loop-place-preserved : goal.loop-place-preserved

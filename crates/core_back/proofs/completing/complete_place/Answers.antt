@@ -2,8 +2,8 @@ use Rattle.std.proofs.Common.{arith, sym, ◌∙◌, add-one}
 use Rattle.core_view.specs.View.{entry_at}
 use Rattle.core_view.proofs.Sound.{due_stage}
 use Rattle.core_back.specs.Machine.{context_at}
-use Rattle.core_back.proofs.Counted.{come_none, come_step}
-use Rattle.core_back.proofs.Turns.{due_some, due_none, due_step}
+use Rattle.core_back.proofs.CompletedCount.{come_none, come_step}
+use Rattle.core_back.proofs.CompletedByPlace.{due_some, due_none, due_step}
 use Rattle.core_back.proofs.completing.complete_place.Goals as goal
 
 pub returns-in_default-clause-goes_on : goal.returns-in_default-clause-goes_on

@@ -1,7 +1,7 @@
 use Rattle.std.proofs.Common.{rules, arith, sym, subst, ap, ◌≡◌, ◌∙◌, ℕ, length, slice_index}
 use Rattle.data_flow.specs.Flow.{Flow, Lane}
 use Rattle.core_back.specs.First.{AreFirstLanes}
-use Rattle.core_back.proofs.Starts.{first_lanes_none, first_lanes_more, next_lane}
+use Rattle.core_back.proofs.FirstMachine.{first_lanes_none, first_lanes_more, next_lane}
 use Rattle.core_back.proofs.first.first_flow.Goals as goal
 
 pub loop-number-init : goal.loop-number-init

@@ -1,5 +1,5 @@
 use Rattle.std.proofs.Common.{rules, ◌≡◌, ◌++◌, ◌∷◌, []}
-use Rattle.core_back.proofs.Starts.{first_tracks_more}
+use Rattle.core_back.proofs.FirstMachine.{first_tracks_more}
 use Rattle.core_back.proofs.first.first_tracks.Goals as goal
 
 pub loop-number-preserved : goal.loop-number-preserved

@@ -2,7 +2,7 @@ use Rattle.std.proofs.Common.{arith, get_or}
 use Rattle.std.specs.Arc.{arc_value}
 use Rattle.join_law.specs.Eight.{place_of}
 use Rattle.core_back.specs.Machine.{no_track}
-use Rattle.core_back.proofs.Ends.{left_all, left_less, reached_left, mark_left, mark_at, marks_at, AreLeft}
+use Rattle.core_back.proofs.FinalMarks.{left_all, left_less, reached_left, mark_left, mark_at, marks_at, AreLeft}
 use Rattle.core_back.proofs.first.marks_of.Goals as goal
 
 pub last_mark-c7-requires-clause-reached : goal.last_mark-c7-requires-clause-reached

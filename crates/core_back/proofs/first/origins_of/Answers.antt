@@ -1,5 +1,5 @@
 use Rattle.std.specs.Arc.{arc_value}
-use Rattle.core_back.proofs.Starts.{origins_at}
+use Rattle.core_back.proofs.FirstMachine.{origins_at}
 use Rattle.core_back.proofs.first.origins_of.Goals as goal
 
 pub returns : goal.returns

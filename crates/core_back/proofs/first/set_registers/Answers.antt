@@ -1,6 +1,6 @@
 use Rattle.std.proofs.Common.{arith, refl, ◌≡◌, ℕ, subst}
 use Rattle.core_back.specs.First.{AreSet}
-use Rattle.core_back.proofs.Starts.{set_none, set_more, set_all}
+use Rattle.core_back.proofs.FirstMachine.{set_none, set_more, set_all}
 use Rattle.core_back.proofs.first.set_registers.Goals as goal
 
 pub loop-number-init : goal.loop-number-init

@@ -7,7 +7,7 @@ use Rattle.lawful_cycle.specs.Issue.{IsIssue}
 use Rattle.core_back.specs.Machine.{Machine, IsAlike, context_at, in_flight}
 use Rattle.core_back.specs.Issued.{IsIssued}
 use Rattle.core_back.proofs.InFlight.{in_flight_same, in_flight_issued}
-use Rattle.core_back.proofs.Turns.{alike_chain, issue_alike, none_left}
+use Rattle.core_back.proofs.AlikeMachines.{alike_chain, issue_alike, none_left}
 use Rattle.core_back.proofs.IssueViews.{issuing_first, issuing_next, issuing_done}
 use Rattle.core_back.proofs.issuing.issue.Goals as goal
 

@@ -2,7 +2,7 @@ use Rattle.std.proofs.Common.{◌≡◌, ap, sym, subst, ◌∙◌, refl, length
 use Rattle.core_profile.specs.declared.profile.Profile.{Profile}
 use Rattle.fetch_policy.specs.Lawful.{turn as turn_of}
 use Rattle.core_back.proofs.RetireTurns.{Turned, turned_none, turned_next, retire_lawful}
-use Rattle.core_back.proofs.Turns.{alike_none, alike_chain}
+use Rattle.core_back.proofs.AlikeMachines.{alike_none, alike_chain}
 use Rattle.core_back.proofs.retiring.retire.Goals as goal
 
 pub loop-turn-init : goal.loop-turn-init

@@ -6,8 +6,8 @@ use Rattle.core_view.specs.Events.{retire_event, stop_event}
 use Rattle.lawful_cycle.specs.Retire.{KeepsDone}
 use Rattle.core_back.specs.Machine.{Machine, context_at}
 use Rattle.core_back.specs.Turn.{TurnsBy, id_of}
-use Rattle.core_back.proofs.Fronts.{IsOnWay, way_first, way_open, way_next, way_none, way_ended, way_stop, none_kept, stop_keeps_none, context_now, one_changed, none_changed, context_ended, one_ended, listed_more}
-use Rattle.core_back.proofs.Turns.{alike_none, alike_chain, alike_with}
+use Rattle.core_back.proofs.RetiredFronts.{IsOnWay, way_first, way_open, way_next, way_none, way_ended, way_stop, none_kept, stop_keeps_none, context_now, one_changed, none_changed, context_ended, one_ended, listed_more}
+use Rattle.core_back.proofs.AlikeMachines.{alike_none, alike_chain, alike_with}
 use Rattle.core_back.proofs.retiring.retire_context.Goals as goal
 
 pub loop-done-init : goal.loop-done-init

@@ -2,7 +2,7 @@ use Rattle.std.proofs.Common.{◌≡◌, ◌+◌, ◌*◌, ◌≤◌, [], ◌++�
 use Rattle.arrayvec.specs.ArrayVec.{array_vec_len}
 use Rattle.core_back.specs.Machine.{IsAlike, in_flight, context_at, with_context}
 use Rattle.core_back.specs.Turn.{id_of}
-use Rattle.core_back.proofs.Fronts.{IsOnWay}
+use Rattle.core_back.proofs.RetiredFronts.{IsOnWay}
 use Rattle.core_back.proofs.retiring.retire_context.Given as goal
 
 abbrev pub invariant-loop-done : goal.invariant-loop-done

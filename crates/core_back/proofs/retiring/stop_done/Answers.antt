@@ -3,8 +3,8 @@ use Rattle.core_view.specs.declared.outcome.Outcome.{Outcome}
 use Rattle.core_view.specs.Events.{stop_event}
 use Rattle.core_back.specs.Machine.{Machine, context_at, with_context}
 use Rattle.core_back.specs.Turn.{stopped_by}
-use Rattle.core_back.proofs.Fronts.{none_changed}
-use Rattle.core_back.proofs.Turns.{alike_none, alike_with}
+use Rattle.core_back.proofs.RetiredFronts.{none_changed}
+use Rattle.core_back.proofs.AlikeMachines.{alike_none, alike_with}
 use Rattle.core_back.proofs.retiring.stop_done.Goals as goal
 
 pub returns-in-Some-Stops-clause-alike : goal.returns-in-Some-Stops-clause-alike

@@ -1,7 +1,7 @@
 use Rattle.std.proofs.Common.{ap, ◌∙◌, arith}
 use Rattle.core_view.specs.View.{Context}
 use Rattle.lawful_cycle.specs.Fetch.{is_eligible}
-use Rattle.core_back.proofs.Ahead.{eligible_is}
+use Rattle.core_context.proofs.Laws.{eligible_is}
 use Rattle.core_back.proofs.Machines.{at_context}
 use Rattle.core_back.proofs.machine.Machine.can_fetch.Goals as goal
 

@@ -5,10 +5,9 @@ use Rattle.origin_set.specs.Start.{start}
 use Rattle.core_view.specs.declared.entry.Stage.TheVariants.{Issued}
 use Rattle.core_view.specs.View.{Context, entry_at}
 use Rattle.core_view.specs.Events.{complete_event}
-use Rattle.core_back.specs.Track.{Track}
-use Rattle.core_back.specs.Steps.{completed_flow}
-use Rattle.core_back.proofs.Others.{completed_flow_left, sizes-completed_flow}
-use Rattle.core_back.proofs.Completes.{complete_core, issued_known}
+use Rattle.core_context.specs.Track.{Track}
+use Rattle.core_context.specs.Steps.{completed_flow}
+use Rattle.core_context.proofs.Laws.{completed_flow_left, sizes-completed_flow, complete_core, issued_known}
 use Rattle.core_back.proofs.Machines.{at_context, idle_core, machine_after, shown_after, shown_length}
 use Rattle.core_back.proofs.machine.Machine.complete.Goals as goal
 

@@ -2,7 +2,7 @@ use Rattle.std.proofs.Common.{◌≡◌, ◌-◌, length, ap, arith}
 use Rattle.std.specs.Prelude.{count_by}
 use Rattle.core_view.specs.View.{Context}
 use Rattle.lawful_cycle.specs.Fetch.{is_fetched}
-use Rattle.core_back.proofs.Ahead.{fetched_count}
+use Rattle.core_context.proofs.Laws.{fetched_count}
 use Rattle.core_back.proofs.Machines.{at_context}
 use Rattle.core_back.proofs.machine.Machine.fetched_count.Goals as goal
 

@@ -3,7 +3,7 @@ use Rattle.std.specs.Prelude.{◌&&◌, count_by}
 use Rattle.core_view.specs.Operations.{is_guessed}
 use Rattle.core_view.specs.View.{Context}
 use Rattle.lawful_cycle.specs.Fetch.{is_fetched}
-use Rattle.core_back.proofs.Ahead.{guessed_count}
+use Rattle.core_context.proofs.Laws.{guessed_count}
 use Rattle.core_back.proofs.Machines.{at_context}
 use Rattle.core_back.proofs.machine.Machine.guessed_ahead.Goals as goal
 

@@ -6,8 +6,8 @@ use Rattle.join_law.specs.Eight.{place_of}
 use Rattle.core_back.specs.Machine.{Machine, context_at, no_track}
 use Rattle.core_back.specs.Shown.{machine_of}
 use Rattle.core_back.specs.First.{AreMarksAt}
-use Rattle.core_back.proofs.Starts.{context_of_track}
-use Rattle.core_back.proofs.Ends.{reached_core, mark_is_at}
+use Rattle.core_back.proofs.FirstMachine.{context_of_track}
+use Rattle.core_back.proofs.FinalMarks.{reached_core, mark_is_at}
 use Rattle.core_back.proofs.machine.Machine.into_marks.Goals as goal
 
 pub marks_of-requires-clause-reached : goal.marks_of-requires-clause-reached

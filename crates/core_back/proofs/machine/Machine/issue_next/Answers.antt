@@ -2,7 +2,7 @@ use Rattle.std.proofs.Common.{refl, ap, arith, ◌+◌, drop}
 use Rattle.std.specs.Prelude.{set}
 use Rattle.core_view.specs.declared.entry.Execution.{Execution}
 use Rattle.data_flow.specs.Flow.{lane, sources_at}
-use Rattle.core_back.proofs.Issues.{core_answered, selected_known}
+use Rattle.core_context.proofs.Laws.{core_answered, selected_known}
 use Rattle.core_back.proofs.Selections.{ready_place}
 use Rattle.core_back.proofs.MachineIssues.{first_name, some_names, found_place, some_sources, first_clear, issued_core, issued_machine, is_performed, is_issued}
 use Rattle.core_back.proofs.machine.Machine.issue_next.Goals as goal

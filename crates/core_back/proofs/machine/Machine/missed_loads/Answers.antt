@@ -3,7 +3,7 @@ use Rattle.std.specs.Prelude.{◌&&◌, count_by}
 use Rattle.core_view.specs.Operations.{is_load}
 use Rattle.core_view.specs.View.{Context}
 use Rattle.lawful_cycle.specs.Fetch.{is_missing}
-use Rattle.core_back.proofs.Ahead.{missed_count}
+use Rattle.core_context.proofs.Laws.{missed_count}
 use Rattle.core_back.proofs.Machines.{at_context}
 use Rattle.core_back.proofs.machine.Machine.missed_loads.Goals as goal
 

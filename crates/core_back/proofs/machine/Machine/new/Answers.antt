@@ -4,11 +4,11 @@ use Rattle.std.specs.Arc.{arc_value}
 use Rattle.join_law.specs.Eight.{place_of}
 use Rattle.core_view.specs.declared.note.EntryId.{EntryId}
 use Rattle.data_flow.specs.Flow.{waits_in}
-use Rattle.core_back.specs.Issuable.{IsClear}
-use Rattle.core_back.specs.Track.{Track}
+use Rattle.core_context.specs.Issuable.{IsClear}
+use Rattle.core_context.specs.Track.{Track}
 use Rattle.core_back.specs.Machine.{no_track}
 use Rattle.core_back.specs.Shown.{AreApart, IsSuppliedIn}
-use Rattle.core_back.proofs.Starts.{first_core, mark_of_first, origin_of_first, first_context_at, count_of_tracks}
+use Rattle.core_back.proofs.FirstMachine.{first_core, mark_of_first, origin_of_first, first_context_at, count_of_tracks}
 use Rattle.core_back.proofs.machine.Machine.new.Goals as goal
 
 pub invariant_of-result : goal.invariant_of-result

@@ -1,6 +1,6 @@
 use Rattle.std.proofs.Common.{◌∙◌, arith}
 use Rattle.core_back.specs.Machine.{context_at}
-use Rattle.core_back.proofs.Counts.{oldest_waiting}
+use Rattle.core_context.proofs.Laws.{oldest_waiting}
 use Rattle.core_back.proofs.Machines.{all_live}
 use Rattle.core_back.proofs.Renamable.{idle_waiting}
 use Rattle.core_back.proofs.machine.Machine.oldest_place.Goals as goal

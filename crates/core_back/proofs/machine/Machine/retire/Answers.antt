@@ -5,11 +5,11 @@ use Rattle.origin_set.specs.Start.{start}
 use Rattle.core_view.specs.declared.outcome.Outcome.TheVariants.{Goes}
 use Rattle.core_view.specs.View.{Context, entry_at}
 use Rattle.core_view.specs.Events.{retire_event}
-use Rattle.core_back.specs.Track.{Track, is_last}
-use Rattle.core_back.specs.Steps.{retired_flow}
-use Rattle.core_back.specs.Machine.{context_at, first_done}
-use Rattle.core_back.proofs.Others.{retired_flow_left, sizes-retired_flow}
-use Rattle.core_back.proofs.Retires.{is_first_done, retire_core, oldest_known, oldest_done, oldest_idle, oldest_below, oldest_sized}
+use Rattle.core_context.specs.Track.{Track, is_last}
+use Rattle.core_context.specs.Steps.{retired_flow}
+use Rattle.core_back.specs.Machine.{context_at}
+use Rattle.core_context.specs.Heads.{first_done}
+use Rattle.core_context.proofs.Laws.{retired_flow_left, sizes-retired_flow, is_first_done, retire_core, oldest_known, oldest_done, oldest_idle, oldest_below, oldest_sized}
 use Rattle.core_back.proofs.InFlight.{in_flight_after, retire_fewer}
 use Rattle.core_back.proofs.Machines.{at_context, idle_core, machine_after, shown_after}
 use Rattle.core_back.proofs.machine.Machine.retire.Goals as goal

@@ -1,5 +1,5 @@
 use Rattle.std.proofs.Common.{◌||◌, get_or, sym, ap, arith, length, refl, ◌∙◌}
-use Rattle.core_back.proofs.Issues.{core_answered}
+use Rattle.core_context.proofs.Laws.{core_answered}
 use Rattle.core_back.proofs.MachineIssues.{context_of, held_to_none, context_next, held_nodes, held_to_next, selected_machine, selected_shown, selected_choice}
 use Rattle.core_back.proofs.machine.Machine.select.Goals as goal
 use Rattle.core_back.proofs.machine.Machine.select.Goals.{then-self, else-self}

@@ -6,10 +6,10 @@ use Rattle.std.specs.Prelude.{set}
 use Rattle.std.specs.Arc.{arc_value}
 use Rattle.origin_set.specs.Start.{start}
 use Rattle.data_flow.specs.Flow.{cut_flow}
-use Rattle.core_back.specs.Track.{Track}
-use Rattle.core_back.specs.Machine.{context_at, first_done}
-use Rattle.core_back.proofs.Others.{cut_flow_left, sizes-cut_flow}
-use Rattle.core_back.proofs.Retires.{is_first_done, stop_core}
+use Rattle.core_context.specs.Track.{Track}
+use Rattle.core_back.specs.Machine.{context_at}
+use Rattle.core_context.specs.Heads.{first_done}
+use Rattle.core_context.proofs.Laws.{cut_flow_left, sizes-cut_flow, is_first_done, stop_core}
 use Rattle.core_back.proofs.InFlight.{in_flight_after}
 use Rattle.core_back.proofs.Machines.{at_context, idle_core, machine_after, shown_after}
 use Rattle.core_back.proofs.machine.Machine.stop.Goals as goal

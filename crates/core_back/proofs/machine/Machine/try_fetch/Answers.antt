@@ -6,10 +6,9 @@ use Rattle.core_view.specs.Events.{fetch_event, fetched_entry}
 use Rattle.core_view.specs.Flight.{is_open, pc_past}
 use Rattle.core_view.specs.Operations.{operation_at}
 use Rattle.lawful_cycle.specs.Fetch.{IsFollowedBy, ends_block, is_eligible}
-use Rattle.core_back.specs.Track.{Track, pushed}
+use Rattle.core_context.specs.Track.{Track, pushed}
 use Rattle.core_back.specs.Machine.{Machine, context_at}
-use Rattle.core_back.proofs.Ahead.{eligible_is}
-use Rattle.core_back.proofs.Fetches.{entries_older, fetch_room, fetch_aligned, fetch_core}
+use Rattle.core_context.proofs.Laws.{eligible_is, entries_older, fetch_room, fetch_aligned, fetch_core}
 use Rattle.core_back.proofs.InFlight.{in_flight_fetched}
 use Rattle.core_back.proofs.Machines.{at_context, idle_core, machine_fetched, shown_fetched}
 use Rattle.core_back.proofs.machine.Machine.try_fetch.Goals as goal

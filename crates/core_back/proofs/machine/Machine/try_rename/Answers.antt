@@ -4,12 +4,12 @@ use Rattle.std.specs.List.{list_any}
 use Rattle.core_view.specs.View.{Context, entry_at}
 use Rattle.lawful_cycle.specs.Issue.{is_open_guess}
 use Rattle.core_view.specs.Events.{rename_event}
-use Rattle.core_back.specs.Track.{Track}
-use Rattle.core_back.specs.Steps.{renamed_flow}
+use Rattle.core_context.specs.Track.{Track}
+use Rattle.core_context.specs.Steps.{renamed_flow}
 use Rattle.core_back.specs.Machine.{Machine, context_at}
-use Rattle.core_back.proofs.Renames.{nodes_older, first_idle, first_fetched, rename_core, renamed_flow_left, sizes-renamed_flow}
+use Rattle.core_context.proofs.Laws.{nodes_older, first_idle, first_fetched, rename_core, renamed_flow_left, sizes-renamed_flow}
 use Rattle.core_back.proofs.Renamable.{is_counted, can_rename, may_not_rename}
-use Rattle.core_back.proofs.Turns.{alike_with}
+use Rattle.core_back.proofs.AlikeMachines.{alike_with}
 use Rattle.core_back.proofs.InFlight.{in_flight_renamed}
 use Rattle.core_back.proofs.Machines.{at_context, idle_core, machine_after, shown_after}
 use Rattle.core_back.proofs.machine.Machine.try_rename.Goals as goal

@@ -4,7 +4,7 @@ use Rattle.std.specs.Prelude.{◌&&◌}
 use Rattle.core_view.specs.Operations.{is_guessed}
 use Rattle.lawful_cycle.specs.Issue.{is_queued}
 use Rattle.core_back.specs.Machine.{context_at}
-use Rattle.core_back.proofs.Counts.{waiting_guesses}
+use Rattle.core_context.proofs.Laws.{waiting_guesses}
 use Rattle.core_back.proofs.Renamable.{flight_most, idle_waiting}
 use Rattle.core_back.proofs.machine.Machine.waiting_guessed.Goals as goal
 

@@ -1,0 +1,281 @@
+-- What the loops over a flight find, what its ring leaves, and what an entry cuts as it completes.
+use Rattle.std.proofs.Common.{◌≡◌, ◌≢◌, ℕ, suc, ◌+◌, ◌-◌, ◌<◌, ◌≤◌, Bool, true, false, cond, List, [], ◌∷◌, length, get_or, take, drop, slice_get, Option, Some, None, refl, sym, ap, subst, ◌∙◌, arith, add-one, length-take, length-drop, inl, inr}
+use Rattle.std.specs.Prelude.{set, nat_lt, not, min, find, option_map, if◌then◌else◌}
+use Rattle.std.specs.List.{list_any}
+use Rattle.std.proofs.lemmas.Bool.{cases_eq, lt-ltb, le-ltb, ltb-true, ltb-false}
+use Rattle.std.proofs.lemmas.List.{nil_from_length, take_all, length-set, get_or-drop, get_or-set_other}
+use Rattle.std.proofs.lemmas.List.Folds.{list_any_more, list_any_at}
+use Rattle.std.proofs.lemmas.Option.{get_or_from_slice_get, slice_get-get_or, slice_get_cases, slice_get_within, none-some}
+use Rattle.circular_buffer.specs.Buffer.{last_item}
+use Rattle.reorder_buffer.specs.Growing.{IsGrowing as IsRising, below}
+use Rattle.reorder_buffer.proofs.Stamps.{take-below}
+use Rattle.hart_step.specs.declared.stop.Stop.{Stop}
+use Rattle.core_view.specs.declared.span.Bytes.{Bytes}
+use Rattle.core_view.specs.declared.outcome.Step.{Step}
+use Rattle.core_view.specs.declared.outcome.Outcome.{Outcome}
+use Rattle.core_view.specs.declared.outcome.Outcome.TheVariants.{Goes, Stops}
+use Rattle.core_view.specs.declared.entry.Execution.{Execution}
+use Rattle.core_view.specs.declared.entry.Stage.{Stage}
+use Rattle.core_view.specs.declared.entry.Stage.TheVariants.{Issued, Done}
+use Rattle.core_view.specs.declared.entry.Entry.{Entry}
+use Rattle.core_view.specs.Operations.{stops_at_fetch, is_store}
+use Rattle.core_view.specs.Outcomes.{Image, bytes_written}
+use Rattle.core_view.specs.Flight.{Seen, seen_past, pc_past, is_open, span_read, bytes_in, touches, clean_length, HasOutcome, IsSoundEntry, IsSound}
+use Rattle.core_view.specs.Events.{is_mispredicted, kept_length, completed_entry, complete_in}
+use Rattle.core_view.specs.Queues.{loads_of, conflict_in, conflict_of}
+use Rattle.core_view.specs.View.{no_entry}
+use Rattle.core_view.proofs.Accesses.{stage_bytes}
+use Rattle.core_view.proofs.Accesses.{store_predicted}
+use Rattle.core_view.proofs.Queues.{queue_conflict}
+use Rattle.core_view.proofs.RingForm.{complete_take}
+use Rattle.core_view.proofs.Sound.{sound_at}
+use Rattle.core_context.specs.Track.{Track, left_by, cut_stamp, finished, cut_at, completed}
+use Rattle.core_context.proofs.QueueSlots.{growing_whole}
+
+-- ---- an entry at a place
+
+pub within : {X : Type 0} (xs : List X) (i : ℕ) (x : X) → slice_get xs i ≡ Some x → i < length xs
+within xs i x is =
+    elim (slice_get_cases xs i).1 [
+      | inl some ↦ some.1
+      | inr none ↦ absurd (none-some x (sym none.1 ∙ is))
+    ]
+
+pub past : {X : Type 0} (xs : List X) (i : ℕ) → slice_get xs i ≡ None → length xs ≤ i
+past xs i is =
+    elim (slice_get_cases xs i).1 [
+      | inl some ↦ absurd (none-some some.0 (sym is ∙ some.2))
+      | inr none ↦ none.0
+    ]
+
+-- ---- the end of a flight
+
+-- the pc where a flight goes on is the one that its last entry was followed at
+pc_last : (pc : ℕ) (es : List Entry) (d : Entry) → 0 < length es → pc_past pc es ≡ (get_or es (length es - 1) d).followed
+pc_last pc [] d some = absurd (omega arith)
+pc_last pc (e ∷ []) d some = refl
+pc_last pc (e ∷ f ∷ es) d some =
+    let one : suc (suc (length es)) - 1 ≡ suc (suc (length es) - 1) = omega arith in
+    rw one (pc_last e.followed (f ∷ es) d (omega arith))
+
+open_last : (es : List Entry) (d : Entry) → 0 < length es → is_open es ≡ not (stops_at_fetch (get_or es (length es - 1) d).operation)
+open_last [] d some = absurd (omega arith)
+open_last (e ∷ []) d some = refl
+open_last (e ∷ f ∷ es) d some =
+    let one : suc (suc (length es)) - 1 ≡ suc (suc (length es) - 1) = omega arith in
+    rw one (open_last (f ∷ es) d (omega arith))
+
+-- a flight with a last entry, or none
+pub pc_some : (pc : ℕ) (es : List Entry) (e : Entry) → last_item es ≡ Some e → e.followed ≡ pc_past pc es
+pc_some pc es e is =
+    let lt : length es - 1 < length es = within es (length es - 1) e is in
+    sym (pc_last pc es e (omega (arith, lt)) ∙ ap (λ (f : Entry). f.followed) (get_or_from_slice_get es (length es - 1) e e is))
+
+pub open_some : (es : List Entry) (e : Entry) → last_item es ≡ Some e → not (stops_at_fetch e.operation) ≡ is_open es
+open_some es e is =
+    let lt : length es - 1 < length es = within es (length es - 1) e is in
+    sym (open_last es e (omega (arith, lt)) ∙ ap (λ (f : Entry). not (stops_at_fetch f.operation)) (get_or_from_slice_get es (length es - 1) e e is))
+
+pub none_last : (es : List Entry) → last_item es ≡ None → es ≡ []
+none_last es is = let le : length es ≤ length es - 1 = past es (length es - 1) is in nil_from_length es (omega (arith, le))
+
+-- ---- a search from the oldest entry on
+
+module _ (test : Entry → Bool) where
+  -- the entry at i doesn't pass either
+  pub none_more : (es : List Entry) (i : ℕ) (e : Entry) → slice_get es i ≡ Some e → list_any test (take i es) ≡ false → test e ≡ false → list_any test (take (i + 1) es) ≡ false
+  none_more es i e is none not_here = rw (list_any_more test es i e (within es i e is), none, get_or_from_slice_get es i e e is, not_here) refl
+
+  -- the entry at i passes
+  pub some_at : (es : List Entry) (i : ℕ) (e : Entry) → slice_get es i ≡ Some e → test e ≡ true → list_any test es ≡ true
+  some_at es i e is here = list_any_at test es i e (within es i e is) (ap test (get_or_from_slice_get es i e e is) ∙ here)
+
+  -- none of all
+  pub none_all : (es : List Entry) (n : ℕ) → length es ≤ n → list_any test (take n es) ≡ false → list_any test es ≡ false
+  none_all es n le none = ap (list_any test) (sym (take_all n es le)) ∙ none
+
+-- ---- cuts
+
+-- no stamp is below 0
+pub below_zero : {X : Type 0} (stamp : X → ℕ) (xs : List X) → below stamp 0 xs ≡ []
+below_zero stamp [] = refl
+below_zero stamp (x ∷ xs) =
+    let first : nat_lt (stamp x) 0 ≡ false = le-ltb (stamp x) 0 (omega arith) in
+    rw first (below_zero stamp xs)
+
+-- what is below the stamp of the entry at k stands before it
+pub below_at : {X : Type 0} (stamp : X → ℕ) (xs : List X) (k : ℕ) (x : X) → IsRising stamp xs → slice_get xs k ≡ Some x → below stamp (stamp x) xs ≡ take k xs
+below_at stamp xs k x growing is =
+    let lt : k < length xs = within xs k x is in
+    sym (take-below stamp (stamp x) k xs (omega (arith, lt)) front rest)
+  where
+    at : (d : _) → stamp (get_or xs k d) ≡ stamp x
+    at d = ap stamp (get_or_from_slice_get xs k x d is)
+
+    front : (i : ℕ) (d : _) → i < k → stamp (get_or xs i d) < stamp x
+    front i d lt = omega (arith, at d, growing i k d lt (within xs k x is))
+
+    rest : (i : ℕ) (d : _) → k ≤ i → i < length xs → stamp x ≤ stamp (get_or xs i d)
+    rest i d ge lt =
+        elim (cases_eq i k) [
+          | inl same ↦ omega (arith, at d, ap (λ j. stamp (get_or xs j d)) same)
+          | inr differ ↦ omega (arith, at d, growing k i d (omega (arith, differ)) lt)
+        ]
+
+-- ---- a completion
+
+-- how many entries are left
+abbrev left_in : List Entry → ℕ → Execution → ℕ
+left_in es i x = i + 1 + kept_length (get_or es i no_entry) x.outcome (drop (i + 1) es)
+
+-- the stamp of the entry at n, if there is one
+abbrev stamp_if : ℕ → List Entry → Option ℕ
+stamp_if n es = if nat_lt n (length es) then Some (get_or es n no_entry).stamp else None
+
+stamp_none : (n : ℕ) (es : List Entry) → length es ≤ n → None ≡ stamp_if n es
+stamp_none n es le = rw (le-ltb n (length es) le) refl
+
+stamp_some : (n : ℕ) (es : List Entry) → n < length es → Some (get_or es n no_entry).stamp ≡ stamp_if n es
+stamp_some n es lt = rw (lt-ltb n (length es) lt) refl
+
+stamp_past : (n : ℕ) (es : List Entry) → stamp_if n es ≡ None → length es ≤ n
+stamp_past n es h = go (nat_lt n (length es)) refl h
+  where
+    go : (t : Bool) → nat_lt n (length es) ≡ t → (if t then Some (get_or es n no_entry).stamp else None) ≡ None → length es ≤ n
+    go true is none = absurd cc
+    go false is none = ltb-false n (length es) is
+
+stamp_at : (n k : ℕ) (es : List Entry) → stamp_if n es ≡ Some k → (n < length es) × ((get_or es n no_entry).stamp ≡ k)
+stamp_at n k es h = go (nat_lt n (length es)) refl h
+  where
+    go : (t : Bool) → nat_lt n (length es) ≡ t → (if t then Some (get_or es n no_entry).stamp else None) ≡ Some k → (n < length es) × ((get_or es n no_entry).stamp ≡ k)
+    go true is some = (ltb-true n (length es) is, cc)
+    go false is some = absurd cc
+
+stamp-drop : (n i : ℕ) (es : List Entry) → i < length es → stamp_if n (drop (i + 1) es) ≡ stamp_if (i + 1 + n) es
+stamp-drop n i es lt = go (nat_lt n (length (drop (i + 1) es))) refl
+  where
+    go : (t : Bool) → nat_lt n (length (drop (i + 1) es)) ≡ t → (if t then Some (get_or (drop (i + 1) es) n no_entry).stamp else None) ≡ stamp_if (i + 1 + n) es
+    go true is = ap (λ (f : Entry). Some f.stamp) (get_or-drop (i + 1) es n no_entry) ∙ stamp_some (i + 1 + n) es (omega (arith, ltb-true n (length (drop (i + 1) es)) is, length-drop (i + 1) es))
+    go false is = stamp_none (i + 1 + n) es (omega (arith, ltb-false n (length (drop (i + 1) es)) is, length-drop (i + 1) es))
+
+-- what writes nothing touches nothing
+clean_none : (es : List Entry) → clean_length None es ≡ length es
+clean_none [] = refl
+clean_none (e ∷ es) = rw (clean_none es, add-one) refl
+
+-- the oldest conflict stands behind what a store leaves
+conflict_stamp : (b : Option Bytes) (es : List Entry) → conflict_of es b ≡ stamp_if (clean_length b es) es
+conflict_stamp b [] = refl
+conflict_stamp b (e ∷ es) = go (touches b (span_read e.stage)) (conflict_stamp b es)
+  where
+    go : (t : Bool) → conflict_of es b ≡ stamp_if (clean_length b es) es
+        → option_map (λ f. f.stamp) (cond t (Some e) (find (λ f. touches b (span_read f.stage)) es)) ≡ stamp_if (if t then 0 else clean_length b es + 1) (e ∷ es)
+    go true ih = stamp_some 0 (e ∷ es) (omega arith)
+    go false ih = ih ∙ sym (next (clean_length b es))
+      where
+        next : (n : ℕ) → stamp_if (n + 1) (e ∷ es) ≡ stamp_if n es
+        next n = by_order (nat_lt n (length es)) refl
+          where
+            one : n + 1 ≡ suc n
+            one = omega arith
+
+            by_order : (t : Bool) → nat_lt n (length es) ≡ t → stamp_if (n + 1) (e ∷ es) ≡ (if t then Some (get_or es n no_entry).stamp else None)
+            by_order true is = sym (stamp_some (n + 1) (e ∷ es) (omega (arith, ltb-true n (length es) is))) ∙ ap (λ m. Some (get_or (e ∷ es) m no_entry).stamp) one
+            by_order false is = sym (stamp_none (n + 1) (e ∷ es) (omega (arith, ltb-false n (length es) is)))
+
+module _ (es : List Entry) (i : ℕ) (e : Entry) (x : Execution) (is : slice_get es i ≡ Some e) where
+  here : get_or es i no_entry ≡ e
+  here = get_or_from_slice_get es i e no_entry is
+
+  -- a stop leaves all
+  pub cut_stop : (why : Stop) → x.outcome ≡ Stops why → None ≡ stamp_if (left_in es i x) es
+  cut_stop why stops = stamp_none (left_in es i x) es (rw stops (omega (arith, slice_get_within es i e is, length-drop (i + 1) es)))
+
+  -- so does an entry that goes on, was guessed right and writes nothing
+  pub cut_right : (step : Step) → x.outcome ≡ Goes step → is_mispredicted e step ≡ false → bytes_written step.access ≡ None → None ≡ stamp_if (left_in es i x) es
+  cut_right step goes right bytes =
+      stamp_none (left_in es i x) es (rw (goes, here, right, bytes) (omega (arith, slice_get_within es i e is, clean_none (drop (i + 1) es), length-drop (i + 1) es)))
+
+  -- a wrong guess leaves nothing behind the entry
+  left_wrong : (step : Step) → x.outcome ≡ Goes step → is_mispredicted e step ≡ true → left_in es i x ≡ i + 1
+  left_wrong step goes wrong = rw (goes, here, wrong) (omega arith)
+
+  module _ (new : List Entry) (written : new ≡ set es i (completed_entry e x)) where
+    as_long : length new ≡ length es
+    as_long = ap (λ (fs : List Entry). length fs) written ∙ length-set es i (completed_entry e x)
+
+    pub cut_wrong_none : (step : Step) → x.outcome ≡ Goes step → is_mispredicted e step ≡ true → slice_get new (i + 1) ≡ None → None ≡ stamp_if (left_in es i x) es
+    cut_wrong_none step goes wrong none = stamp_none (left_in es i x) es (omega (arith, left_wrong step goes wrong, past new (i + 1) none, as_long))
+
+    pub cut_wrong_some : (step : Step) (f : Entry) → x.outcome ≡ Goes step → is_mispredicted e step ≡ true → slice_get new (i + 1) ≡ Some f → Some f.stamp ≡ stamp_if (left_in es i x) es
+    cut_wrong_some step f goes wrong at =
+        let other : i + 1 ≢ i = λ same. omega (arith, same) in
+        let read : get_or es (i + 1) no_entry ≡ f =
+        sym (get_or-set_other es i (i + 1) (completed_entry e x) no_entry other) ∙ ap (λ (fs : List Entry). get_or fs (i + 1) no_entry) (sym written) ∙ get_or_from_slice_get new (i + 1) f no_entry at in
+        ap (λ (g : Entry). Some g.stamp) (sym read) ∙ stamp_some (i + 1) es (omega (arith, within new (i + 1) f at, as_long)) ∙ ap (λ n. stamp_if n es) (sym (left_wrong step goes wrong))
+
+  module _ (image : Image) (seen : Seen) (pc : ℕ) (stage : e.stage ≡ Issued x) (sound : IsSound image seen pc es) where
+    -- what isn't a store writes nothing
+    pub writes_none : is_store e.operation ≡ false → bytes_in x.outcome ≡ None
+    writes_none other =
+        let at : IsSoundEntry image (seen_past seen (take i es)) (pc_past pc (take i es)) e = subst (λ (f : Entry). IsSoundEntry image (seen_past seen (take i es)) (pc_past pc (take i es)) f) here (sound_at image seen pc es i no_entry (slice_get_within es i e is) sound) in
+        let out : HasOutcome image (seen_past seen (take i es)) e.operation e.pc (Done x) = issued_done (seen_past seen (take i es)) (subst (λ (s : Stage). HasOutcome image (seen_past seen (take i es)) e.operation e.pc s) stage at.outcome) in
+        stage_bytes image (seen_past seen (take i es)) e.operation e.pc (Done x) other out
+      where
+        issued_done : (at : Seen) → HasOutcome image at e.operation e.pc (Issued x) → HasOutcome image at e.operation e.pc (Done x)
+        issued_done at has = has.1
+
+    -- a store leaves what stands before the oldest conflict
+    pub cut_store : IsRising (λ (f : Entry). f.stamp) es → is_store e.operation ≡ true → conflict_in (loads_of es) e.stamp (bytes_in x.outcome) ≡ stamp_if (left_in es i x) es
+    cut_store rising store =
+        ap (λ (f : Entry). conflict_in (loads_of es) f.stamp (bytes_in x.outcome)) (sym (get_or_from_slice_get es i e e is))
+        ∙ queue_conflict image seen pc 0 es i e (bytes_in x.outcome) (slice_get_within es i e is) (growing_whole es rising) sound
+        ∙ ap (λ k. conflict_of (drop k es) (bytes_in x.outcome)) (sym (add-one i)) ∙ conflict_stamp (bytes_in x.outcome) (drop (i + 1) es)
+        ∙ stamp-drop (clean_length (bytes_in x.outcome) (drop (i + 1) es)) i es (slice_get_within es i e is)
+        ∙ ap (λ n. stamp_if (i + 1 + n) es) (kept x.outcome ∙ ap (λ (f : Entry). kept_length f x.outcome (drop (i + 1) es)) (sym here))
+      where
+        kept : (o : Outcome) → clean_length (bytes_in o) (drop (i + 1) es) ≡ kept_length e o (drop (i + 1) es)
+        kept (Stops why) = clean_none (drop (i + 1) es)
+        kept (Goes step) = let right = store_predicted e step store in rw right refl
+
+-- ---- what is left once it is cut
+
+module _ (es : List Entry) (i : ℕ) (x : Execution) (lt : i < length es) where
+  -- nothing is
+  pub uncut : stamp_if (left_in es i x) es ≡ None → set es i (completed_entry (get_or es i no_entry) x) ≡ complete_in es i x
+  uncut none =
+      let le = stamp_past (left_in es i x) es none in
+      sym (complete_take es i x no_entry lt ∙ take_all (left_in es i x) (set es i (completed_entry (get_or es i no_entry) x)) (omega (arith, le, length-set es i (completed_entry (get_or es i no_entry) x))))
+
+  module _ (k : ℕ) (some : stamp_if (left_in es i x) es ≡ Some k) where
+    pub left_within : left_in es i x < length es
+    left_within = (stamp_at (left_in es i x) k es some).0
+
+    pub cut : IsRising (λ (f : Entry). f.stamp) (set es i (completed_entry (get_or es i no_entry) x)) → below (λ (f : Entry). f.stamp) k (set es i (completed_entry (get_or es i no_entry) x)) ≡ take (left_in es i x) (set es i (completed_entry (get_or es i no_entry) x))
+    cut rising =
+        let other : left_in es i x ≢ i = λ same. omega (arith, same) in
+        let read : get_or (set es i (completed_entry (get_or es i no_entry) x)) (left_in es i x) no_entry ≡ get_or es (left_in es i x) no_entry = get_or-set_other es i (left_in es i x) (completed_entry (get_or es i no_entry) x) no_entry other in
+        let stamp : (get_or (set es i (completed_entry (get_or es i no_entry) x)) (left_in es i x) no_entry).stamp ≡ k = ap (λ (f : Entry). f.stamp) read ∙ (stamp_at (left_in es i x) k es some).1 in
+        ap (λ m. below (λ (f : Entry). f.stamp) m (set es i (completed_entry (get_or es i no_entry) x))) (sym stamp)
+        ∙ below_at (λ (f : Entry). f.stamp) (set es i (completed_entry (get_or es i no_entry) x)) (left_in es i x) (get_or (set es i (completed_entry (get_or es i no_entry) x)) (left_in es i x) no_entry) rising
+        (slice_get-get_or (set es i (completed_entry (get_or es i no_entry) x)) (left_in es i x) no_entry (omega (arith, left_within, length-set es i (completed_entry (get_or es i no_entry) x))))
+
+-- ---- the track
+
+-- an entry that cuts nothing completes
+pub complete_whole : (t : Track) (i : ℕ) (x : Execution) → i < length t.context.flight → (finished t i x).renamed ≤ length (finished t i x).context.flight → cut_stamp t.context i x ≡ None → finished t i x ≡ completed t i x
+complete_whole t i x lt within none =
+    let same : t.renamed ≡ min t.renamed (left_by t.context i x) = omega (arith, within, length-set t.context.flight i (completed_entry (get_or t.context.flight i no_entry) x), stamp_past (left_by t.context i x) t.context.flight none) in
+    ap (λ (es : List Entry). record t { context = record t.context { flight = es } }) (uncut t.context.flight i x lt none)
+    ∙ ap (λ n. record t { context = record t.context { flight = complete_in t.context.flight i x }; renamed = n }) same
+
+-- one that does
+pub complete_cut : (t : Track) (i k : ℕ) (x : Execution) → i < length t.context.flight → IsRising (λ (f : Entry). f.stamp) (finished t i x).context.flight → cut_stamp t.context i x ≡ Some k → cut_at (finished t i x) k ≡ completed t i x
+complete_cut t i k x lt rising some =
+    let front : below (λ (f : Entry). f.stamp) k (set t.context.flight i (completed_entry (get_or t.context.flight i no_entry) x)) ≡ take (left_by t.context i x) (set t.context.flight i (completed_entry (get_or t.context.flight i no_entry) x)) = cut t.context.flight i x lt k some rising in
+    let len : length (take (left_by t.context i x) (set t.context.flight i (completed_entry (get_or t.context.flight i no_entry) x))) ≡ left_by t.context i x =
+    omega (arith, left_within t.context.flight i x lt k some, length-take (left_by t.context i x) (set t.context.flight i (completed_entry (get_or t.context.flight i no_entry) x)), length-set t.context.flight i (completed_entry (get_or t.context.flight i no_entry) x)) in
+    ap (λ (fs : List Entry). record t { context = record t.context { flight = fs }; renamed = min t.renamed (length fs) }) front
+    ∙ ap (λ m. record t { context = record t.context { flight = take (left_by t.context i x) (set t.context.flight i (completed_entry (get_or t.context.flight i no_entry) x)) }; renamed = min t.renamed m }) len
+    ∙ ap (λ (fs : List Entry). record t { context = record t.context { flight = fs }; renamed = min t.renamed (left_by t.context i x) }) (sym (complete_take t.context.flight i x no_entry lt))

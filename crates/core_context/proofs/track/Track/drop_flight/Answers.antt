@@ -1,0 +1,19 @@
+use Rattle.std.proofs.Common.{List, ap, sym, refl, ◌∙◌, arith}
+use Rattle.circular_buffer.specs.Buffer.{Buffer}
+use Rattle.core_view.specs.declared.entry.Entry.{Entry}
+use Rattle.core_view.specs.Queues.{loads_of, stores_of}
+use Rattle.load_store_queue.specs.Queues.{Queues, load_stamp, store_stamp}
+use Rattle.core_context.proofs.Tracks.{below_zero}
+use Rattle.core_context.proofs.track.Track.drop_flight.Goals as goal
+
+pub returns : goal.returns
+returns g c = rw (← c.self.view_is, c.cut_from.ensures.below, c.drop_from.ensures, below_zero (λ (e : Entry). e.stamp) c.self.inside.flight.items) refl
+
+pub invariant_of-self : goal.invariant_of-self
+invariant_of-self g c =
+    let left = sym (ap (λ (b : Buffer Entry). b.items) c.cut_from.ensures.below ∙ below_zero (λ (e : Entry). e.stamp) c.self.inside.flight.items) in (
+      c.self.invariant.0,
+      omega arith,
+      ap (λ (q : Queues). q.loads) c.drop_from.ensures ∙ below_zero load_stamp c.self.inside.queue.loads ∙ ap (λ (es : List Entry). loads_of es) left,
+      ap (λ (q : Queues). q.stores) c.drop_from.ensures ∙ below_zero store_stamp c.self.inside.queue.stores ∙ ap (λ (es : List Entry). stores_of es) left,
+    )

@@ -1,0 +1,41 @@
+-- Which entries may issue: a load waits where the newest older store that has completed and shares a byte with it has only some of its bytes.
+use Rattle.std.specs.Prelude.{◌≡◌, ℕ, ◌<◌, Bool, true, false, not, take, All, Option, Some, None}
+use Rattle.core_view.specs.declared.entry.Stage.TheVariants.{Queued}
+use Rattle.core_view.specs.Outcomes.{image_of}
+use Rattle.core_view.specs.Flight.{seen_of, IsSound, IsGrowing}
+use Rattle.core_view.specs.Queues.{AllRenamed}
+use Rattle.core_view.specs.View.{Context, entry_at}
+use Rattle.lawful_cycle.specs.Issue.{is_clear_on}
+use Rattle.data_flow.specs.Flow.{Flow, Waiter, is_waiter, lane, sources_at}
+use Rattle.core_context.specs.Track.{Track}
+
+-- the entry at a place may issue on the values of its sources
+abbrev pub may_issue_at : Context → ℕ → ℕ → ℕ → Bool
+may_issue_at x i a b = is_clear_on (take i x.flight) (entry_at x i).operation (entry_at x i).pc a b
+
+-- the queues of loads and stores answer what the flight says of the entry at a place
+pub record IsAnswered (x : Context) (i : ℕ) : Type 0 where
+  pub renamed : AllRenamed (take i x.flight)
+  pub growing : IsGrowing 0 x.flight
+  pub sound : IsSound (image_of x.state) (seen_of x.state) x.state.pc x.flight
+
+-- what waits under a stamp of a context is held, or let go
+abbrev pub IsMarked : Flow → ℕ → ℕ → Bool → Type 0
+IsMarked f c k held = All (λ (w : Waiter). is_waiter c k w ≡ true → w.held ≡ held) f.waiters
+
+-- nothing is held
+abbrev pub AreLetGo : Flow → Type 0
+AreLetGo f = All (λ (w : Waiter). w.held ≡ false) f.waiters
+
+-- the entry at a place has to wait for an older store, on the values of its sources, if both are there
+abbrev pub must_wait : Context → ℕ → Option (ℕ × ℕ) → Bool
+must_wait x i None = false
+must_wait x i (Some values) = not (may_issue_at x i values.0 values.1)
+
+-- each queued entry of a context is held exactly where it has to wait
+abbrev pub AreHeld : Flow → ℕ → Track → Type 0
+AreHeld f c t = (i : ℕ) → i < t.renamed → (entry_at t.context i).stage ≡ Queued → IsMarked f c (entry_at t.context i).stamp (must_wait t.context i (sources_at (lane f c) i))
+
+-- the entry of a context and stamp may issue on the values of its sources
+abbrev pub IsClear : Flow → ℕ → Track → ℕ → Type 0
+IsClear f c t k = (i a b : ℕ) → i < t.renamed → (entry_at t.context i).stamp ≡ k → sources_at (lane f c) i ≡ Some (a, b) → may_issue_at t.context i a b ≡ true

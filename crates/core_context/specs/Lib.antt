@@ -1,0 +1,11 @@
+pub mod Track
+pub mod TrackCode
+pub mod Cores
+pub mod Queued
+pub mod Issuable
+pub mod Steps
+pub mod Effects
+pub mod Heads
+pub mod NextEntry
+pub mod Renamable
+pub mod Left

@@ -1,0 +1,263 @@
+//! The events of a cycle, each on one context and the data flow.
+
+ghost use Rattle.std.specs.Prelude.{◌≡◌, ◌≢◌, ◌↔◌, ℕ, ◌+◌, ◌<◌, ◌≤◌, ◌==◌, ◌&&◌, length, take, drop, IsSome, IsTrue, IfSome, Some, None, All, Bool, true, false, map};
+ghost use Rattle.std.specs.List.{list_any};
+ghost use Rattle.core_view.specs.Outcomes.{image_of, IsSized};
+ghost use Rattle.data_flow.specs.Flow.{lane, node_at, sources_at, taken, waits_in, cut_flow, released};
+ghost use Rattle.core_view.specs.declared.entry.Stage.TheVariants.{Queued, Issued};
+ghost use Rattle.core_view.specs.Flight.{seen_of, IsSound};
+ghost use Rattle.core_view.specs.Operations.{destination_of, stops_at_fetch, is_load, is_store};
+ghost use Rattle.core_view.specs.Queues.{loads_of, stores_of};
+ghost use Rattle.core_view.specs.View.{entry_at};
+ghost use Rattle.core_context.specs.Issuable.{IsAnswered, IsMarked, AreLetGo, must_wait, AreHeld};
+ghost use Rattle.core_context.specs.Track.{is_last, retired, stopped, completed, renamed_one};
+ghost use Rattle.core_context.specs.Cores.{operands_of, AllFetched};
+ghost use Rattle.core_context.specs.Renamable.{IsRenamable};
+ghost use Rattle.core_context.specs.Steps.{retired_flow, settled_flow, completed_flow, renamed_flow, IsRemarked};
+ghost use Rattle.lawful_cycle.specs.Issue.{is_open_guess as is_open_guess_entry};
+
+use crate::track::{Track, is_open_guess, is_queued};
+use core_profile::Profile;
+use core_view::{Entry, Execution, Step};
+use data_flow::{DataFlow, Operands};
+use hart_step::Stop;
+use join_law::Ctx;
+use std::alloc::Allocator;
+
+/// The oldest entry, which is done with a step, retires.
+pub fn retire<A: Allocator>(
+    flow: &mut DataFlow<A>,
+    track: &mut Track<A>,
+    context: Ctx,
+    step: Step,
+)
+    requires some { 0 < length track.old.context.flight }
+    requires below { track.old.context.count < track.old.context.target }
+    requires sized { IsSized step.access }
+    requires known { 0 < length (lane flow.old context).nodes }
+    requires done { 0 < (node_at (lane flow.old context) 0).operands.destination → IsSome (node_at (lane flow.old context) 0).result }
+    requires idle { waits_in flow.old context (node_at (lane flow.old context) 0).operands.stamp ≡ false }
+    ensures track { track.new ≡ retired track.old step }
+    ensures flow { flow.new ≡ retired_flow flow.old context (is_last track.old.context) }
+{
+    flow.commit(context);
+    track.retire(step);
+    if track.count() == track.target() {
+        flow.cut_from(context, 0);
+    }
+}
+
+/// The oldest entry, which is done with a stop, stops the context.
+pub fn stop<A: Allocator>(
+    flow: &mut DataFlow<A>,
+    track: &mut Track<A>,
+    context: Ctx,
+    why: Stop,
+)
+    ensures track { track.new ≡ stopped track.old why }
+    ensures flow { flow.new ≡ cut_flow flow.old context 0 }
+{
+    track.stop(why);
+    flow.cut_from(context, 0);
+}
+
+/// The entry at a place completes, and cuts what it doesn't keep. Answers how many entries are cut.
+pub fn complete<A: Allocator>(
+    flow: &mut DataFlow<A>,
+    track: &mut Track<A>,
+    context: Ctx,
+    place: usize,
+    execution: Execution,
+) -> usize
+    requires place { place < length track.old.context.flight }
+    requires known { place < length (lane flow.old context).nodes }
+    requires issued { (entry_at track.old.context place).stage ≡ Issued execution }
+    requires sound { IsSound (image_of track.old.context.state) (seen_of track.old.context.state) track.old.context.state.pc track.old.context.flight }
+    ensures track { track.new ≡ completed track.old place execution }
+    ensures flow { flow.new ≡ completed_flow flow.old context place execution track.old }
+    ensures cut { result + length track.new.context.flight ≡ length track.old.context.flight }
+{
+    let before = track.len();
+    let guessed = track.entry_at(place).operation.is_guessed();
+    if let Some(value) = execution.outcome.result() {
+        flow.finish(context, place, value);
+    }
+    if let Some(stamp) = track.complete(place, execution) {
+        flow.cut_from(context, stamp);
+    }
+    if guessed {
+        settle_speculation(flow, track, context);
+    }
+    before - track.len()
+}
+
+/// The stamp of the oldest fetched entry, if it can be renamed in a cycle: it was fetched as many cycles ago as the front
+/// delay says, and each place that it needs is free.
+pub fn renamable<A: Allocator>(
+    flow: &DataFlow<A>,
+    track: &Track<A>,
+    cycle: u64,
+    profile: &Profile,
+) -> Option<u64>
+    ensures can { IfSome result (IsRenamable flow.now track.now profile.now cycle) }
+    ensures none { result ≡ None → (stamp : ℕ) → ¬ (IsRenamable flow.now track.now profile.now cycle stamp) }
+{
+    let place = track.renamed_count();
+    let entry = track.entry(place)?;
+    if place >= usize::from(profile.reorder_buffer) {
+        return None;
+    }
+    if !is_past_front(entry, cycle, profile) {
+        return None;
+    }
+    let operation = entry.operation;
+    if operation.destination().index() != 0 && flow.free_count() == 0 {
+        return None;
+    }
+    if operation.is_load() && !track.has_load_place() {
+        return None;
+    }
+    if operation.is_store() && !track.has_store_place() {
+        return None;
+    }
+    if !operation.stops_at_fetch() && !flow.has_place() {
+        return None;
+    }
+    Some(entry.stamp)
+}
+
+/// Whether an entry was fetched as many cycles ago as the front delay says.
+fn is_past_front(entry: &Entry, cycle: u64, profile: &Profile) -> bool
+    ensures { IsTrue result ↔ (entry.now.fetched + profile.now.front_delay ≤ cycle) }
+{
+    match cycle.checked_sub(u64::from(profile.front_delay)) {
+        Some(latest) => entry.fetched <= latest,
+        None => false,
+    }
+}
+
+/// The oldest fetched entry is renamed in a cycle.
+pub fn rename<A: Allocator>(
+    flow: &mut DataFlow<A>,
+    track: &mut Track<A>,
+    context: Ctx,
+    cycle: u64,
+)
+    requires some { track.old.renamed < length track.old.context.flight }
+    requires younger { All (λ n. n.operands.stamp < (entry_at track.old.context track.old.renamed).stamp) (lane flow.old context).nodes }
+    requires room { length (lane flow.old context).nodes < (lane flow.old context).room }
+    requires free { 0 < destination_of (entry_at track.old.context track.old.renamed).operation → taken flow.old < flow.old.extra }
+    requires fresh { waits_in flow.old context (entry_at track.old.context track.old.renamed).stamp ≡ false }
+    requires place { stops_at_fetch (entry_at track.old.context track.old.renamed).operation ≡ false → length flow.old.waiters < flow.old.places }
+    requires fetched { AllFetched (drop track.old.renamed track.old.context.flight) }
+    requires load { is_load (entry_at track.old.context track.old.renamed).operation ≡ true → length (loads_of track.old.context.flight) < track.old.load_places }
+    requires store { is_store (entry_at track.old.context track.old.renamed).operation ≡ true → length (stores_of track.old.context.flight) < track.old.store_places }
+    ensures track { track.new ≡ renamed_one cycle track.old }
+    ensures flow { flow.new ≡ renamed_flow flow.old context (entry_at track.old.context track.old.renamed) (list_any is_open_guess_entry (take track.old.renamed track.old.context.flight)) }
+{
+    let entry = track.entry_at(track.renamed_count());
+    let speculative = track.has_uncompleted_guess();
+    flow.rename(context, operands(&entry));
+    if !entry.operation.stops_at_fetch() {
+        flow.wait(context, entry.operation.is_guessed(), speculative);
+    }
+    track.rename(cycle);
+}
+
+/// The registers that an entry names.
+fn operands(entry: &Entry) -> Operands
+    ensures { result ≡ operands_of entry.now }
+{
+    Operands {
+        stamp: entry.stamp,
+        destination: entry.operation.destination(),
+        first: entry.operation.first_source(),
+        second: entry.operation.second_source(),
+    }
+}
+
+/// Tells the queue of the entries that are behind no guessed entry any more: those up to the oldest guessed entry that
+/// has not completed.
+fn settle_speculation<A: Allocator>(flow: &mut DataFlow<A>, track: &Track<A>, context: Ctx)
+    ensures { flow.new ≡ settled_flow flow.old context track.now }
+{
+    for place in 0..track.renamed_count() {
+        let entry = track.entry_at(place);
+        if is_queued(&entry) {
+            flow.speculate(context, entry.stamp, false);
+        }
+        if is_open_guess(&entry) {
+            return;
+        }
+    }
+}
+
+/// Lets all loads go, where one may be held.
+pub fn release<A: Allocator>(flow: &mut DataFlow<A>, holds: bool)
+    requires { holds ≡ false → AreLetGo flow.old }
+    ensures { flow.new ≡ record flow.old { waiters = map released flow.old.waiters } }
+{
+    if holds {
+        flow.release();
+    }
+}
+
+/// Tells the queue which loads of a context, which are all let go, have to wait for an older store. Answers whether one
+/// has to.
+pub fn hold_loads<A: Allocator>(
+    flow: &mut DataFlow<A>,
+    track: &Track<A>,
+    context: Ctx,
+) -> bool
+    requires nodes { length (lane flow.old context).nodes ≡ track.now.renamed }
+    requires answered { (i : ℕ) → i < track.now.renamed → IsAnswered track.now.context i }
+    requires let_go { (k : ℕ) → IsMarked flow.old context k false }
+    ensures flow { IsRemarked flow.old flow.new }
+    ensures held { AreHeld flow.new context track.now }
+    ensures others { (d k : ℕ) (b : Bool) → d ≢ context → IsMarked flow.old d k b → IsMarked flow.new d k b }
+    ensures none { result ≡ false → flow.new ≡ flow.old }
+{
+    if track.has_no_store() {
+        return false;
+    }
+    let mut holds = false;
+    for place in 0..track.renamed_count() {
+        let held = hold_load(flow, track, context, place);
+        holds = holds || held;
+    }
+    holds
+}
+
+/// Holds the entry of a context at a place, which is let go, if it is a queued load that has the values of its sources
+/// and has to wait for an older store. Answers whether it has to.
+fn hold_load<A: Allocator>(
+    flow: &mut DataFlow<A>,
+    track: &Track<A>,
+    context: Ctx,
+    place: usize,
+) -> bool
+    requires place { place < track.now.renamed }
+    requires nodes { length (lane flow.old context).nodes ≡ track.now.renamed }
+    requires answered { IsAnswered track.now.context place }
+    requires let_go { IsMarked flow.old context (entry_at track.now.context place).stamp false }
+    ensures flow { IsRemarked flow.old flow.new }
+    ensures held { (entry_at track.now.context place).stage ≡ Queued →
+        IsMarked flow.new context (entry_at track.now.context place).stamp (must_wait track.now.context place (sources_at (lane flow.old context) place)) }
+    ensures others { (d k : ℕ) (b : Bool) → (k ≡ (entry_at track.now.context place).stamp → d ≢ context) → IsMarked flow.old d k b → IsMarked flow.new d k b }
+    ensures none { result ≡ false → flow.new ≡ flow.old }
+{
+    // How many are renamed is at most how many there are.
+    let _renamed = track.renamed_count();
+    if !track.is_queued_load(place) {
+        return false;
+    }
+    let Some((first, second)) = flow.sources(context, place) else {
+        return false;
+    };
+    if !track.must_wait(place, first, second) {
+        return false;
+    }
+    let entry = track.entry_at(place);
+    flow.hold(context, entry.stamp, true);
+    true
+}

@@ -1,0 +1,11 @@
+//! One context of an out-of-order core, and the events of a cycle on it and the data flow.
+#![tactic(auto)]
+
+pub mod events;
+mod fetching;
+mod lags;
+mod track;
+
+pub use fetching::next_entry;
+pub use lags::lag_of;
+pub use track::{Performed, Track};
