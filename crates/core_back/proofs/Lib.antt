@@ -12,5 +12,6 @@ pub mod Renamable
 pub mod RetiredFronts
 pub mod RetireTurns
 pub mod CompletedCount
+pub mod Options
 pub mod Laws
 pub mod IssueViews

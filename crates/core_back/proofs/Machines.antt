@@ -4,7 +4,7 @@ use Rattle.std.specs.Prelude.{set, ◌==◌}
 use Rattle.std.proofs.lemmas.Bool.{cases_eq}
 use Rattle.std.proofs.lemmas.Bool.Decides.{nat_tests}
 use Rattle.std.specs.Arc.{arc_value}
-use Rattle.std.proofs.lemmas.List.{get_or-map, get_or_read, get_or_default, get_or-set_same, get_or-set_other, length-set, length-map, map-set}
+use Rattle.std.proofs.lemmas.List.{get_or-map, get_or_read, get_or_default, get_or-set_same, get_or-set_other, length-set, length-map, map-set, set-get_or}
 use Rattle.origin_set.specs.Start.{start}
 use Rattle.core_profile.specs.declared.profile.Profile.{Profile}
 use Rattle.core_view.specs.View.{Context, IsLive}
@@ -12,9 +12,10 @@ use Rattle.core_back.specs.declared.machine.Machine.TheInside.{Inside}
 use Rattle.data_flow.specs.Flow.{Flow}
 use Rattle.core_context.specs.Track.{Track}
 use Rattle.core_context.specs.Cores.{IsCore}
-use Rattle.core_back.specs.Machine.{Machine, context_at, with_context, with_fetched, no_track, no_context}
+use Rattle.core_back.specs.Machine.{Machine, context_at, with_context, with_contexts, with_fetched, no_track, no_context}
 use Rattle.core_back.specs.Shown.{machine_of, IsMachine, HasRoom}
-use Rattle.core_context.proofs.Laws.{IsLeft, left_core, KeepsSizes}
+use Rattle.core_context.specs.Left.{IsIdleCore, IsLeft, KeepsSizes, IsEventAt}
+use Rattle.core_context.proofs.Laws.{left_core}
 
 -- the room that there is stays
 pub room_after : (p : Profile) (f g : Flow) (ts : List Track) (c : ℕ) (u : Track) → HasRoom p f ts → c < length ts → g.extra ≡ f.extra → g.places ≡ f.places
@@ -70,6 +71,17 @@ module _ {A : Type 0} where
   pub idle_core : (m : Inside A) (now : Machine) (c : ℕ) (t : Track) → machine_of m ≡ now → now.names ≡ [] → At m now c t → IsCore (start (arc_value m.origins.c0) c) m.stamp m.profile.reorder_buffer m.flow [] c t
   idle_core m now c t shows idle at_c = subst (λ names. IsCore (start (arc_value m.origins.c0) c) m.stamp m.profile.reorder_buffer m.flow names c t) (idle_names m now shows idle) at_c.core
 
+  -- so its track and the data flow stand for it
+  pub is_idle : (m : Inside A) (now : Machine) (c : ℕ) (t : Track) → machine_of m ≡ now → now.names ≡ [] → c < 8 → At m now c t → IsIdleCore m.flow c t
+  is_idle m now c t shows idle lt at_c = record {
+    start = start (arc_value m.origins.c0) c;
+    stamp = m.stamp;
+    reorder = m.profile.reorder_buffer;
+    is_context = lt;
+    has_lane = at_c.in_lanes;
+    core = idle_core m now c t shows idle at_c;
+  }
+
   -- after an event of the context c, each context is a core
   pub cores_after : (m : Inside A) (now : Machine) (c : ℕ) (u : Track) (g : Flow) → machine_of m ≡ now → IsMachine m → now.names ≡ [] → c < 8
       → IsCore (start (arc_value m.origins.c0) c) m.stamp m.profile.reorder_buffer g [] c u → ((d : ℕ) → d ≢ c → IsLeft m.flow g d)
@@ -112,6 +124,12 @@ module _ {A : Type 0} where
         room = rw (profile, flow, tracks) (room_after m.profile m.flow g m.tracks.items c u ok.room (omega (arith, lt, ok.tracks)) sizes.extra sizes.places loads stores);
       }
 
+  pub machine_after_event : (m n : Inside A) (now : Machine) (c k : ℕ) (t u : Track) (g : Flow) → machine_of m ≡ now → IsMachine m → now.names ≡ [] → c < 8 → At m now c t → IsEventAt c m.flow g t u
+      → k ≡ c → n.origins ≡ m.origins → n.flow ≡ g → n.tracks.items ≡ set m.tracks.items k u → n.selected ≡ m.selected → n.cycle ≡ m.cycle → n.stamp ≡ m.stamp → n.fetch_room ≡ m.fetch_room → n.profile ≡ m.profile → n.holds ≡ m.holds → IsMachine n
+  machine_after_event m n now c k t u g shows ok idle lt h event =
+      machine_after m n now c k u g shows ok idle lt (event.kept (start (arc_value m.origins.c0) c) m.stamp m.profile.reorder_buffer (idle_core m now c t shows idle h)) event.others event.sizes
+      (event.loads ∙ ap (λ (v : Track). v.load_places) h.track) (event.stores ∙ ap (λ (v : Track). v.store_places) h.track)
+
   -- and what it shows
   pub shown_after : (m : Inside A) (now : Machine) (c k : ℕ) (u : Track) (x : Context) → machine_of m ≡ now → k ≡ c → u.context ≡ x
       → (let v : Machine = record {
@@ -121,6 +139,16 @@ module _ {A : Type 0} where
         fetch_room = m.fetch_room;
       } in v) ≡ with_context now c x
   shown_after m now c k u x shows same context = rw (same, map-set (λ (t : Track). t.context) m.tracks.items c u, context, ← shows) refl
+
+  -- it shows what it showed, where the context does
+  pub shown_same : (m : Inside A) (now : Machine) (c k : ℕ) (u : Track) → machine_of m ≡ now → k ≡ c → u.context ≡ context_at now c
+      → (let v : Machine = record {
+        origin = arc_value m.origins.c0;
+        view = record { profile = m.profile; cycle = m.cycle; stamp = m.stamp; contexts = map (λ (t : Track). t.context) (set m.tracks.items k u) };
+        names = m.selected.items;
+        fetch_room = m.fetch_room;
+      } in v) ≡ now
+  shown_same m now c k u shows same context = shown_after m now c k u (context_at now c) shows same context ∙ ap (with_contexts now) (set-get_or now.view.contexts c no_context)
 
   -- how many entries a context has after an event
   pub shown_length : (m : Inside A) (c k : ℕ) (u : Track) → c < length m.tracks.items → k ≡ c → (cut before : ℕ) → cut + length u.context.flight ≡ before

@@ -25,7 +25,7 @@ use crate::first::{first_flow, first_tracks, marks_of, origins_of};
 use arrayvec::ArrayVec;
 use branch_predict::Guess;
 use checkpoint::Mark;
-use core_context::{Track, events, lag_of, next_entry};
+use core_context::{Track, events, fetch, lag_of};
 use core_profile::Profile;
 use core_view::{Entry, EntryId, Execution, Issue, Outcome, Status, Step};
 use data_flow::DataFlow;
@@ -333,9 +333,7 @@ impl<A: Allocator> Machine<A> {
         ensures idle { self.new.names ≡ [] }
     {
         let track = &mut self.tracks[context.index()];
-        let stamp = events::renamable(&self.flow, track, self.cycle, &self.profile)?;
-        events::rename(&mut self.flow, track, context, self.cycle);
-        Some(stamp)
+        events::rename(&mut self.flow, track, context, self.cycle, &self.profile)
     }
 
     /// How many entries of a context are fetched and not yet renamed.
@@ -413,12 +411,8 @@ impl<A: Allocator> Machine<A> {
         ensures keeps { G.may_answer guess.new ≡ G.may_answer guess.old }
     {
         let track = &mut self.tracks[context.index()];
-        if !track.can_fetch() {
-            return None;
-        }
         let stamp = self.stamp;
-        let (entry, ends) = next_entry(track, context, guess, stamp, self.cycle);
-        track.push(entry);
+        let ends = fetch(track, context, guess, stamp, self.cycle)?;
         self.stamp += 1;
         self.fetch_room -= 1;
         Some(Fetch { stamp, ends })

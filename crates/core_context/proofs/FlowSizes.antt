@@ -14,7 +14,7 @@ use Rattle.core_context.proofs.Settles.{contexts-settled, let_go-settled}
 use Rattle.core_context.proofs.OtherContexts.{count-with_lane, count-cut_flow}
 use Rattle.core_context.specs.Left.{KeepsSizes}
 
-sizes_same : (f : Flow) → KeepsSizes f f
+pub sizes_same : (f : Flow) → KeepsSizes f f
 sizes_same f = record { lanes = refl; extra = refl; places = refl; contexts = λ all. all; let_go = λ all. all }
 
 sizes_twice : (f g h : Flow) → KeepsSizes f g → KeepsSizes g h → KeepsSizes f h

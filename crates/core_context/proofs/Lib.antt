@@ -19,4 +19,5 @@ pub mod WaitingCounts
 pub mod Issues
 pub mod SourcesSeen
 pub mod StoreQueueReads
+pub mod EventsKept
 pub mod Laws

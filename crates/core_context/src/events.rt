@@ -4,7 +4,8 @@ ghost use Rattle.std.specs.Prelude.{◌≡◌, ◌≢◌, ◌↔◌, ℕ, ◌+�
 ghost use Rattle.std.specs.List.{list_any};
 ghost use Rattle.core_view.specs.Outcomes.{image_of, IsSized};
 ghost use Rattle.data_flow.specs.Flow.{lane, node_at, sources_at, taken, waits_in, cut_flow, released};
-ghost use Rattle.core_view.specs.declared.entry.Stage.TheVariants.{Queued, Issued};
+ghost use Rattle.core_view.specs.declared.entry.Stage.TheVariants.{Fetched, Queued, Issued};
+ghost use Rattle.core_view.specs.declared.outcome.Outcome.TheVariants.{Goes, Stops};
 ghost use Rattle.core_view.specs.Flight.{seen_of, IsSound};
 ghost use Rattle.core_view.specs.Operations.{destination_of, stops_at_fetch, is_load, is_store};
 ghost use Rattle.core_view.specs.Queues.{loads_of, stores_of};
@@ -12,6 +13,8 @@ ghost use Rattle.core_view.specs.View.{entry_at};
 ghost use Rattle.core_context.specs.Issuable.{IsAnswered, IsMarked, AreLetGo, must_wait, AreHeld};
 ghost use Rattle.core_context.specs.Track.{is_last, retired, stopped, completed, renamed_one};
 ghost use Rattle.core_context.specs.Cores.{operands_of, AllFetched};
+ghost use Rattle.core_context.specs.Heads.{first_done};
+ghost use Rattle.core_context.specs.Left.{IsIdleCore, IsEventAt};
 ghost use Rattle.core_context.specs.Renamable.{IsRenamable};
 ghost use Rattle.core_context.specs.Steps.{retired_flow, settled_flow, completed_flow, renamed_flow, IsRemarked};
 ghost use Rattle.lawful_cycle.specs.Issue.{is_open_guess as is_open_guess_entry};
@@ -31,14 +34,10 @@ pub fn retire<A: Allocator>(
     context: Ctx,
     step: Step,
 )
-    requires some { 0 < length track.old.context.flight }
-    requires below { track.old.context.count < track.old.context.target }
-    requires sized { IsSized step.access }
-    requires known { 0 < length (lane flow.old context).nodes }
-    requires done { 0 < (node_at (lane flow.old context) 0).operands.destination → IsSome (node_at (lane flow.old context) 0).result }
-    requires idle { waits_in flow.old context (node_at (lane flow.old context) 0).operands.stamp ≡ false }
+    requires core { IsIdleCore flow.old context track.old }
+    requires done { first_done track.old.context.flight ≡ Some (Goes step) }
     ensures track { track.new ≡ retired track.old step }
-    ensures flow { flow.new ≡ retired_flow flow.old context (is_last track.old.context) }
+    ensures event { IsEventAt context flow.old flow.new track.old track.new }
 {
     flow.commit(context);
     track.retire(step);
@@ -54,14 +53,17 @@ pub fn stop<A: Allocator>(
     context: Ctx,
     why: Stop,
 )
+    requires core { IsIdleCore flow.old context track.old }
+    requires done { first_done track.old.context.flight ≡ Some (Stops why) }
     ensures track { track.new ≡ stopped track.old why }
-    ensures flow { flow.new ≡ cut_flow flow.old context 0 }
+    ensures event { IsEventAt context flow.old flow.new track.old track.new }
 {
     track.stop(why);
     flow.cut_from(context, 0);
 }
 
-/// The entry at a place completes, and cuts what it doesn't keep. Answers how many entries are cut.
+/// The entry at a place, which is issued, completes, and squashes what it doesn't keep. Returns how many entries are
+/// squashed.
 pub fn complete<A: Allocator>(
     flow: &mut DataFlow<A>,
     track: &mut Track<A>,
@@ -69,15 +71,33 @@ pub fn complete<A: Allocator>(
     place: usize,
     execution: Execution,
 ) -> usize
+    requires core { IsIdleCore flow.old context track.old }
+    requires place { place < length track.old.context.flight }
+    requires issued { (entry_at track.old.context place).stage ≡ Issued execution }
+    ensures track { track.new ≡ completed track.old place execution }
+    ensures event { IsEventAt context flow.old flow.new track.old track.new }
+    ensures cut { result + length track.new.context.flight ≡ length track.old.context.flight }
+{
+    let before = track.len();
+    complete_entry(flow, track, context, place, execution);
+    before - track.len()
+}
+
+/// The same, where the data flow has the entry.
+fn complete_entry<A: Allocator>(
+    flow: &mut DataFlow<A>,
+    track: &mut Track<A>,
+    context: Ctx,
+    place: usize,
+    execution: Execution,
+)
     requires place { place < length track.old.context.flight }
     requires known { place < length (lane flow.old context).nodes }
     requires issued { (entry_at track.old.context place).stage ≡ Issued execution }
     requires sound { IsSound (image_of track.old.context.state) (seen_of track.old.context.state) track.old.context.state.pc track.old.context.flight }
     ensures track { track.new ≡ completed track.old place execution }
     ensures flow { flow.new ≡ completed_flow flow.old context place execution track.old }
-    ensures cut { result + length track.new.context.flight ≡ length track.old.context.flight }
 {
-    let before = track.len();
     let guessed = track.entry_at(place).operation.is_guessed();
     if let Some(value) = execution.outcome.result() {
         flow.finish(context, place, value);
@@ -88,7 +108,6 @@ pub fn complete<A: Allocator>(
     if guessed {
         settle_speculation(flow, track, context);
     }
-    before - track.len()
 }
 
 /// The stamp of the oldest fetched entry, if it can be renamed in a cycle: it was fetched as many cycles ago as the front
@@ -136,8 +155,30 @@ fn is_past_front(entry: &Entry, cycle: u64, profile: &Profile) -> bool
     }
 }
 
-/// The oldest fetched entry is renamed in a cycle.
+/// The oldest fetched entry is renamed in a cycle, if it can be. Returns its stamp.
 pub fn rename<A: Allocator>(
+    flow: &mut DataFlow<A>,
+    track: &mut Track<A>,
+    context: Ctx,
+    cycle: u64,
+    profile: &Profile,
+) -> Option<u64>
+    requires core { IsIdleCore flow.old context track.old }
+    requires room { (lane flow.old context).room ≡ profile.now.reorder_buffer }
+    ensures none { result ≡ None → (flow.new ≡ flow.old) × (track.new ≡ track.old) }
+    ensures cannot { result ≡ None → (stamp : ℕ) → ¬ (IsRenamable flow.old track.old profile.now cycle stamp) }
+    ensures can { IfSome result (IsRenamable flow.old track.old profile.now cycle) }
+    ensures fetched { IfSome result (λ _. (entry_at track.old.context track.old.renamed).stage ≡ Fetched) }
+    ensures track { IfSome result (λ _. track.new ≡ renamed_one cycle track.old) }
+    ensures event { IsEventAt context flow.old flow.new track.old track.new }
+{
+    let stamp = renamable(flow, track, cycle, profile)?;
+    rename_oldest(flow, track, context, cycle);
+    Some(stamp)
+}
+
+/// The same, where each place that the entry needs is free.
+fn rename_oldest<A: Allocator>(
     flow: &mut DataFlow<A>,
     track: &mut Track<A>,
     context: Ctx,

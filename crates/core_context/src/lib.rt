@@ -6,6 +6,6 @@ mod fetching;
 mod lags;
 mod track;
 
-pub use fetching::next_entry;
+pub use fetching::fetch;
 pub use lags::lag_of;
 pub use track::{Performed, Track};

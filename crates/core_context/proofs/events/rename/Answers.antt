@@ -1,40 +1,24 @@
-use Rattle.std.proofs.Common.{Bool, ◌<◌, ap, sym, subst, ◌∙◌, length}
-use Rattle.core_view.specs.declared.entry.Entry.{Entry}
-use Rattle.core_view.specs.View.{entry_at}
-use Rattle.core_view.specs.Operations.{stops_at_fetch}
-use Rattle.data_flow.specs.declared.operands.Operands.{Operands}
-use Rattle.data_flow.specs.Flow.{Flow, waits_in}
-use Rattle.core_context.specs.Steps.{renamed_flow}
-use Rattle.core_context.proofs.WaiterMarks.{newest_fresh, renamed_waits, renamed_stops}
+use Rattle.core_context.specs.Left.{IsEventAt}
+use Rattle.core_context.proofs.Renames.{nodes_older, first_idle, first_fetched}
+use Rattle.core_context.proofs.EventsKept.{rename_kept, nothing_kept}
 use Rattle.core_context.proofs.events.rename.Goals as goal
-use Rattle.core_context.proofs.events.rename.Goals.{then-not-stops_at_fetch, else-not-stops_at_fetch}
 
-pub wait-requires-clause-fresh : goal.wait-requires-clause-fresh
-wait-requires-clause-fresh g c =
-    let here = c.entry_at-entry.ensures ∙ ap (λ i. entry_at c.args.track.now.context i) c.renamed_count.ensures.value in
-    let stamp = ap (λ (o : Operands). o.stamp) c.operands.ensures ∙ ap (λ (e : Entry). e.stamp) here in
-    newest_fresh c.args.flow.now c.rename.new.self c.args.context c.operands.result c.requires.room c.rename.ensures (ap (waits_in c.args.flow.now c.args.context) stamp ∙ c.requires.fresh)
+pub rename_oldest-requires-clause-younger : goal.rename_oldest-requires-clause-younger
+rename_oldest-requires-clause-younger g c = nodes_older c.requires.core.core c.in_ok-stamp.ensures.can.some
 
-pub wait-requires-clause-room : goal.wait-requires-clause-room
-wait-requires-clause-room g c =
-    let here = c.entry_at-entry.ensures ∙ ap (λ i. entry_at c.args.track.now.context i) c.renamed_count.ensures.value in
-    let stops = sym (ap (λ (e : Entry). stops_at_fetch e.operation) here) ∙ sym c.stops_at_fetch.ensures ∙ c.if-not-stops_at_fetch.true in
-    let room = c.requires.place stops in
-    subst (λ (f : Flow). length f.waiters < f.places) (sym c.rename.ensures) room
+pub rename_oldest-requires-clause-fresh : goal.rename_oldest-requires-clause-fresh
+rename_oldest-requires-clause-fresh g c = first_idle c.requires.core.core c.in_ok-stamp.ensures.can.some
 
-pub returns-clause-flow : goal.returns-clause-flow
-returns-clause-flow g c =
-    let here = c.entry_at-entry.ensures ∙ ap (λ i. entry_at c.args.track.now.context i) c.renamed_count.ensures.value in
-    let f = c.args.flow.now in
-    let e = c.entry_at-entry.result in
-    let r = c.args.track.now in
-    let spec = c.has_uncompleted_guess-speculative.result in
-    elim c.if-not-stops_at_fetch.branch [
-      | then-not-stops_at_fetch w ↦
-          renamed_waits f c.rename.new.self c.if-not-stops_at_fetch.flow c.args.context e c.operands.result spec w.is_guessed.result c.operands.ensures c.requires.room c.rename.ensures (sym c.stops_at_fetch.ensures ∙ w.if-not-stops_at_fetch.true) w.is_guessed.ensures (w.flow-is ∙ w.wait.ensures)
-          ∙ ap (λ (x : Entry). renamed_flow f c.args.context x spec) here
-      | else-not-stops_at_fetch w ↦
-          renamed_stops f c.rename.new.self c.if-not-stops_at_fetch.flow c.args.context e c.operands.result spec c.operands.ensures c.rename.ensures (sym c.stops_at_fetch.ensures ∙ w.if-not-stops_at_fetch.false) w.flow-is
-          ∙ ap (λ (x : Entry). renamed_flow f c.args.context x spec) here
-    ]
-    ∙ ap (λ (b : Bool). renamed_flow f c.args.context (entry_at r.context r.renamed) b) c.has_uncompleted_guess-speculative.ensures
+pub rename_oldest-requires-clause-fetched : goal.rename_oldest-requires-clause-fetched
+rename_oldest-requires-clause-fetched g c = c.requires.core.core.are_fetched
+
+pub returns-clause-fetched : goal.returns-clause-fetched
+returns-clause-fetched g c = first_fetched c.requires.core.core c.in_ok-stamp.ensures.can.some
+
+pub returns-clause-event : goal.returns-clause-event
+returns-clause-event g c =
+    let r = c.in_ok-stamp.ensures.can in
+    rw (c.rename_oldest.ensures.track, c.rename_oldest.ensures.flow) (rename_kept c.args.flow.now c.args.context c.args.track.now c.args.cycle c.args.profile.now.reorder_buffer c.requires.core.is_context c.requires.core.has_lane r.some r.fits c.requires.room)
+
+pub returns-in_err-stamp-clause-event : goal.returns-in_err-stamp-clause-event
+returns-in_err-stamp-clause-event g c = nothing_kept c.args.flow.now c.args.context c.args.track.now

@@ -5,13 +5,12 @@ use Rattle.origin_set.specs.Start.{start}
 use Rattle.core_view.specs.declared.outcome.Outcome.TheVariants.{Goes}
 use Rattle.core_view.specs.View.{Context, entry_at}
 use Rattle.core_view.specs.Events.{retire_event}
-use Rattle.core_context.specs.Track.{Track, is_last}
-use Rattle.core_context.specs.Steps.{retired_flow}
+use Rattle.core_context.specs.Track.{Track}
 use Rattle.core_back.specs.Machine.{context_at}
 use Rattle.core_context.specs.Heads.{first_done}
-use Rattle.core_context.proofs.Laws.{retired_flow_left, sizes-retired_flow, is_first_done, retire_core, oldest_known, oldest_done, oldest_idle, oldest_below, oldest_sized}
+use Rattle.core_context.proofs.Laws.{is_first_done}
 use Rattle.core_back.proofs.InFlight.{in_flight_after, retire_fewer}
-use Rattle.core_back.proofs.Machines.{at_context, idle_core, machine_after, shown_after}
+use Rattle.core_back.proofs.Machines.{at_context, is_idle, machine_after_event, shown_after}
 use Rattle.core_back.proofs.machine.Machine.retire.Goals as goal
 
 pub entry_at-oldest-requires : goal.entry_at-oldest-requires
@@ -19,61 +18,31 @@ entry_at-oldest-requires g c =
     let h = at_context c.self.inside c.args.self.now c.args.context c.index.result c.index_mut-track.result.now c.self.view_is c.self.invariant (omega (arith, c.index.ensures)) c.index.ensures.value c.index_mut-track.ensures.value in
     (is_first_done c.index_mut-track.result.now.context.flight (Goes c.args.step) (ap (λ (x : Context). first_done x.flight) h.context ∙ c.requires.done)).some
 
-pub retire-requires-clause-below : goal.retire-requires-clause-below
-retire-requires-clause-below g c =
+pub retire-requires-clause-core : goal.retire-requires-clause-core
+retire-requires-clause-core g c =
     let h = at_context c.self.inside c.args.self.now c.args.context c.index.result c.index_mut-track.result.now c.self.view_is c.self.invariant (omega (arith, c.index.ensures)) c.index.ensures.value c.index_mut-track.ensures.value in
-    let core = idle_core c.self.inside c.args.self.now c.args.context c.index_mut-track.result.now c.self.view_is c.requires.idle h in
-    let d = is_first_done c.index_mut-track.result.now.context.flight (Goes c.args.step) (ap (λ (x : Context). first_done x.flight) h.context ∙ c.requires.done) in
-    oldest_below (start (arc_value c.self.inside.origins.c0) c.args.context) c.self.inside.stamp c.self.inside.profile.reorder_buffer c.self.inside.flow c.args.context c.index_mut-track.result.now d.execution c.args.step core d.some
-
-pub retire-requires-clause-sized : goal.retire-requires-clause-sized
-retire-requires-clause-sized g c =
-    let h = at_context c.self.inside c.args.self.now c.args.context c.index.result c.index_mut-track.result.now c.self.view_is c.self.invariant (omega (arith, c.index.ensures)) c.index.ensures.value c.index_mut-track.ensures.value in
-    let core = idle_core c.self.inside c.args.self.now c.args.context c.index_mut-track.result.now c.self.view_is c.requires.idle h in
-    let d = is_first_done c.index_mut-track.result.now.context.flight (Goes c.args.step) (ap (λ (x : Context). first_done x.flight) h.context ∙ c.requires.done) in
-    oldest_sized (start (arc_value c.self.inside.origins.c0) c.args.context) c.self.inside.stamp c.self.inside.profile.reorder_buffer c.self.inside.flow c.args.context c.index_mut-track.result.now d.execution c.args.step core d.some d.stage d.outcome
-
-pub retire-requires-clause-known : goal.retire-requires-clause-known
-retire-requires-clause-known g c =
-    let h = at_context c.self.inside c.args.self.now c.args.context c.index.result c.index_mut-track.result.now c.self.view_is c.self.invariant (omega (arith, c.index.ensures)) c.index.ensures.value c.index_mut-track.ensures.value in
-    let core = idle_core c.self.inside c.args.self.now c.args.context c.index_mut-track.result.now c.self.view_is c.requires.idle h in
-    let d = is_first_done c.index_mut-track.result.now.context.flight (Goes c.args.step) (ap (λ (x : Context). first_done x.flight) h.context ∙ c.requires.done) in
-    oldest_known (start (arc_value c.self.inside.origins.c0) c.args.context) c.self.inside.stamp c.self.inside.profile.reorder_buffer c.self.inside.flow c.args.context c.index_mut-track.result.now d.execution c.args.step core d.some d.stage
+    is_idle c.self.inside c.args.self.now c.args.context c.index_mut-track.result.now c.self.view_is c.requires.idle (omega (arith, c.index.ensures)) h
 
 pub retire-requires-clause-done : goal.retire-requires-clause-done
 retire-requires-clause-done g c =
     let h = at_context c.self.inside c.args.self.now c.args.context c.index.result c.index_mut-track.result.now c.self.view_is c.self.invariant (omega (arith, c.index.ensures)) c.index.ensures.value c.index_mut-track.ensures.value in
-    let core = idle_core c.self.inside c.args.self.now c.args.context c.index_mut-track.result.now c.self.view_is c.requires.idle h in
-    let d = is_first_done c.index_mut-track.result.now.context.flight (Goes c.args.step) (ap (λ (x : Context). first_done x.flight) h.context ∙ c.requires.done) in
-    oldest_done (start (arc_value c.self.inside.origins.c0) c.args.context) c.self.inside.stamp c.self.inside.profile.reorder_buffer c.self.inside.flow c.args.context c.index_mut-track.result.now d.execution c.args.step core d.some d.stage d.outcome
-
-pub retire-requires-clause-idle : goal.retire-requires-clause-idle
-retire-requires-clause-idle g c =
-    let h = at_context c.self.inside c.args.self.now c.args.context c.index.result c.index_mut-track.result.now c.self.view_is c.self.invariant (omega (arith, c.index.ensures)) c.index.ensures.value c.index_mut-track.ensures.value in
-    let core = idle_core c.self.inside c.args.self.now c.args.context c.index_mut-track.result.now c.self.view_is c.requires.idle h in
-    let d = is_first_done c.index_mut-track.result.now.context.flight (Goes c.args.step) (ap (λ (x : Context). first_done x.flight) h.context ∙ c.requires.done) in
-    oldest_idle (start (arc_value c.self.inside.origins.c0) c.args.context) c.self.inside.stamp c.self.inside.profile.reorder_buffer c.self.inside.flow c.args.context c.index_mut-track.result.now d.execution c.args.step core d.some d.stage
+    ap (λ (x : Context). first_done x.flight) h.context ∙ c.requires.done
 
 pub invariant_of-self : goal.invariant_of-self
 invariant_of-self g c =
     let h = at_context c.self.inside c.args.self.now c.args.context c.index.result c.index_mut-track.result.now c.self.view_is c.self.invariant (omega (arith, c.index.ensures)) c.index.ensures.value c.index_mut-track.ensures.value in
-    let core = idle_core c.self.inside c.args.self.now c.args.context c.index_mut-track.result.now c.self.view_is c.requires.idle h in
-    let d = is_first_done c.index_mut-track.result.now.context.flight (Goes c.args.step) (ap (λ (x : Context). first_done x.flight) h.context ∙ c.requires.done) in
-    machine_after c.self.inside _ c.args.self.now c.args.context c.index.result _ (retired_flow c.self.inside.flow c.args.context (is_last c.index_mut-track.result.now.context)) c.self.view_is c.self.invariant c.requires.idle (omega (arith, c.index.ensures))
-    (retire_core (start (arc_value c.self.inside.origins.c0) c.args.context) c.self.inside.stamp c.self.inside.profile.reorder_buffer c.self.inside.flow c.args.context c.index_mut-track.result.now d.execution c.args.step h.in_lanes core d.some d.stage d.outcome) (λ e other. retired_flow_left c.self.inside.flow c.args.context e (is_last c.index_mut-track.result.now.context) other) (sizes-retired_flow c.self.inside.flow c.args.context (is_last c.index_mut-track.result.now.context)) (ap (λ (t : Track). t.load_places) h.track) (ap (λ (t : Track). t.store_places) h.track)
-    c.index.ensures.value refl c.retire.ensures.flow (ap (set c.self.inside.tracks.items c.index.result) c.retire.ensures.track) refl refl refl refl refl refl
+    machine_after_event c.self.inside _ c.args.self.now c.args.context c.index.result c.index_mut-track.result.now c.retire.new.track c.retire.new.flow c.self.view_is c.self.invariant c.requires.idle (omega (arith, c.index.ensures)) h c.retire.ensures.event
+    c.index.ensures.value refl refl refl refl refl refl refl refl refl
 
 pub returns-clause-retired : goal.returns-clause-retired
 returns-clause-retired g c =
     let h = at_context c.self.inside c.args.self.now c.args.context c.index.result c.index_mut-track.result.now c.self.view_is c.self.invariant (omega (arith, c.index.ensures)) c.index.ensures.value c.index_mut-track.ensures.value in
-    let core = idle_core c.self.inside c.args.self.now c.args.context c.index_mut-track.result.now c.self.view_is c.requires.idle h in
     let d = is_first_done c.index_mut-track.result.now.context.flight (Goes c.args.step) (ap (λ (x : Context). first_done x.flight) h.context ∙ c.requires.done) in
     shown_after c.self.inside c.args.self.now c.args.context c.index.result c.retire.new.track _ c.self.view_is c.index.ensures.value (ap (λ (t : Track). t.context) c.retire.ensures.track ∙ ap (λ (x : Context). retire_event x c.args.step) h.context)
 
 pub returns-clause-entry : goal.returns-clause-entry
 returns-clause-entry g c =
     let h = at_context c.self.inside c.args.self.now c.args.context c.index.result c.index_mut-track.result.now c.self.view_is c.self.invariant (omega (arith, c.index.ensures)) c.index.ensures.value c.index_mut-track.ensures.value in
-    let core = idle_core c.self.inside c.args.self.now c.args.context c.index_mut-track.result.now c.self.view_is c.requires.idle h in
     let d = is_first_done c.index_mut-track.result.now.context.flight (Goes c.args.step) (ap (λ (x : Context). first_done x.flight) h.context ∙ c.requires.done) in
     c.entry_at-oldest.ensures ∙ ap (λ (x : Context). entry_at x 0) h.context
 

@@ -5,24 +5,28 @@ use Rattle.core_view.specs.Events.{stop_event}
 use Rattle.std.specs.Prelude.{set}
 use Rattle.std.specs.Arc.{arc_value}
 use Rattle.origin_set.specs.Start.{start}
-use Rattle.data_flow.specs.Flow.{cut_flow}
 use Rattle.core_context.specs.Track.{Track}
 use Rattle.core_back.specs.Machine.{context_at}
 use Rattle.core_context.specs.Heads.{first_done}
-use Rattle.core_context.proofs.Laws.{cut_flow_left, sizes-cut_flow, is_first_done, stop_core}
 use Rattle.core_back.proofs.InFlight.{in_flight_after}
-use Rattle.core_back.proofs.Machines.{at_context, idle_core, machine_after, shown_after}
+use Rattle.core_back.proofs.Machines.{at_context, is_idle, machine_after_event, shown_after}
 use Rattle.core_back.proofs.machine.Machine.stop.Goals as goal
+
+pub stop-requires-clause-core : goal.stop-requires-clause-core
+stop-requires-clause-core g c =
+    let h = at_context c.self.inside c.args.self.now c.args.context c.index.result c.index_mut-track.result.now c.self.view_is c.self.invariant (omega (arith, c.index.ensures)) c.index.ensures.value c.index_mut-track.ensures.value in
+    is_idle c.self.inside c.args.self.now c.args.context c.index_mut-track.result.now c.self.view_is c.requires.idle (omega (arith, c.index.ensures)) h
+
+pub stop-requires-clause-done : goal.stop-requires-clause-done
+stop-requires-clause-done g c =
+    let h = at_context c.self.inside c.args.self.now c.args.context c.index.result c.index_mut-track.result.now c.self.view_is c.self.invariant (omega (arith, c.index.ensures)) c.index.ensures.value c.index_mut-track.ensures.value in
+    ap (λ (x : Context). first_done x.flight) h.context ∙ c.requires.done
 
 pub invariant_of-self : goal.invariant_of-self
 invariant_of-self g c =
     let h = at_context c.self.inside c.args.self.now c.args.context c.index.result c.index_mut-track.result.now c.self.view_is c.self.invariant (omega (arith, c.index.ensures)) c.index.ensures.value c.index_mut-track.ensures.value in
-    let d = is_first_done c.index_mut-track.result.now.context.flight (Stops c.args.why) (ap (λ (x : Context). first_done x.flight) h.context ∙ c.requires.done) in
-    let core = stop_core (start (arc_value c.self.inside.origins.c0) c.args.context) c.self.inside.stamp c.self.inside.profile.reorder_buffer c.self.inside.flow c.args.context c.index_mut-track.result.now d.execution c.args.why h.in_lanes
-    (idle_core c.self.inside c.args.self.now c.args.context c.index_mut-track.result.now c.self.view_is c.requires.idle h) d.some d.stage d.outcome in
-    machine_after c.self.inside _ c.args.self.now c.args.context c.index.result _ (cut_flow c.self.inside.flow c.args.context 0) c.self.view_is c.self.invariant c.requires.idle (omega (arith, c.index.ensures))
-    core (λ e other. cut_flow_left c.self.inside.flow c.args.context e 0 other) (sizes-cut_flow c.self.inside.flow c.args.context 0) (ap (λ (t : Track). t.load_places) h.track) (ap (λ (t : Track). t.store_places) h.track)
-    c.index.ensures.value refl c.stop.ensures.flow (ap (set c.self.inside.tracks.items c.index.result) c.stop.ensures.track) refl refl refl refl refl refl
+    machine_after_event c.self.inside _ c.args.self.now c.args.context c.index.result c.index_mut-track.result.now c.stop.new.track c.stop.new.flow c.self.view_is c.self.invariant c.requires.idle (omega (arith, c.index.ensures)) h c.stop.ensures.event
+    c.index.ensures.value refl refl refl refl refl refl refl refl refl
 
 pub returns-clause-stopped : goal.returns-clause-stopped
 returns-clause-stopped g c =

@@ -1,79 +1,60 @@
-use Rattle.std.proofs.Common.{◌<◌, length, take, refl, sym, ap, subst, ◌∙◌, arith}
-use Rattle.std.specs.Prelude.{set}
-use Rattle.std.specs.List.{list_any}
+use Rattle.std.proofs.Common.{◌<◌, ℕ, length, refl, sym, ap, subst, ◌∙◌, arith}
 use Rattle.core_view.specs.View.{Context, entry_at}
-use Rattle.lawful_cycle.specs.Issue.{is_open_guess}
 use Rattle.core_view.specs.Events.{rename_event}
 use Rattle.core_context.specs.Track.{Track}
-use Rattle.core_context.specs.Steps.{renamed_flow}
-use Rattle.core_back.specs.Machine.{Machine, context_at}
-use Rattle.core_context.proofs.Laws.{nodes_older, first_idle, first_fetched, rename_core, renamed_flow_left, sizes-renamed_flow}
+use Rattle.core_back.specs.Machine.{Machine, context_at, in_flight, IsAlike}
 use Rattle.core_back.proofs.Renamable.{is_counted, can_rename, may_not_rename}
-use Rattle.core_back.proofs.AlikeMachines.{alike_with}
+use Rattle.core_back.proofs.AlikeMachines.{alike_none, alike_with}
 use Rattle.core_back.proofs.InFlight.{in_flight_renamed}
-use Rattle.core_back.proofs.Machines.{at_context, idle_core, machine_after, shown_after}
+use Rattle.core_back.proofs.Machines.{at_context, is_idle, machine_after_event, shown_after, shown_same}
+use Rattle.core_back.proofs.Options.{some_of_three, none_or_some}
 use Rattle.core_back.proofs.machine.Machine.try_rename.Goals as goal
 
-pub rename-requires-clause-younger : goal.rename-requires-clause-younger
-rename-requires-clause-younger g c =
+pub rename-requires-clause-core : goal.rename-requires-clause-core
+rename-requires-clause-core g c =
     let h = at_context c.self.inside c.args.self.now c.args.context c.index.result c.index_mut-track.result.now c.self.view_is c.self.invariant (omega (arith, c.index.ensures)) c.index.ensures.value c.index_mut-track.ensures.value in
-    let core = idle_core c.self.inside c.args.self.now c.args.context c.index_mut-track.result.now c.self.view_is c.requires h in
-    let r = c.in_ok-stamp.ensures.can in
-    let t = c.index_mut-track.result.now in
-    nodes_older core r.some
+    is_idle c.self.inside c.args.self.now c.args.context c.index_mut-track.result.now c.self.view_is c.requires (omega (arith, c.index.ensures)) h
 
-pub rename-requires-clause-fresh : goal.rename-requires-clause-fresh
-rename-requires-clause-fresh g c =
+pub rename-requires-clause-room : goal.rename-requires-clause-room
+rename-requires-clause-room g c =
     let h = at_context c.self.inside c.args.self.now c.args.context c.index.result c.index_mut-track.result.now c.self.view_is c.self.invariant (omega (arith, c.index.ensures)) c.index.ensures.value c.index_mut-track.ensures.value in
-    let core = idle_core c.self.inside c.args.self.now c.args.context c.index_mut-track.result.now c.self.view_is c.requires h in
-    let r = c.in_ok-stamp.ensures.can in
-    let t = c.index_mut-track.result.now in
-    first_idle core r.some
+    h.core.room
 
-pub rename-requires-clause-fetched : goal.rename-requires-clause-fetched
-rename-requires-clause-fetched g c =
+pub invariant_of-self : goal.invariant_of-self
+invariant_of-self g c =
     let h = at_context c.self.inside c.args.self.now c.args.context c.index.result c.index_mut-track.result.now c.self.view_is c.self.invariant (omega (arith, c.index.ensures)) c.index.ensures.value c.index_mut-track.ensures.value in
-    h.core.are_fetched
+    machine_after_event c.self.inside _ c.args.self.now c.args.context c.index.result c.index_mut-track.result.now c.rename.new.track c.rename.new.flow c.self.view_is c.self.invariant c.requires (omega (arith, c.index.ensures)) h c.rename.ensures.event
+    c.index.ensures.value refl refl refl refl refl refl refl refl refl
 
-pub invariant_of-self-2 : goal.invariant_of-self-2
-invariant_of-self-2 g c =
+pub returns-clause-none : goal.returns-clause-none
+returns-clause-none g c none =
     let h = at_context c.self.inside c.args.self.now c.args.context c.index.result c.index_mut-track.result.now c.self.view_is c.self.invariant (omega (arith, c.index.ensures)) c.index.ensures.value c.index_mut-track.ensures.value in
-    let core = idle_core c.self.inside c.args.self.now c.args.context c.index_mut-track.result.now c.self.view_is c.requires h in
-    let r = c.in_ok-stamp.ensures.can in
-    let t = c.index_mut-track.result.now in
-    machine_after c.self.inside _ c.args.self.now c.args.context c.index.result _ (renamed_flow c.self.inside.flow c.args.context (entry_at t.context t.renamed) (list_any is_open_guess (take t.renamed t.context.flight))) c.self.view_is c.self.invariant c.requires (omega (arith, c.index.ensures))
-    (rename_core core c.self.inside.cycle h.in_lanes r.some r.fits) (λ e other. renamed_flow_left c.self.inside.flow c.args.context e (entry_at t.context t.renamed) (list_any is_open_guess (take t.renamed t.context.flight)) other) (sizes-renamed_flow c.self.inside.flow c.args.context (entry_at t.context t.renamed) (list_any is_open_guess (take t.renamed t.context.flight)) (omega (arith, c.index.ensures))) (ap (λ (t : Track). t.load_places) h.track) (ap (λ (t : Track). t.store_places) h.track)
-    c.index.ensures.value refl c.rename.ensures.flow (ap (set c.self.inside.tracks.items c.index.result) c.rename.ensures.track) refl refl refl refl refl refl
+    shown_same c.self.inside c.args.self.now c.args.context c.index.result c.rename.new.track c.self.view_is c.index.ensures.value (ap (λ (u : Track). u.context) (c.rename.ensures.none none).1 ∙ h.context)
+
+pub returns-clause-cannot : goal.returns-clause-cannot
+returns-clause-cannot g c none =
+    let h = at_context c.self.inside c.args.self.now c.args.context c.index.result c.index_mut-track.result.now c.self.view_is c.self.invariant (omega (arith, c.index.ensures)) c.index.ensures.value c.index_mut-track.ensures.value in
+    may_not_rename c.self.inside c.args.self.now c.args.context c.index_mut-track.result.now (is_counted c.self.inside c.args.self.now c.args.context c.index_mut-track.result.now c.self.view_is c.self.invariant c.requires (omega (arith, c.index.ensures)) h) (c.rename.ensures.cannot none)
 
 pub returns-clause-renamed : goal.returns-clause-renamed
 returns-clause-renamed g c =
     let h = at_context c.self.inside c.args.self.now c.args.context c.index.result c.index_mut-track.result.now c.self.view_is c.self.invariant (omega (arith, c.index.ensures)) c.index.ensures.value c.index_mut-track.ensures.value in
-    let core = idle_core c.self.inside c.args.self.now c.args.context c.index_mut-track.result.now c.self.view_is c.requires h in
-    let r = c.in_ok-stamp.ensures.can in
     let t = c.index_mut-track.result.now in
-    record {
+    some_of_three c.rename.result c.rename.ensures.can c.rename.ensures.fetched c.rename.ensures.track (λ stamp r fetched track. record {
       place = t.renamed;
       within = subst (λ (x : Context). t.renamed < length x.flight) h.context r.some;
       stamp_is = ap (λ (x : Context). (entry_at x t.renamed).stamp) (sym h.context) ∙ r.stamp_is;
-      fetched = ap (λ (x : Context). (entry_at x t.renamed).stage) (sym h.context) ∙ first_fetched core r.some;
-      can = can_rename c.self.inside c.args.self.now c.args.context t c.in_ok-stamp.stamp (omega (arith, c.index.ensures)) (is_counted c.self.inside c.args.self.now c.args.context t c.self.view_is c.self.invariant c.requires (omega (arith, c.index.ensures)) h) r;
+      fetched = ap (λ (x : Context). (entry_at x t.renamed).stage) (sym h.context) ∙ fetched;
+      can = can_rename c.self.inside c.args.self.now c.args.context t stamp (omega (arith, c.index.ensures)) (is_counted c.self.inside c.args.self.now c.args.context t c.self.view_is c.self.invariant c.requires (omega (arith, c.index.ensures)) h) r;
       after = shown_after c.self.inside c.args.self.now c.args.context c.index.result c.rename.new.track _ c.self.view_is c.index.ensures.value
-          (ap (λ (u : Track). u.context) c.rename.ensures.track ∙ ap (λ (x : Context). rename_event c.self.inside.cycle x t.renamed) h.context ∙ ap (λ (v : Machine). rename_event v.view.cycle (context_at c.args.self.now c.args.context) t.renamed) c.self.view_is);
-    }
+          (ap (λ (u : Track). u.context) track ∙ ap (λ (x : Context). rename_event c.self.inside.cycle x t.renamed) h.context ∙ ap (λ (v : Machine). rename_event v.view.cycle (context_at c.args.self.now c.args.context) t.renamed) c.self.view_is);
+    })
+
+pub returns-clause-flights : goal.returns-clause-flights
+returns-clause-flights g c =
+    none_or_some c.rename.result (returns-clause-renamed g c) (λ none. ap in_flight (returns-clause-none g c none)) (λ stamp is. in_flight_renamed c.args.self.now _ c.args.context stamp is)
 
 pub returns-clause-alike : goal.returns-clause-alike
 returns-clause-alike g c =
-    let h = at_context c.self.inside c.args.self.now c.args.context c.index.result c.index_mut-track.result.now c.self.view_is c.self.invariant (omega (arith, c.index.ensures)) c.index.ensures.value c.index_mut-track.ensures.value in
-    let core = idle_core c.self.inside c.args.self.now c.args.context c.index_mut-track.result.now c.self.view_is c.requires h in
-    let r = c.in_ok-stamp.ensures.can in
-    let t = c.index_mut-track.result.now in
-    alike_with c.args.self.now _ c.args.context (rename_event c.args.self.now.view.cycle (context_at c.args.self.now c.args.context) t.renamed) (shown_after c.self.inside c.args.self.now c.args.context c.index.result c.rename.new.track _ c.self.view_is c.index.ensures.value
-    (ap (λ (u : Track). u.context) c.rename.ensures.track ∙ ap (λ (x : Context). rename_event c.self.inside.cycle x t.renamed) h.context ∙ ap (λ (v : Machine). rename_event v.view.cycle (context_at c.args.self.now c.args.context) t.renamed) c.self.view_is)) refl
-
-pub returns-clause-flights : goal.returns-clause-flights
-returns-clause-flights g c = in_flight_renamed c.args.self.now _ c.args.context c.in_ok-stamp.stamp (returns-clause-renamed g c)
-
-pub returns-in_err-stamp-clause-cannot : goal.returns-in_err-stamp-clause-cannot
-returns-in_err-stamp-clause-cannot g c _ =
-    let h = at_context c.self.inside c.args.self.now c.args.context c.index.result c.index_mut-track.result.now c.self.view_is c.self.invariant (omega (arith, c.index.ensures)) c.index.ensures.value c.index_mut-track.ensures.value in
-    may_not_rename c.self.inside c.args.self.now c.args.context c.index_mut-track.result.now (is_counted c.self.inside c.args.self.now c.args.context c.index_mut-track.result.now c.self.view_is c.self.invariant c.requires (omega (arith, c.index.ensures)) h) (c.in_err-stamp.ensures.none refl)
+    none_or_some c.rename.result (returns-clause-renamed g c) (λ none. subst (λ v. IsAlike c.args.self.now v) (sym (returns-clause-none g c none)) (alike_none c.args.self.now))
+    (λ stamp is. alike_with c.args.self.now _ c.args.context (rename_event c.args.self.now.view.cycle (context_at c.args.self.now c.args.context) is.place) is.after refl)

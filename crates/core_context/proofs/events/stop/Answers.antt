@@ -1,0 +1,7 @@
+use Rattle.std.proofs.Common.{refl}
+use Rattle.core_context.specs.Left.{IsEventAt}
+use Rattle.core_context.proofs.EventsKept.{stop_kept}
+use Rattle.core_context.proofs.events.stop.Goals as goal
+
+pub returns-clause-event : goal.returns-clause-event
+returns-clause-event g c = rw (c.cut_from.ensures, c.stop.ensures) (stop_kept c.args.flow.now c.args.context c.args.track.now c.args.why c.requires.core.has_lane c.requires.done)
