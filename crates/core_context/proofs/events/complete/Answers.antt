@@ -1,6 +1,5 @@
 use Rattle.std.proofs.Common.{ap, length, arith}
 use Rattle.core_context.specs.Track.{Track}
-use Rattle.core_context.specs.Left.{IsEventAt}
 use Rattle.core_context.proofs.Completes.{complete_fewer, issued_known}
 use Rattle.core_context.proofs.EventsKept.{complete_kept}
 use Rattle.core_context.proofs.events.complete.Goals as goal

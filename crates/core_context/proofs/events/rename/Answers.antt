@@ -1,4 +1,3 @@
-use Rattle.core_context.specs.Left.{IsEventAt}
 use Rattle.core_context.proofs.Renames.{nodes_older, first_idle, first_fetched}
 use Rattle.core_context.proofs.EventsKept.{rename_kept, nothing_kept}
 use Rattle.core_context.proofs.events.rename.Goals as goal

@@ -1,4 +1,3 @@
-use Rattle.std.proofs.Common.{Some, ap}
 use Rattle.core_view.specs.declared.outcome.Outcome.TheVariants.{Goes}
 use Rattle.core_context.proofs.Retires.{is_first_done, oldest_known, oldest_done, oldest_idle, oldest_below, oldest_sized}
 use Rattle.core_context.proofs.EventsKept.{parked_kept, running_kept}

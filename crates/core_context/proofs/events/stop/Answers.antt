@@ -1,5 +1,3 @@
-use Rattle.std.proofs.Common.{refl}
-use Rattle.core_context.specs.Left.{IsEventAt}
 use Rattle.core_context.proofs.EventsKept.{stop_kept}
 use Rattle.core_context.proofs.events.stop.Goals as goal
 
