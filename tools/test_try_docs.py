@@ -64,6 +64,11 @@ class Documents(unittest.TestCase):
         self.assertEqual(status, 1)
         self.assertTrue(said.startswith("README.md:7: none.rt doesn't have these lines\n"), said)
 
+    def test_a_quotation_in_another_language(self) -> None:
+        command = block("$ ./smt-lab a", "a")
+        self.assertEqual(tried(command + "\n```sh program\n#!/bin/sh\n```\n")[0], 0)
+        self.assertEqual(tried(command + "\n```toml program\nexit\n```\n")[0], 1)
+
     def test_lines_left_out(self) -> None:
         self.assertEqual(tried(block("$ ./smt-lab a b c d", "a", "..", "d"))[0], 0)
         self.assertEqual(tried(block("$ ./smt-lab a b c d", "a", ".."))[0], 0)

@@ -1,14 +1,14 @@
 #!/usr/bin/env python3
 """Runs the commands that the documents show, and compares what they print with what the documents say; and finds the
-code that they quote.
+lines that they quote.
 
 usage: tools/try_docs.py PROGRAM [FOLDER]
 
 A command stands in a block that is fenced as `console`, on a line that begins with `$ `; what it prints stands below it,
 up to the next command or the block's end. A line `..` there stands for any number of lines. Commands run in the top folder,
-with PROGRAM in place of `./smt-lab`, and no other command is tried. Code that is quoted from a file of the folder stands
-in a block that is fenced as `rust PATH`, and has to stand in that file, line by line, with whatever indentation. It
-prints a line for each command that differs and each quotation that isn't found; the status is 0 where there is none, and
+with PROGRAM in place of `./smt-lab`, and no other command is tried. What is quoted from a file of the folder stands in a
+block that is fenced with a language and a path, as `rust PATH` or `toml PATH`, and has to stand in that file, line by line,
+with whatever indentation. It prints a line for each command that differs and each quotation that isn't found; the status is 0 where there is none, and
 1 where there is no command to try.
 """
 
@@ -58,12 +58,12 @@ def shown_in(name: str, text: str) -> List[Shown]:
 
 
 def quoted_in(name: str, text: str) -> List[Shown]:
-    """The code that a document quotes, each with the path of its file for a command."""
+    """The lines that a document quotes, each with the path of its file for a command."""
     found: List[Shown] = []
     inside = False
     for number, line in enumerate(text.splitlines(), 1):
         words = line.strip().split()
-        if not inside and len(words) == 2 and words[0] == "```rust":
+        if not inside and len(words) == 2 and words[0].startswith("```"):
             inside = True
             found.append(Shown(f"{name}:{number}", words[1], []))
         elif inside and line.strip() == "```":
