@@ -44,7 +44,7 @@ fn shows_again(rt: &(impl Abort + AllocGlobal), insn: &Insn, words: &[u32]) {
     }
 }
 
-/// The examples of the two forms of countdown: a body that always answers A8 fails here.
+/// The examples of the two forms of countdown: a body that always returns A8 fails here.
 #[test]
 fn countdown_assembles(rt: HostRuntime) {
     let words = [0x00A0_0293, 0xFFF2_8293, 0xFE02_9EE3, 0x0000_0073];

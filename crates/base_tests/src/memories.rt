@@ -9,7 +9,7 @@ const COUNTDOWN: [u32; 4] = [0x00A0_0293, 0xFFF2_8293, 0xFE02_9EE3, 0x0000_0073]
 
 const DATA: [u8; 8] = [0x88, 0x77, 0x66, 0x55, 0x44, 0x33, 0x22, 0x11];
 
-/// Each load answers as the table says.
+/// Each load gives what the table says.
 fn loads(rt: &impl Abort, memory: &Memory, table: &[(u64, Width, Result<u64, Fault>)]) {
     for &(address, width, want) in table {
         assert_eq!(rt;

@@ -26,7 +26,7 @@ const ONE: [u8; 8] = [1, 0, 0, 0, 0, 0, 0, 0];
 /// Context 0 is to retire 100 instructions.
 const TARGETS: [u64; 8] = [100, 0, 0, 0, 0, 0, 0, 0];
 
-/// Cycles, and entries that were fetched, renamed, issued, retired and cut.
+/// Cycles, and entries that were fetched, renamed, issued, retired and squashed.
 type Figures = [u64; 6];
 
 /// What a core shows of context 0 once it stopped.
@@ -193,10 +193,10 @@ fn countdown_by_tables(rt: HostRuntime) -> Result<(), Fail> {
 /// | 0x10014 | `ecall` | reached by a wrong guess alone |
 /// | 0x10018 | `jalr x0, 0(x1)` | a return |
 ///
-/// Cycle by cycle: 0x10010 is cut in 5 and 0x10008 in 10, each with one ECALL behind it; the second 0x10010 is fetched
-/// in 10, the second return in 11 and the ECALL in 12, all by right guesses; that is the head in 16. A predictor that
-/// isn't shown the JAL guesses the first return wrong, and one that never learns the second 0x10010: both take 20
-/// cycles, in which 11 are fetched and 4 cut.
+/// Cycle by cycle: 0x10010 is squashed in 5 and 0x10008 in 10, each with one ECALL behind it; the second 0x10010 is
+/// fetched in 10, the second return in 11 and the ECALL in 12, all by right guesses; that is the head in 16. A predictor
+/// that isn't shown the JAL guesses the first return wrong, and one that never learns the second 0x10010: both take 20
+/// cycles, in which 11 are fetched and 4 squashed.
 const CALLS_AND_RETURNS: [u32; 7] = [
     0x0001_03B7,
     0x00C0_00EF,
@@ -226,9 +226,10 @@ fn calls_and_returns(rt: HostRuntime) -> Result<(), Fail> {
 /// | 0x1001c | `jalr x0, 0(x1)` | a return |
 ///
 /// Cycle by cycle: in 1 the return behind the wrong guess pops 0x10008, in 2 the call there pushes 0x1000c; in 5 five
-/// are cut, but not what the stack holds: the first return that stays pops 0x1000c, so one is cut in 9. One more is
-/// cut behind the call by register in 13, and the last return, fetched in 14, is guessed right. The ECALL is the head
-/// in 19. A predictor that isn't shown the JAL fetches 16, of which 7 are cut; one that never learns takes 25 cycles.
+/// are squashed, but not what the stack holds: the first return that stays pops 0x1000c, so one is squashed in 9. One
+/// more is behind the call by register in 13, and the last return, fetched in 14, is guessed right. The ECALL is the
+/// head in 19. A predictor that isn't shown the JAL fetches 16, of which 7 are squashed; one that never learns takes 25
+/// cycles.
 const RETURN_ON_A_WRONG_PATH: [u32; 8] = [
     0x0001_03B7,
     0x00C0_00EF,

@@ -1,4 +1,4 @@
-// One load that is fetched, renamed and cut.
+//! One load that is fetched, renamed and squashed.
 use core_view::{Entry, Operation};
 use flight::Flight;
 use hart_step::Stop;

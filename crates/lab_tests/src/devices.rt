@@ -20,7 +20,7 @@ pub fn written(alloc: &Global, request: Request<'_>, file: &[u8]) -> Result<Stri
     Ok(str::from_utf8(&output.into_inner())?.to_string(*alloc)?)
 }
 
-/// The line of the refusal that a request of a file of this name and these bytes answers. Nothing
+/// The line of the refusal that a request of a file of this name and these bytes gives. Nothing
 /// is written.
 pub fn refusal_line(
     rt: &impl Abort,

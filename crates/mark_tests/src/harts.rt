@@ -167,7 +167,7 @@ fn shown(hart: &Hart) -> Standing {
     }
 }
 
-/// What a program's run answers, and where it stands then.
+/// What a program's run returns, and where it stands then.
 fn ran(
     alloc: Global,
     words: &[u32],
@@ -191,7 +191,7 @@ fn examples(rt: HostRuntime) -> Result<(), Fail> {
     Ok(())
 }
 
-/// What a step of a program answers, where it stands then, and the doubleword at the start of its
+/// What a step of a program returns, where it stands then, and the doubleword at the start of its
 /// data.
 fn stepped(
     alloc: Global,

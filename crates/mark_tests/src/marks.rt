@@ -1,3 +1,5 @@
+//! A countdown's marks: their counts, their stop and their copies, joins and what they refuse, trees and lists.
+
 ghost use Rattle.std.specs.Prelude.{◌≡◌, ◌≤◌, All, IfOk};
 ghost use Rattle.std.specs.Arc.{arc_value};
 ghost use Rattle.checkpoint.specs.Aligned.{AreMarksOf};
@@ -84,7 +86,7 @@ fn counts_down(rt: HostRuntime) -> Result<(), Fail> {
     Ok(())
 }
 
-/// What 30 instructions of a context answer, and the registers and pc of the hart then.
+/// What a run of 30 instructions of a context returns, and the registers and pc of the hart then.
 fn at_the_stop(
     alloc: Global,
     origin: &Arc<Origin>,
@@ -108,9 +110,9 @@ fn stops(rt: HostRuntime) -> Result<(), Fail> {
     Ok(())
 }
 
-/// Also run with `rt try --test --fail-alloc N`, which refuses the Nth growth: C3 is the answer, and the mark stays.
+/// Also run with `rt try --test --fail-alloc N`, which refuses the Nth growth: C3 is returned, and the mark stays.
 #[test]
-fn answers_c3_for_refused_growths(rt: HostRuntime) -> Result<(), Fail> {
+fn returns_c3_for_refused_growths(rt: HostRuntime) -> Result<(), Fail> {
     let alloc = rt.alloc();
     let origin = origin_of(alloc, 1)?;
     let [first, ..] = Ctx::all();

@@ -1,7 +1,7 @@
 //! Digests, comparisons and starts of small origins.
 //!
 //! What a function holds is dropped on each of its ways out, and each drop of an origin has a cost in proof: so a helper
-//! holds one origin and answers plain data.
+//! holds one origin and returns plain data.
 
 use hart_step::{Environment, Hart, Stop};
 use join_law::Ctx;

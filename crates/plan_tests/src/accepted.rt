@@ -1,3 +1,5 @@
+//! Plans that are accepted, by their programs, contexts and jobs.
+
 use core_profile::{FetchPolicy, Profile, ProfileFields};
 use hart_step::Environment;
 use lab_plan::{JobStart, Plan};

@@ -1,3 +1,5 @@
+//! Texts that are no plan, by the line that they are refused with.
+
 use lab_plan::Plan;
 use std::alloc::Global;
 use std::test::Fail;

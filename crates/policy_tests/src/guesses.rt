@@ -1,4 +1,4 @@
-// The predictor's table, by the answers that it gives.
+//! The predictor's table, by the guesses that it gives.
 ghost use Rattle.std.specs.Prelude.{◌<◌};
 
 use branch_predict::{Always, Guess, Sequential, Tables};
@@ -114,7 +114,7 @@ fn a_ninth_return_address_drops_the_oldest(rt: HostRuntime) -> Result<(), Fail> 
     Ok(())
 }
 
-// A cut isn't shown to a guess: what was fetched past it stays pushed.
+// A squash isn't shown to a guess: what was fetched past it stays pushed.
 #[test]
 fn a_cut_leaves_the_stack(rt: HostRuntime) -> Result<(), Fail> {
     let mut tables = Tables::new(rt.alloc())?;

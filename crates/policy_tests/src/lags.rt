@@ -1,4 +1,4 @@
-// Lags by the table of kinds and tags.
+//! Lags by the table of kinds and tags.
 use core_profile::Profile;
 use data_tags::{Alternating, Delay, Flat, Kind, Lag, Latencies, Tags};
 use join_law::Ctx;

@@ -1,3 +1,5 @@
+//! Fetch policies and the contexts that they pick, on worked views.
+
 ghost use Rattle.std.specs.Prelude.{◌≤◌};
 
 use core_profile::FetchPolicy;

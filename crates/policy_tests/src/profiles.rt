@@ -1,3 +1,5 @@
+//! Profiles by their tables: ranges, defaults, names and refusals.
+
 use core_profile::{FetchPolicy, IssuePolicy, Key, Profile, ProfileFault, ProfileFields};
 use std::alloc::Global;
 use std::test::Fail;

@@ -1,3 +1,5 @@
+//! Small plans and what their jobs leave.
+
 use checkpoint::starts;
 use core_run::{Figures, Outcome};
 use lab_plan::{JobStart, Plan};

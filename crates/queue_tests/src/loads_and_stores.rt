@@ -52,7 +52,7 @@ fn three_loads(alloc: Global) -> Result<LoadStoreQueue, Fail> {
     Ok(queue)
 }
 
-/// Loads, each by its stamp, address and width, are answered as the table says.
+/// Loads, each by its stamp, address and width, get what the table says.
 fn assert_loads(
     rt: &impl Abort,
     queue: &LoadStoreQueue,
@@ -104,7 +104,7 @@ fn a_store_of_a_part_is_waited_for(rt: HostRuntime) -> Result<(), Fail> {
 fn a_store_that_has_not_completed_is_passed(rt: HostRuntime) -> Result<(), Fail> {
     let memory = small_memory(rt.alloc())?;
     let mut queue = two_stores(rt.alloc())?;
-    // Neither has completed: memory answers.
+    // Neither has completed: the bytes are memory's.
     let table = [(4, DATA, Width::Word, ready(0x5566_7788))];
     assert_loads(&rt, &queue, &memory, &table);
     queue.resolve_store(3, bytes(DATA, 4, 7));
@@ -198,7 +198,7 @@ fn the_oldest_retire_and_the_youngest_are_dropped(rt: HostRuntime) -> Result<(),
     assert!(rt; !queue.has_load_place());
     queue.retire(2);
     assert!(rt; queue.has_load_place());
-    // Store 3 stays: once it has completed it answers load 4. Then it retires.
+    // Store 3 stays: once it has completed load 4 gets its bytes. Then it retires.
     assert_eq!(rt; queue.resolve_store(3, bytes(DATA, 1, 1)), None);
     assert_loads(&rt, &queue, &memory, &[(4, DATA, Width::Byte, ready(1))]);
     queue.retire(3);

@@ -105,7 +105,7 @@ fn a_full_ring_hands_the_entry_back(rt: HostRuntime) -> Result<(), Fail> {
     assert_eq!(rt; try_push(&mut ring, 100), Some(RingFault::Full));
     assert_eq!(rt; ring.capacity(), 64);
     assert_ring(&rt, &ring, 64, 63, [Some(10), Some(73), Some(73)]);
-    // Behind place 63 there is nothing to cut, from it on one entry.
+    // Behind place 63 there is nothing to squash, from it on one entry.
     ring.cut_from(74);
     assert_eq!(rt; ring.len(), 64);
     ring.cut_from(73);

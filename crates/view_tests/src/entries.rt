@@ -1,4 +1,4 @@
-// Operations, outcomes and entries of programs whose figures are known.
+//! Operations, outcomes and entries of programs whose figures are known.
 ghost use Rattle.std.specs.Prelude.{◌≡◌, ◌≤◌, length};
 
 use core_view::{
