@@ -8,7 +8,7 @@ use hart_step::following;
 use join_law::Ctx;
 use rv64_decode::Insn;
 
-/// Answers one pc, whatever it is asked.
+/// Guesses one pc, whatever it is asked.
 #[derive(Clone, Copy, Debug, PartialEq, Eq)]
 pub struct Always(pub u64);
 
@@ -24,7 +24,7 @@ impl Guess for Always {
     fn learn(&mut self, _context: Ctx, _pc: u64, _insn: &Insn, _next: u64) {}
 }
 
-/// Answers the next instruction in line, `pc + 4`.
+/// Guesses the next instruction in line, `pc + 4`.
 #[derive(Clone, Copy, Debug, PartialEq, Eq)]
 pub struct Sequential;
 

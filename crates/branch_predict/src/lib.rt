@@ -1,7 +1,7 @@
 //! Where a branch or a jump is guessed to go on, before its sources have values.
 //!
 //! `Guess` is the trait of all guesses. A core asks one at fetch and tells it at retirement what came true, and is
-//! right whatever the answers are. `Tables` is the predictor with counters, return stacks and last targets.
+//! right whatever the guesses are. `Tables` is the predictor with counters, return stacks and last targets.
 #![tactic(auto)]
 
 mod constant;

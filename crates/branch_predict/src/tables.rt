@@ -16,7 +16,7 @@ const CONTEXTS: usize = 8;
 /// Two-bit counters for conditional branches, return stacks for returns and last targets for the other JALR, all
 /// apart for each context. A squash repairs nothing.
 ///
-/// For a conditional branch it states `pc + 4` and the branch's target, for the rest every answer.
+/// For a conditional branch it states `pc + 4` and the branch's target, for the rest every pc.
 #[derive(Drop)]
 pub struct Tables<A: Allocator = Global> {
     contexts: Vec<ContextTables, A>,

@@ -54,7 +54,7 @@ pub fn run_to<G: Guess + Drop, P: Pick + Drop, O: Order + Drop, D: Delay + Drop,
     }
 }
 
-/// Cycles until no context runs, at most so many. Answers how that ended, and what was done.
+/// Cycles until no context runs, at most so many. Returns how that ended, and what was done.
 fn advance<G: Guess + Drop, P: Pick + Drop, O: Order + Drop, D: Delay + Drop, A: Allocator>(
     core: &mut Core<G, P, O, D, A>,
     limit: u64,

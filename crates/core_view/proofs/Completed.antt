@@ -16,7 +16,7 @@ use Rattle.core_view.proofs.Sound.{due_stage}
 pub due_span : (cycle : ℕ) (s : Stage) (x : Execution) → due_at cycle s ≡ Some x → span_read s ≡ span_in x.outcome
 due_span cycle s x h = ap span_read (due_stage cycle s x h)
 
--- two cuts may be made in either order
+-- two squashes may be made in either order
 before_before : (a b : Option Bytes) (es : List Entry) → before_touch a (before_touch b es) ≡ before_touch b (before_touch a es)
 before_before a b [] = refl
 before_before a b (e ∷ es) = go (touches a (span_read e.stage)) (touches b (span_read e.stage)) refl refl (before_before a b es)
@@ -36,7 +36,7 @@ kept_before b e (Goes step) es = go (is_mispredicted e step)
     go true = refl
     go false = before_before b (bytes_written step.access) es
 
--- what a conflict cuts doesn't depend on what completes meanwhile
+-- what a conflict squashes doesn't depend on what completes meanwhile
 complete_before : (cycle : ℕ) (b : Option Bytes) (es : List Entry) → completed_at cycle (before_touch b es) ≡ before_touch b (completed_at cycle es)
 complete_before cycle b [] = refl
 complete_before cycle b (e ∷ es) = go (touches b (span_read e.stage)) (due_at cycle e.stage) refl refl (complete_before cycle b es)

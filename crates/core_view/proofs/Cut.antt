@@ -1,4 +1,4 @@
--- Where a cycle cuts a flight: at the first place that a kept entry names.
+-- Where a cycle squashes in a flight: at the first place that a kept entry names.
 use Rattle.std.proofs.Common.{◌≡◌, ℕ, zero, suc, ◌+◌, ◌<◌, ◌≤◌, Bool, true, false, List, [], ◌∷◌, length, take, map, min, Option, Some, None, option_map, refl, sym, ap, subst, ◌∙◌, arith, inl, inr, add-one}
 use Rattle.std.specs.Prelude.{nat_lt, if◌then◌else◌}
 use Rattle.std.proofs.lemmas.Bool.{cases_lt}
@@ -77,13 +77,13 @@ before_length cycle b (x ∷ xs) (e ∷ es) h =
     go true ih = omega arith
     go false ih = omega (arith, ih)
 
--- ---- the cut
+-- ---- the squash
 
 more_some : (o : Option ℕ) (p : ℕ) → option_map (λ (q : ℕ). q + 1) o ≡ Some p → (q : ℕ) × (o ≡ Some q) × (p ≡ q + 1)
 more_some None p h = absurd cc
 more_some (Some q) p h = (q, refl, cc)
 
--- the rest is cut at j, and the first entry names nothing below
+-- the rest is squashed from j on, and the first entry names nothing below
 cut_cons : (cycle : ℕ) (e : Entry) (es : List Entry) (j : ℕ) → IsCutAt cycle es j → ((p : ℕ) → named_at cycle (e ∷ es) 0 ≡ Some p → j + 1 ≤ p) → IsCutAt cycle (e ∷ es) (j + 1)
 cut_cons cycle e es j c h =
     record {
@@ -117,7 +117,7 @@ cut_here cycle e es j k c le is =
         let up = m.2 in
         omega (arith, up)
 
--- completion cuts a flight at the first place that a kept entry names
+-- completion squashes from the first place of a flight that a kept entry names
 pub cut_at : (cycle : ℕ) (es : List Entry) → IsCutAt cycle es (length (completed_at cycle es))
 cut_at cycle [] = record { fits = omega arith; first = λ i p lt is. absurd (omega arith); named = inl refl }
 cut_at cycle (e ∷ es) = go (due_at cycle e.stage) refl (cut_at cycle es)

@@ -138,7 +138,7 @@ module _ (start : State) where
   stamps_of : (stamp : ℕ) (c : Context) → IsLive start stamp c → IsStamped 0 stamp c.flight
   stamps_of stamp c live = stamped_from 0 stamp c.flight live.flight.growing live.flight.below
 
-  -- ---- complete: the cut of a wrong guess or of a conflict is in the event
+  -- ---- complete: the squash of a wrong guess or of a conflict is in the event
 
   pub complete_live : (stamp : ℕ) (c : Context) (i : ℕ) (x : Execution) → i < length c.flight → (entry_at c i).stage ≡ Issued x → IsLive start stamp c → IsLive start stamp (complete_event c i x)
   complete_live stamp c i x lt stage live =

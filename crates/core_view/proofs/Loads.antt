@@ -1,4 +1,4 @@
--- What is seen, byte by byte, and what answers a load that is clear.
+-- What is seen, byte by byte, and what a load gets that is clear.
 use Rattle.std.proofs.Common.{◌≡◌, ℕ, ◌-◌, Bool, true, false, List, [], ◌∷◌, Option, Some, None, refl, sym, ap, ◌∙◌}
 use Rattle.std.specs.Prelude.{if◌then◌else◌}
 use Rattle.std.proofs.Math.Path.{fun_ext}
@@ -79,7 +79,7 @@ answer_outcome environment rights bytes pc e number h = go (fault_of environment
     go None k = ap (λ (n : ℕ). outcome_with pc e (answer None n)) (k refl)
     go (Some fault) k = refl
 
--- the number that answers an effect which may issue is the one that is seen
+-- the number that an effect gets which may issue is the one that is seen
 pub answered_read : (seen : Seen) (es : List Entry) (e : Effect) → may_issue es e ≡ true → number_answered seen.bytes es e ≡ number_read (seen_past seen es).bytes e
 answered_read seen es (Goes target) h = refl
 answered_read seen es (Writes value target) h = refl

@@ -150,7 +150,7 @@ conflict_from low b (e ∷ es) k g h = go (touches b (span_read e.stage)) (sym (
     go true i rest = let same : e.stamp ≡ k = cc in let from = g.0 in omega (arith, from, same)
     go false i rest = let from = g.0 in let past = rest i in omega (arith, from, past)
 
--- a cut at the stamp of the oldest conflict leaves what stands before it
+-- a squash at the stamp of the oldest conflict leaves what stands before it
 pub cut_conflict : (low : ℕ) (b : Option Bytes) (es : List Entry) → IsGrowing low es → cut_from (conflict_of es b) es ≡ before_touch b es
 cut_conflict low b [] g = refl
 cut_conflict low b (e ∷ es) g = ap (λ c. cut_from c (e ∷ es)) (conflict_step e es b (touches b (span_read e.stage)) refl) ∙ go (touches b (span_read e.stage)) (cut_conflict (e.stamp + 1) b es g.1)

@@ -1,4 +1,4 @@
--- A completion as a ring makes it: the entry is written, and the flight is cut at a length.
+-- A completion as a ring makes it: the entry is written, and the flight is squashed to a length.
 use Rattle.std.proofs.Common.{◌≡◌, ℕ, zero, suc, ◌+◌, ◌<◌, Bool, true, false, List, [], ◌∷◌, length, get_or, take, drop, Option, refl, sym, ap, arith, add-one}
 use Rattle.std.specs.Prelude.{set, if◌then◌else◌}
 use Rattle.std.proofs.Math.Seq.{take-length}

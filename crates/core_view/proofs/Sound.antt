@@ -220,7 +220,7 @@ sound_push image seen pc [] e o s h = (h, (λ _. refl), tt)
 sound_push image seen pc (f ∷ []) e o s h = (s.0, (λ stop. absurd (let bad : not true ≡ true = subst (λ b. not b ≡ true) stop o in cc)), sound_push image (seen_after seen f) f.followed [] e refl s.2 h)
 sound_push image seen pc (f ∷ g ∷ es) e o s h = (s.0, (λ stop. absurd (let bad : (g ∷ es) ≡ [] = s.1 stop in cc)), sound_push image (seen_after seen f) f.followed (g ∷ es) e o s.2 h)
 
--- an entry is replaced at a place, and all after it are cut
+-- an entry is replaced at a place, and all after it are squashed
 pub sound_cut : (image : Image) (seen : Seen) (pc : ℕ) (es : List Entry) (i : ℕ) (e : Entry) → i < length es → IsSound image seen pc es
     → IsSoundEntry image (seen_past seen (take i es)) (pc_past pc (take i es)) e → IsSound image seen pc (take i es ++ e ∷ [])
 sound_cut image seen pc es i e lt s h = sound_push image seen pc (take i es) e (is_open_take image seen pc es i lt s) (sound_take image seen pc es i s) h

@@ -1,4 +1,4 @@
--- What a load sees of the stores in a queue, byte by byte, and what answers one that is clear.
+-- What a load sees of the stores in a queue, byte by byte, and what one gets that is clear.
 use Rattle.std.proofs.Common.{◌≡◌, ℕ, true, List, [], ◌∷◌, Option, Some, None, refl, sym, ap, ◌∙◌}
 use Rattle.std.proofs.Math.Path.{fun_ext}
 use Rattle.std.specs.Option.{option_or}

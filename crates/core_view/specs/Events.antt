@@ -56,7 +56,7 @@ abbrev pub is_mispredicted : Entry → Step → Bool
 is_mispredicted e step = is_guessed e.operation && not (e.followed == step.next)
 
 -- what is kept of the younger entries as one completes: nothing after a wrong guess; after a store
--- what stands before the oldest issued load that shares a byte; a stop cuts nothing
+-- what stands before the oldest issued load that shares a byte; a stop squashes nothing
 abbrev pub kept_after : Entry → Outcome → List Entry → List Entry
 kept_after e (Goes step) es = if is_mispredicted e step then [] else before_touch (bytes_written step.access) es
 kept_after e (Stops why) es = es
@@ -66,7 +66,7 @@ abbrev pub kept_length : Entry → Outcome → List Entry → ℕ
 kept_length e (Goes step) es = if is_mispredicted e step then 0 else clean_length (bytes_written step.access) es
 kept_length e (Stops why) es = length es
 
--- the entry at a place completes, and cuts what it doesn't keep
+-- the entry at a place completes, and squashes what it doesn't keep
 abbrev pub complete_in : List Entry → ℕ → Execution → List Entry
 complete_in [] i x = []
 complete_in (e ∷ es) zero x = completed_entry e x ∷ kept_after e x.outcome es
@@ -83,7 +83,7 @@ due_at cycle Queued = None
 due_at cycle (Issued x) = if x.due == cycle then Some x else None
 due_at cycle (Done x) = None
 
--- an entry before others that have completed: where it is due it completes, and cuts what it doesn't keep
+-- an entry before others that have completed: where it is due it completes, and squashes what it doesn't keep
 abbrev pub completed_by : Option Execution → Entry → List Entry → List Entry
 completed_by None e es = e ∷ es
 completed_by (Some x) e es = completed_entry e x ∷ kept_after e x.outcome es
@@ -99,7 +99,7 @@ completed_from cycle zero es = completed_at cycle es
 completed_from cycle (suc i) [] = []
 completed_from cycle (suc i) (e ∷ es) = e ∷ completed_from cycle i es
 
--- ---- where the cut is, said of the flight as it was
+-- ---- where the squash is, said of the flight as it was
 
 -- an entry as it is after the part, if it is kept
 abbrev pub completed_if : Option Execution → Entry → Entry
@@ -131,7 +131,7 @@ named_at cycle [] i = None
 named_at cycle (e ∷ es) zero = option_map (λ p. p + 1) (named_by (due_at cycle e.stage) e es)
 named_at cycle (e ∷ es) (suc i) = option_map (λ p. p + 1) (named_at cycle es i)
 
--- a flight is cut at k: the first place that a kept entry names, or nowhere
+-- a flight is squashed from k on: the first place that a kept entry names, or nowhere
 pub record IsCutAt (cycle : ℕ) (es : List Entry) (k : ℕ) : Type 0 where
   pub fits : k ≤ length es
   pub first : (i p : ℕ) → i < k → named_at cycle es i ≡ Some p → k ≤ p

@@ -45,7 +45,7 @@ seen_byte memory es x = byte_from memory (newest_at es x) x
 abbrev pub seen_value : (ℕ → ℕ) → List Entry → Span → ℕ
 seen_value memory es s = number_in (seen_byte memory es) s
 
--- ---- the answer to a load
+-- ---- what a load gets
 
 -- no store shares a byte with a span, or this one covers all of it
 abbrev pub is_clear_of : Option Bytes → Span → Bool
@@ -56,7 +56,7 @@ is_clear_of (Some b) s = covers b.span s
 abbrev pub is_clear : List Entry → Span → Bool
 is_clear es s = is_clear_of (newest_sharing es s) s
 
--- the answer to a clear load: memory's number, or the part of that store's
+-- what a clear load gets: memory's number, or the part of that store's
 abbrev pub forwarded : (ℕ → ℕ) → Option Bytes → Span → ℕ
 forwarded memory None s = number_in memory s
 forwarded memory (Some b) s = part_of b s
@@ -66,7 +66,7 @@ abbrev pub span_asked : Effect → Option Span
 span_asked (Loads kind address) = Some (load_span address (load_bytes kind))
 span_asked _ = None
 
--- the number that answers it after these entries, 0 where there is no load
+-- the number that it gets after these entries, 0 where there is no load
 abbrev pub number_answered : (ℕ → ℕ) → List Entry → Effect → ℕ
 number_answered memory es e = option_map_or (λ s. forwarded memory (newest_sharing es s) s) (span_asked e) 0
 

@@ -1,4 +1,4 @@
-// What instructions in flight ask of memory.
+//! What instructions in flight ask of memory.
 ghost use Rattle.std.specs.Prelude.{◌≡◌};
 ghost use Rattle.paged_memory.specs.Cells.{bytes_of, rights_at};
 ghost use Rattle.core_view.specs.Outcomes.{fault_of, memory_after, IsWidth, IsSized};

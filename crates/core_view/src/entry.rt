@@ -1,4 +1,4 @@
-// Entries in flight.
+//! Entries in flight.
 ghost use Rattle.std.specs.Prelude.{◌≡◌};
 ghost use Rattle.core_view.specs.Flight.{result_of, bytes_done, span_read};
 ghost use Rattle.core_view.specs.Flight.{is_done as is_done_of};

@@ -1,4 +1,4 @@
-// What a cycle did.
+//! What a cycle did.
 ghost use Rattle.std.specs.Prelude.{◌≡◌, []};
 
 use arrayvec::ArrayVec;

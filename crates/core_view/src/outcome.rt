@@ -1,4 +1,4 @@
-// What an instruction does in flight.
+//! What an instruction does in flight.
 ghost use Rattle.std.specs.Prelude.{◌≡◌};
 ghost use Rattle.core_view.specs.Outcomes.{goes_to as goes_to_of, loads_at as loads_at_of, stores_at as stores_at_of, outcome_with, bytes_written, span_of};
 ghost use Rattle.core_view.specs.Flight.{result_in, bytes_in, span_in};
@@ -116,8 +116,8 @@ fn stores_at(pc: u64, width: StoreWidth, address: u64, value: u64) -> Outcome
 }
 
 impl Outcome {
-    /// The outcome of an effect at a pc, with what was answered to its access: why it is refused,
-    /// or the number that a load reads (a store may be answered any).
+    /// The outcome of an effect at a pc, with what memory gives for its access: why it is refused,
+    /// or the number that a load reads (for a store any).
     pub fn of_effect(pc: u64, effect: Effect, answered: Result<u64, Fault>) -> Outcome
         ensures { result ≡ outcome_with pc effect answered }
     {

@@ -1,4 +1,4 @@
-// Ranges of addresses that loads and stores touch, and the bytes of a store.
+//! Ranges of addresses that loads and stores touch, and the bytes of a store.
 ghost use Rattle.std.specs.Prelude.{◌≡◌, ◌↔◌, ◌<◌, ◌/◌, ◌%◌, ◌^◌, ℕ, IsTrue};
 ghost use Rattle.core_view.specs.Spans.{contains as contains_of, shares as shares_of, covers as covers_of, byte_after, part_of, number_in};
 

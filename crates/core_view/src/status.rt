@@ -1,4 +1,4 @@
-// Whether a context runs.
+//! Whether a context runs.
 ghost use Rattle.std.specs.Prelude.{◌≡◌, ◌↔◌, IsTrue};
 ghost use Rattle.core_view.specs.View.{status_at};
 ghost use Rattle.core_view.specs.declared.status.Status.TheVariants.{Running};

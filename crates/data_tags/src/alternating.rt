@@ -6,10 +6,10 @@ ghost use Rattle.data_tags.specs.Alternate.{alternating_lag};
 use crate::{Delay, Kind, Lag};
 use join_law::Ctx;
 
-/// Answers 1 cycle and 200 cycles by turns, whatever it is asked. A load of 200 cycles is a miss.
+/// Takes 1 cycle and 200 cycles by turns, whatever it is asked. A load of 200 cycles is a miss.
 #[derive(Clone, Copy, Debug, PartialEq, Eq)]
 pub struct Alternating {
-    /// Whether the next answer is 200 cycles.
+    /// Whether the next lag is 200 cycles.
     pub long: bool,
 }
 

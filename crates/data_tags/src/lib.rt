@@ -1,6 +1,6 @@
 //! How many cycles an issued instruction takes.
 //!
-//! `Delay` is the trait of all latencies. A core asks one at issue, and is right whatever the answers are. `Flat` has
+//! `Delay` is the trait of all latencies. A core asks one at issue, and is right whatever the lags are. `Flat` has
 //! one latency for each kind of instruction, `Tags` a table of data tags by which loads hit or miss.
 #![tactic(auto)]
 

@@ -20,12 +20,12 @@ pub record IsLabResult (plan : PlanValue) (opening : Eight MarkValue) (results :
   pub jobs : AreJobResults opening [] plan.jobs results.jobs.items
   pub book : results.marks ≡ book_after opening results.jobs.items
 
--- whether a job was refused for memory
+-- whether a job ran out of memory
 abbrev pub is_refused : JobEnd → Bool
 is_refused Refused = true
 is_refused (Ran run) = false
 
--- the first job that was refused for memory, counted from 0, if there is one
+-- the first job that ran out of memory, counted from 0, if there is one
 abbrev pub first_refused : List JobResult → Option ℕ
 first_refused jobs = position (λ job. is_refused job.end) jobs
 

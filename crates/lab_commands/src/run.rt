@@ -48,7 +48,7 @@ fn output_of<'a, A: Allocator>(
 
 /// Serves a request: reads the text of its file from `input` and writes to `output` what the
 /// command gives for it. Where it refuses, nothing was written, or, where the sink
-/// failed, a beginning of that; but where a job was refused for memory, all was written. Plans, and
+/// failed, a beginning of that; but where a job ran out of memory, all was written. Plans, and
 /// what their jobs run on, are kept in `global`.
 pub fn serve<'a, A: Allocator, R: Source, W: Sink>(
     alloc: &'a A,

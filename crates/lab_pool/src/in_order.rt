@@ -17,8 +17,8 @@ use std::alloc::Global;
 /// that starts at `furthest` starts at the book as the jobs before it left it.
 ///
 /// # Errors
-/// E1 where memory was refused for the book or for the list of jobs. A job that is refused memory is told as refused,
-/// and the next one runs.
+/// E1 where there is no memory for the book or for the list of jobs. A job that runs out of memory is reported as
+/// refused, and the next one runs.
 pub fn run_in_order(
     alloc: Global,
     plan: &Plan,

@@ -40,7 +40,7 @@ retire_in_flight v w ids h =
 completed_left : (cycle : ℕ) (x y : Context) → IsCompletedTo cycle (length y.flight) x y → length y.flight + 0 ≤ length x.flight
 completed_left cycle x y a = let fits = a.cut.fits in omega (arith, fits)
 
--- what completes stays; what is cut has left
+-- what completes stays; what is squashed has left
 pub complete_in_flight : (v w : View) (n : ℕ) → IsComplete v w n → in_flight w ≤ in_flight v
 complete_in_flight v w n h =
     let sum = sums_le (λ c. length (flight_in w c)) (λ c. 0) (λ c. length (flight_in v c)) (λ c lc. completed_left v.cycle (context_in v c) (context_in w c) (h.contexts.contexts.each c lc)) in
@@ -48,7 +48,7 @@ complete_in_flight v w n h =
     let after = in_flight_of w in
     omega (arith, sum, before, after)
 
--- so the cut number is a difference that doesn't wrap
+-- so the number of squashed entries is a difference that doesn't wrap
 pub cut_is : (v r c : View) (ids : List EntryId) (n : ℕ) → IsRetire v r ids → IsComplete r c n → in_flight v - in_flight c - length ids + length ids + in_flight c ≡ in_flight v
 cut_is v r c ids n retire complete =
     let a = retire_in_flight v r ids retire in

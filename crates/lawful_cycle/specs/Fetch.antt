@@ -1,6 +1,6 @@
 -- Fetch: the picks fetch in their order. Each takes the least of num2, its room in 16 and what is left of eight, fewer only
 -- where its block ends, and nothing after that end; the entries get the next stamps in that order. The followed pc of a
--- guessed entry is an answer that the guess states for it, its two low bits cleared.
+-- guessed entry is one that the guess states for it, its two low bits cleared.
 use Rattle.std.specs.Prelude.{◌≡◌, ℕ, ◌+◌, ◌-◌, ◌<◌, ◌≤◌, ◌%◌, Bool, true, false, not, ◌&&◌, ◌||◌, ◌==◌, nat_lt, min, List, length, filter, flat_map, take, find, get_or, count_by, sum_by, IsTrue, Option, option_map}
 use Rattle.rv64_decode.specs.declared.insn.Insn.{Insn}
 use Rattle.hart_step.specs.State.{following}

@@ -1,4 +1,4 @@
--- The number that answers a load.
+-- The number that a load gets.
 use Rattle.std.specs.Prelude.{ℕ, Option, Some, None}
 use Rattle.load_store_queue.specs.declared.answer.LoadAnswer.{LoadAnswer}
 use Rattle.load_store_queue.specs.declared.answer.LoadAnswer.TheVariants.{Ready, Wait}

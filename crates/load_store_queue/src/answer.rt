@@ -1,6 +1,6 @@
-//! What answers a load.
+//! What a load gets.
 
-/// What answers a load that asks for its bytes.
+/// What a load gets that asks for its bytes.
 #[derive(Clone, Copy, Debug, PartialEq, Eq)]
 pub enum LoadAnswer {
     /// The number that its bytes spell, least first.

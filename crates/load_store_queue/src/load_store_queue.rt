@@ -137,7 +137,7 @@ impl<A: Allocator> LoadStoreQueue<A> {
         conflict(&self.loads, stamp, stored)
     }
 
-    /// What answers a load with a stamp that asks for a width at an address. It sees each byte of the newest older store
+    /// What a load with a stamp gets that asks for a width at an address. It sees each byte of the newest older store
     /// that has completed and covers it, else memory's; a store that hasn't completed is passed. It waits where the newest
     /// of these that shares a byte with it has only some of its bytes.
     #[inline]

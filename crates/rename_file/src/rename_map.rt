@@ -90,7 +90,7 @@ impl<A: Allocator> RenameMap<A> {
         let _ = self.changes.try_push_back(Change { rename, previous });
     }
 
-    // The oldest rename becomes the committed register. The one that it replaces is answered.
+    // The oldest rename becomes the committed register. The one that it replaces is returned.
     pub(crate) fn commit(&mut self) -> PhysicalRegister
         requires some { 0 < length self.old.renames }
         requires name { (first self.old).rd < 32 }
@@ -103,7 +103,7 @@ impl<A: Allocator> RenameMap<A> {
         freed
     }
 
-    // The newest rename is forgotten, and its register answered.
+    // The newest rename is forgotten, and its register returned.
     pub(crate) fn undo(&mut self) -> PhysicalRegister
         requires some { 0 < length self.old.renames }
         requires name { (last self.old).rd < 32 }

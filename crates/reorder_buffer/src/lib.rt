@@ -1,7 +1,7 @@
 //! Reorder buffers: rings of fixed capacity, seen as lists whose stamps grow.
 //!
-//! Entries enter at the end and leave at the head, in order. A cut drops the entries of the end whose stamp is at least
-//! a given one.
+//! Entries enter at the end and leave at the head, in order. A squash drops the entries of the end whose stamp is at
+//! least a given one.
 #![tactic(auto)]
 
 mod fault;

@@ -36,7 +36,7 @@ fn results_of<A: Allocator>(global: Global, plan: &Plan) -> Result<LabResult, Re
     Ok(run_in_order(global, plan, opening)?)
 }
 
-/// The first job that was refused for memory, if there is one.
+/// The first job that ran out of memory, if there is one.
 fn first_refused(jobs: &[JobResult]) -> Option<usize>
     ensures { result ≡ spec.first_refused jobs.now }
 {
@@ -44,7 +44,7 @@ fn first_refused(jobs: &[JobResult]) -> Option<usize>
         .position(|job| matches!(job.end, JobEnd::Refused))
 }
 
-/// The report of a plan's text, and the first job that was refused for memory.
+/// The report of a plan's text, and the first job that ran out of memory.
 pub fn report_of<'a, A: Allocator>(
     alloc: &'a A,
     global: Global,
