@@ -24,6 +24,9 @@ def tried(document: str) -> Tuple[int, str]:
         with open(program, "w", encoding="utf-8") as file:
             file.write(PROGRAM)
         os.chmod(program, 0o755)
+        os.mkdir(os.path.join(folder, "examples"))
+        with open(os.path.join(folder, "examples", "one.s"), "w", encoding="utf-8") as file:
+            file.write("echo word\n")
         with open(os.path.join(folder, "README.md"), "w", encoding="utf-8") as file:
             file.write(document)
         said = io.StringIO()
@@ -68,6 +71,18 @@ class Documents(unittest.TestCase):
         command = block("$ ./smt-lab a", "a")
         self.assertEqual(tried(command + "\n```sh program\n#!/bin/sh\n```\n")[0], 0)
         self.assertEqual(tried(command + "\n```toml program\nexit\n```\n")[0], 1)
+
+    def test_names_and_paths(self) -> None:
+        command = block("$ ./smt-lab a", "a")
+        for known in ("echo", "examples/one.s", "one.s", "examples/", "examples/one", "echo::word", "a + b"):
+            self.assertEqual(tried(command + f"\n`{known}`\n")[0], 0, known)
+        for unknown in ("ecko", "examples/two.s", "two.s", "echo::wort"):
+            status, said = tried(command + f"\n`{unknown}`\n")
+            self.assertEqual(status, 1, unknown)
+            self.assertTrue(said.startswith(f"README.md:7: there is no {unknown}\n"), said)
+
+    def test_names_in_a_block_are_not_looked_for(self) -> None:
+        self.assertEqual(tried(block("$ ./smt-lab `ecko`", "`ecko`"))[0], 0)
 
     def test_lines_left_out(self) -> None:
         self.assertEqual(tried(block("$ ./smt-lab a b c d", "a", "..", "d"))[0], 0)

@@ -1,6 +1,6 @@
 #!/usr/bin/env python3
 """Runs the commands that the documents show, and compares what they print with what the documents say; and finds the
-lines that they quote.
+lines that they quote and the files and names that they name.
 
 usage: tools/try_docs.py PROGRAM [FOLDER]
 
@@ -8,20 +8,29 @@ A command stands in a block that is fenced as `console`, on a line that begins w
 up to the next command or the block's end. A line `..` there stands for any number of lines. Commands run in the top folder,
 with PROGRAM in place of `./smt-lab`, and no other command is tried. What is quoted from a file of the folder stands in a
 block that is fenced with a language and a path, as `rust PATH` or `toml PATH`, and has to stand in that file, line by line,
-with whatever indentation. It prints a line for each command that differs and each quotation that isn't found; the status is 0 where there is none, and
-1 where there is no command to try.
+with whatever indentation. A path between backticks has to be one of the folder, or the end of one, and a name between
+backticks has to stand somewhere in its crates, tools or examples. It prints a line for each command that differs and each
+quotation, path or name that isn't found; the status is 0 where there is none, and 1 where there is no command to try.
 """
 
 import glob
 import os
+import re
 import shlex
 import subprocess
 import sys
-from typing import Iterator, List, NamedTuple, Tuple
+from typing import Iterator, List, NamedTuple, Set, Tuple
 
 TOP = os.path.dirname(os.path.dirname(os.path.abspath(__file__)))
 DOCUMENTS = ("README.md", "docs/*.md", "examples/**/*.md", "crates/*/README.md")
 SELF = "./smt-lab"
+NAMING = ("crates", "tools", "examples", "docs")
+PATH = re.compile(r"[\w./-]+\.(?:rt|antt|md|py|edit|toml|report|txt|s|S|c|ld)|[\w.-]+(?:/[\w.-]+)+/?")
+NAME = re.compile(r"[A-Za-z_][\w'-]*(?:(?:::|\.)[A-Za-z_][\w'-]*)*")
+# Names that documents tell of and the folder doesn't have: of other programs and libraries, of the paper, and those of the
+# recipes in docs/architecture.md, which were tried on a copy.
+ELSEWHERE = {"clang", "lld", "gcc-riscv64-unknown-elf", "__muldi3", "__divdi3", "items-with_items", "alg.num1.num2", "_tests",
+             "FIXED", "YOUNGEST_FIRST", "andn", "fetch_width", "crates/NAME/must-fail/", "proofs/../Answers.antt"}
 
 
 class Shown(NamedTuple):
@@ -84,6 +93,50 @@ def is_quoted(it: Shown, folder: str) -> bool:
     return any(lines[start:start + count] == it.lines for start in range(len(lines) - count + 1))
 
 
+class Names:
+    """The paths of a folder, and the words that its files hold."""
+
+    def __init__(self, folder: str) -> None:
+        self.paths: Set[str] = set()
+        self.words: Set[str] = set()
+        for top in NAMING:
+            for place, folders, files in os.walk(os.path.join(folder, top)):
+                folders[:] = [it for it in folders if it not in ("out", "__pycache__")]
+                self.take(folder, place, files)
+        self.take(folder, folder, [it for it in ("smt-lab", "crates.txt") if os.path.isfile(os.path.join(folder, it))])
+
+    def take(self, folder: str, place: str, files: List[str]) -> None:
+        """The files of one place: the ends of each path, with and without its last suffix, and the words but of documents."""
+        for name in files:
+            parts = os.path.relpath(os.path.join(place, name), folder).split(os.sep)
+            for it in (parts, parts[:-1] + [os.path.splitext(name)[0]]):
+                self.paths |= {"/".join(it[start:end]) for end in range(1, len(it) + 1) for start in range(end)}
+            if not name.endswith(("try_docs.py", ".md")):
+                with open(os.path.join(place, name), encoding="utf-8", errors="replace") as file:
+                    text = file.read()
+                self.words |= set(re.findall(r"\w+", text)) | set(re.findall(r"[\w'-]+", text))
+
+    def has(self, it: str, place: str) -> bool:
+        """Whether there is such a path or name; a path may begin at the document's own place."""
+        if it in ELSEWHERE:
+            return True
+        if PATH.fullmatch(it):
+            return it.rstrip("/") in self.paths or os.path.exists(os.path.join(place, it))
+        return not NAME.fullmatch(it) or all(part in self.words for part in re.split(r"::|\.", it))
+
+
+def named_in(name: str, text: str) -> List[Shown]:
+    """The words that a document has between backticks, outside its blocks."""
+    found: List[Shown] = []
+    inside = False
+    for number, line in enumerate(text.splitlines(), 1):
+        if line.strip().startswith("```"):
+            inside = not inside
+        elif not inside:
+            found += [Shown(f"{name}:{number}", it, []) for it in re.findall(r"`([^`\s]+)`", line)]
+    return found
+
+
 def is_alike(wanted: List[str], printed: List[str]) -> bool:
     """Whether the lines are those that are wanted, where `..` stands for any number of them."""
     if ".." not in wanted:
@@ -116,20 +169,25 @@ def main(words: List[str]) -> int:
     folder = os.path.abspath(words[1]) if len(words) == 2 else TOP
     found: List[Shown] = []
     quoted: List[Shown] = []
+    unknown: List[Shown] = []
+    names = Names(folder)
     for pattern in DOCUMENTS:
         for path in sorted(glob.glob(f"{folder}/{pattern}", recursive=True)):
             with open(path, encoding="utf-8") as file:
                 text = file.read()
             found += shown_in(os.path.relpath(path, folder), text)
             quoted += quoted_in(os.path.relpath(path, folder), text)
+            unknown += [it for it in named_in(os.path.relpath(path, folder), text) if not names.has(it.command, os.path.dirname(path))]
     wrong = [(it, said) for it in found for said in [differs(it, program, folder)] if said]
     for it, said in wrong:
         print(f"{it.place}: {it.command}: {said}")
     lost = [it for it in quoted if not is_quoted(it, folder)]
     for it in lost:
         print(f"{it.place}: {it.command} doesn't have these lines")
+    for it in unknown:
+        print(f"{it.place}: there is no {it.command}")
     print(f"{len(found) - len(wrong)} of {len(found)} commands print what the documents show")
-    return 0 if found and not wrong and not lost else 1
+    return 0 if found and not wrong and not lost and not unknown else 1
 
 
 if __name__ == "__main__":
