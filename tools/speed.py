@@ -10,7 +10,7 @@ whole process, its start and the reading of its file included. `run` takes C cyc
 examples/mix, which don't end, `step` N instructions (default 100000000).
 
 With --growth a cycle is timed over 8, 16, 32 and 64 places of the issue queue, and of the reorder buffer, beside the
-instructions that issue in it: every other structure is as large as it may be, so that only these places limit the core.
+instructions that issue in it, all else by default, at two contexts and at eight.
 
 The status is 0 where all runs succeed and both programs print the same.
 """
@@ -104,13 +104,10 @@ def steps(count: int) -> List[Workload]:
 
 
 def growths(cycles: int) -> List[Workload]:
-    """The mix over more and more places of one structure, all others as large as they may be."""
-    found = []
-    for key, name in (("issue_queue", "issue queue"), ("reorder_buffer", "reorder buffer")):
-        for places in (8, 16, 32, 64):
-            sizes = {**SIZES["large"], key: places}
-            found.append(run_of((name, str(places)), mix_at(CONTEXTS), sizes, cycles))
-    return found
+    """The mix over more and more places of one structure, all else by default."""
+    return [run_of((name, str(contexts), str(places)), mix_at(contexts), {key: places}, cycles)
+            for key, name in (("issue_queue", "issue queue"), ("reorder_buffer", "reorder buffer"))
+            for contexts in (2, CONTEXTS) for places in (8, 16, 32, 64)]
 
 
 def run(program: str, words: Sequence[str]) -> Ran:
@@ -211,13 +208,13 @@ def other_head(timed: Sequence[Timed], what: str) -> List[str]:
 
 def growth_table(timed: Sequence[Timed]) -> str:
     """The table of the growth: times and entries against the row of a structure's fewest places."""
-    head = ["Structure", "Places", "Microseconds a cycle", "Times the first", "Issued a cycle", "Times the first"]
+    head = ["Structure", "Contexts", "Places", "Microseconds a cycle", "Times that of 8", "Issued a cycle", "Times that of 8"]
     rows = []
-    first: Dict[str, Tuple[float, float]] = {}
+    first: Dict[Tuple[str, ...], Tuple[float, float]] = {}
     for it in timed:
         cycles = max(figure(it.out, "cycles"), 1)
         time, issued = it.seconds[0] / cycles * 1e6, figure(it.out, "issued") / cycles
-        base = first.setdefault(it.workload.cells[0], (max(time, 1e-9), max(issued, 1e-9)))
+        base = first.setdefault(it.workload.cells[:-1], (max(time, 1e-9), max(issued, 1e-9)))
         rows.append([*it.workload.cells, f"{time:.2f}", f"{time / base[0]:.2f}", f"{issued:.2f}", f"{issued / base[1]:.2f}"])
     return table(head, rows)
 

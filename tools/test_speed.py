@@ -66,11 +66,11 @@ class Tables(unittest.TestCase):
 
     def test_growth_is_told_against_the_first_row_of_a_structure(self) -> None:
         more = REPORT.replace("issued 7000", "issued 7700")
-        rows = speed.growth_table([named([0.5], REPORT, ("issue queue", "8")), named([0.6], more, ("issue queue", "16")),
-                                   named([0.2], more, ("reorder buffer", "8"))]).splitlines()[2:]
-        self.assertEqual(rows, ["| issue queue | 8 | 500.00 | 1.00 | 7.00 | 1.00 |",
-                                "| issue queue | 16 | 600.00 | 1.20 | 7.70 | 1.10 |",
-                                "| reorder buffer | 8 | 200.00 | 1.00 | 7.70 | 1.00 |"])
+        rows = speed.growth_table([named([0.5], REPORT, ("issue queue", "2", "8")), named([0.6], more, ("issue queue", "2", "16")),
+                                   named([0.2], more, ("issue queue", "8", "8"))]).splitlines()[2:]
+        self.assertEqual(rows, ["| issue queue | 2 | 8 | 500.00 | 1.00 | 7.00 | 1.00 |",
+                                "| issue queue | 2 | 16 | 600.00 | 1.20 | 7.70 | 1.10 |",
+                                "| issue queue | 8 | 8 | 200.00 | 1.00 | 7.70 | 1.00 |"])
 
 
 class Measuring(unittest.TestCase):
@@ -144,17 +144,17 @@ class Program(unittest.TestCase):
 
     def test_growth(self) -> None:
         status, said = tried([PROGRAM], "--growth")
-        self.assertEqual((status, len(said.splitlines())), (0, 11), said)
+        self.assertEqual((status, len(said.splitlines())), (0, 19), said)
 
     def test_another_program_that_prints_something_else(self) -> None:
         status, said = tried([PROGRAM, PROGRAM.replace("squashed 100", "squashed 101")], "--growth")
         self.assertEqual(status, 1)
-        self.assertIn("program1: run issue queue 8: prints something else than the first run", said.splitlines())
+        self.assertIn("program1: run issue queue 2 8: prints something else than the first run", said.splitlines())
 
     def test_a_program_that_fails(self) -> None:
         status, said = tried(["#!/bin/sh\necho refused E1 >&2\nexit 1\n"], "--growth")
         self.assertEqual(status, 1)
-        self.assertIn("program0: run issue queue 8: status 1: refused E1", said.splitlines())
+        self.assertIn("program0: run issue queue 2 8: status 1: refused E1", said.splitlines())
 
 
 if __name__ == "__main__":
