@@ -5,5 +5,6 @@ pub mod PickTurns
 pub mod Picked
 pub mod EightOf
 pub mod AheadCounts
+pub mod KeptFronts
 pub mod Renamings
 pub mod Whole

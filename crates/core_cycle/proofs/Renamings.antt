@@ -1,5 +1,5 @@
 -- Entries are renamed one by one, each the oldest that can be.
-use Rattle.std.proofs.Common.{◌≡◌, ◌≢◌, ℕ, ◌+◌, ◌<◌, ◌≤◌, Bool, true, false, List, [], ◌∷◌, ◌++◌, length, take, map, get_or, Option, Some, None, refl, sym, ap, ◌∙◌, subst, arith, inl, inr}
+use Rattle.std.proofs.Common.{◌≡◌, ◌≢◌, ℕ, ◌<◌, Bool, true, false, List, [], ◌∷◌, ◌++◌, length, take, map, get_or, refl, sym, ap, ◌∙◌, subst, arith, inl, inr}
 use Rattle.std.specs.Prelude.{◌==◌, ◌||◌, set, if◌then◌else◌}
 use Rattle.std.specs.List.{list_any}
 use Rattle.std.proofs.lemmas.Bool.{cases_lt, cases_eq, eq-eqb, ne_eqb, and_from, and_left, and_right}
@@ -8,80 +8,13 @@ use Rattle.core_view.specs.declared.entry.Entry.{Entry}
 use Rattle.core_view.specs.declared.note.EntryId.{EntryId}
 use Rattle.core_view.specs.Flight.{IsGrowing}
 use Rattle.core_view.specs.Events.{with_flight, with_stage, renamed_stage, rename_event}
-use Rattle.core_view.specs.View.{Context, View, no_entry, entry_at}
+use Rattle.core_view.specs.View.{Context, View, no_entry}
 use Rattle.lawful_cycle.specs.Views.{context_in, is_id}
-use Rattle.lawful_cycle.specs.Rename.{CanRename, IsNext, no_id, renamed_if, renamed_context, renamed_view}
+use Rattle.lawful_cycle.specs.Rename.{IsNext, no_id, renamed_if, renamed_context, renamed_view}
 use Rattle.lawful_cycle.proofs.Laws.{same_views, renamed_in, renamed_none}
 use Rattle.core_back.specs.Machine.{Machine, context_at, no_context}
 use Rattle.core_back.specs.Fetched.{IsRenamed}
-use Rattle.core_back.specs.Renamable.{CanRenameStamp}
 use Rattle.core_back.proofs.Laws.{same_place}
-use Rattle.core_cycle.specs.Renamed.{IsNextBelow}
-
--- ---- the oldest that can be renamed
-
--- a context has one entry that can be
-one_entry : (v : View) (c : ℕ) (e f : Entry) → CanRename v c e → CanRename v c f → e ≡ f
-one_entry v c e f a b = of_some (sym a.oldest ∙ b.oldest)
-  where
-    of_some : Some e ≡ Some f → e ≡ f
-    of_some h = cc
-
-pub next_none : (v : View) → IsNextBelow v 0 None
-next_none v d f lt = absurd (omega (arith, lt))
-
--- one more context has none
-pub next_keeps : (v : View) (c : ℕ) (best : Option EntryId) → IsNextBelow v c best → ((e : Entry) → ¬ CanRename v c e) → IsNextBelow v (c + 1) best
-next_keeps v c None h none = λ d f lt can. elim (cases_lt d c) [ inl less ↦ h d f less can | inr ge ↦ none f (subst (λ k. CanRename v k f) (omega (arith, ge, lt)) can) ]
-next_keeps v c (Some n) h none = record {
-  entry = h.entry;
-  can = h.can;
-  stamp = h.stamp;
-  least = λ d f lt can. elim (cases_lt d c) [ inl less ↦ h.least d f less can | inr ge ↦ absurd (none f (subst (λ k. CanRename v k f) (omega (arith, ge, lt)) can)) ];
-}
-
--- it has the first one
-pub next_first : (v : View) (c stamp : ℕ) → IsNextBelow v c None → CanRenameStamp v c stamp → IsNextBelow v (c + 1) (Some (record { context = c; stamp = stamp }))
-next_first v c stamp h here = record {
-  entry = here.entry;
-  can = here.can;
-  stamp = here.stamp_is;
-  least = λ d f lt can. elim (cases_lt d c) [
-    | inl less ↦ absurd (h d f less can)
-    | inr ge ↦ let same = ap (λ (e : Entry). e.stamp) (one_entry v c here.entry f here.can (subst (λ k. CanRename v k f) (omega (arith, ge, lt)) can)) in omega (arith, same)
-  ];
-}
-
--- an older one, or one that isn't
-pub next_older : (v : View) (c stamp : ℕ) (n : EntryId) → IsNextBelow v c (Some n) → CanRenameStamp v c stamp → stamp < n.stamp → IsNextBelow v (c + 1) (Some (record { context = c; stamp = stamp }))
-next_older v c stamp n h here less = record {
-  entry = here.entry;
-  can = here.can;
-  stamp = here.stamp_is;
-  least = λ d f lt can. elim (cases_lt d c) [
-    | inl earlier ↦ let le = h.least d f earlier can in let is = h.stamp in let mine = here.stamp_is in omega (arith, le, is, mine, less)
-    | inr ge ↦ let same = ap (λ (e : Entry). e.stamp) (one_entry v c here.entry f here.can (subst (λ k. CanRename v k f) (omega (arith, ge, lt)) can)) in omega (arith, same)
-  ];
-}
-
-pub next_younger : (v : View) (c stamp : ℕ) (n : EntryId) → IsNextBelow v c (Some n) → CanRenameStamp v c stamp → n.stamp ≤ stamp → IsNextBelow v (c + 1) (Some n)
-next_younger v c stamp n h here ge = record {
-  entry = h.entry;
-  can = h.can;
-  stamp = h.stamp;
-  least = λ d f lt can. elim (cases_lt d c) [
-    | inl earlier ↦ h.least d f earlier can
-    | inr last ↦
-        let same = ap (λ (e : Entry). e.stamp) (one_entry v c here.entry f here.can (subst (λ k. CanRename v k f) (omega (arith, last, lt)) can)) in
-        let is = h.stamp in
-        let mine = here.stamp_is in
-        omega (arith, same, is, mine, ge)
-  ];
-}
-
--- of all eight it is the next, whatever is renamed of its context has its stamp
-pub is_next : (v : View) (n : EntryId) → IsNextBelow v 8 (Some n) → IsNext v n
-is_next v n h = record { entry = h.entry; can = h.can; stamp = h.stamp; least = λ d f can. h.least d f can.context can }
 
 -- ---- one entry is renamed
 
@@ -243,13 +176,6 @@ each_next v ids id each next = λ j lt. elim (cases_lt j (length ids)) [
   where
     parts : (a b : List EntryId) (m k : EntryId) → b ≡ a → k ≡ m → IsNext (renamed_view v a) m → IsNext (renamed_view v b) k
     parts a b m k p q h = rw (p, q) h
-
--- what is renamed of the next one's context is the next one
-pub next_is_renamed : (n u : Machine) (id : EntryId) (stamp : ℕ) → IsNext n.view id → IsRenamed n u id.context stamp → stamp ≡ id.stamp
-next_is_renamed n u id stamp next one = sym one.stamp_is ∙ ap (λ (e : Entry). e.stamp) (one_entry n.view id.context (entry_at (context_at n id.context) one.place) next.entry one.can next.can) ∙ next.stamp
-
-pub next_by_stamp : (v w : View) (id : EntryId) (stamp : ℕ) → v ≡ w → stamp ≡ id.stamp → IsNext v id → IsNext w (record { context = id.context; stamp = stamp })
-next_by_stamp v w id stamp same is h = subst (λ u. IsNext u (record { context = id.context; stamp = stamp })) same (record { entry = h.entry; can = h.can; stamp = h.stamp ∙ sym is; least = h.least })
 
 pub rename_none : (v : View) (ids : List EntryId) → length v.contexts ≡ 8 → ids ≡ [] → v ≡ renamed_view v ids
 rename_none v ids count none = rw none (renamed_none v count)

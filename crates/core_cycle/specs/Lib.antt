@@ -1,5 +1,5 @@
 pub mod FaultText
 pub mod Faults
 pub mod Picks
-pub mod Renamed
+pub mod Fronts
 pub mod Shown

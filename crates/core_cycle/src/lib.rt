@@ -5,6 +5,7 @@ mod contexts;
 mod cycle;
 mod fault;
 mod fetching;
+mod fronts;
 mod renaming;
 
 pub use cycle::Core;

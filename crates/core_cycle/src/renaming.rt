@@ -1,14 +1,16 @@
 //! The part of a cycle in which entries are renamed.
 
-ghost use Rattle.std.specs.Prelude.{◌≡◌, ◌+◌, ◌<◌, []};
-ghost use Rattle.lawful_cycle.specs.Rename.{IsRename};
+ghost use Rattle.std.specs.Prelude.{◌≡◌, ◌+◌, ◌<◌, ℕ, [], None, IfSome};
+ghost use Rattle.core_view.specs.declared.entry.Entry.{Entry};
+ghost use Rattle.lawful_cycle.specs.Rename.{CanRename, IsNext, IsRename};
 ghost use Rattle.core_back.specs.Machine.{IsAlike, in_flight};
-ghost use Rattle.core_cycle.specs.Renamed.{IsNextBelow};
+ghost use Rattle.core_back.specs.Fetched.{IsRenamed};
+ghost use Rattle.core_cycle.specs.Fronts.{AreFronts};
 
+use crate::fronts::{fronts_of, oldest_front};
 use arrayvec::ArrayVec;
 use core_back::Machine;
 use core_view::EntryId;
-use join_law::Ctx;
 use std::alloc::Allocator;
 
 /// Entries are renamed, one by one, at most as many as the rename width: each is the one with the least stamp of the
@@ -24,50 +26,42 @@ pub(crate) fn rename<A: Allocator>(machine: &mut Machine<A>, renamed: &mut Array
     let width = usize::from(machine.profile().rename_width);
     // `cycle` ensures that each context is live, so its stamps grow.
     let _live = machine.cycle();
+    let mut fronts = fronts_of(machine);
     for _place in 0..width {
-        let Some(next) = oldest_renamable(machine) else {
+        let Some(oldest) = rename_oldest(machine, &mut fronts) else {
             return;
         };
-        let Some(stamp) = machine.try_rename(next.context) else {
-            return;
-        };
-        renamed.push(EntryId {
-            context: next.context,
-            stamp,
-        });
+        renamed.push(oldest);
     }
 }
 
-/// Of the contexts' oldest fetched entries that can be renamed, the one with the least stamp.
-fn oldest_renamable<A: Allocator>(machine: &Machine<A>) -> Option<EntryId>
-    requires { machine.now.names ≡ [] }
-    ensures { IsNextBelow machine.now.view 8 result }
-{
-    let mut oldest = None;
-    for context in Ctx::all() {
-        oldest = older(machine, oldest, context);
-    }
-    oldest
-}
-
-/// The oldest entry that can be renamed of a context and those below it, from the oldest of those below it.
-fn older<A: Allocator>(
-    machine: &Machine<A>,
-    oldest: Option<EntryId>,
-    context: Ctx,
+/// The oldest entry that can be renamed is renamed, if there is one, and its context's front is asked anew: what can be
+/// renamed of another context then could be before.
+fn rename_oldest<A: Allocator>(
+    machine: &mut Machine<A>,
+    fronts: &mut [Option<u64>; 8],
 ) -> Option<EntryId>
-    requires idle { machine.now.names ≡ [] }
-    requires below { IsNextBelow machine.now.view context oldest }
-    ensures { IsNextBelow machine.now.view (context + 1) result }
+    requires idle { machine.old.names ≡ [] }
+    requires fronts { AreFronts machine.old.view fronts.old }
+    ensures none { result ≡ None → (c : ℕ) (e : Entry) → ¬ (CanRename machine.new.view c e) }
+    ensures kept { result ≡ None → machine.new ≡ machine.old }
+    ensures next { IfSome result (IsNext machine.old.view) }
+    ensures renamed { IfSome result (λ n. IsRenamed machine.old machine.new n.context n.stamp) }
+    ensures fronts { AreFronts machine.new.view fronts.new }
+    ensures alike { IsAlike machine.old machine.new }
+    ensures flights { in_flight machine.new ≡ in_flight machine.old }
+    ensures idle { machine.new.names ≡ [] }
 {
-    let Some(stamp) = machine.renamable(context) else {
-        return oldest;
-    };
-    let Some(earlier) = oldest else {
-        return Some(EntryId { context, stamp });
-    };
-    if earlier.stamp < stamp {
-        return Some(earlier);
+    while let Some(front) = oldest_front(fronts) {
+        let place = front.context.index();
+        if let Some(stamp) = machine.try_rename(front.context) {
+            fronts[place] = machine.renamable(front.context);
+            return Some(EntryId {
+                context: front.context,
+                stamp,
+            });
+        }
+        fronts[place] = None;
     }
-    Some(EntryId { context, stamp })
+    None
 }

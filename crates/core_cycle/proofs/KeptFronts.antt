@@ -1,0 +1,141 @@
+-- What is known of the contexts' fronts as they are asked, and after an entry is renamed.
+use Rattle.std.proofs.Common.{◌≡◌, ◌≢◌, ℕ, ◌+◌, ◌<◌, ◌≤◌, Bool, true, false, List, length, get_or, Option, Some, None, refl, sym, ap, ◌∙◌, subst, arith, inl, inr}
+use Rattle.std.specs.Prelude.{set, cond, ◌&&◌, not, ◌==◌, count_by, IfSome}
+use Rattle.std.proofs.lemmas.Bool.{cases_lt, cases_eq}
+use Rattle.std.proofs.lemmas.List.{get_or-set_same, get_or-set_other, get_or_past}
+use Rattle.std.proofs.lemmas.List.Sums.{sum_by-set, sum_by-le-sum_by}
+use Rattle.core_profile.specs.declared.profile.Profile.{Profile}
+use Rattle.core_view.specs.declared.entry.Entry.{Entry}
+use Rattle.core_view.specs.Operations.{destination_of, is_load, is_store}
+use Rattle.core_view.specs.Queues.{is_renamed}
+use Rattle.core_view.specs.Events.{with_stage, renamed_stage, rename_event}
+use Rattle.core_view.specs.View.{Context, View, no_entry, entry_at}
+use Rattle.lawful_cycle.specs.Views.{eight, context_in}
+use Rattle.lawful_cycle.specs.Issue.{is_queued}
+use Rattle.lawful_cycle.specs.Rename.{CanRename, IsNext, of_all, renamed_by, has_register, oldest_fetched}
+use Rattle.core_back.specs.Machine.{Machine, context_at, no_context}
+use Rattle.core_back.specs.Fetched.{IsRenamed}
+use Rattle.core_back.specs.Renamable.{CanRenameStamp}
+use Rattle.core_cycle.specs.Fronts.{IsFront, AreFronts, IsLeastBelow, IsNextBelow}
+
+-- ---- one front
+
+-- a context has one entry that can be renamed
+pub one_entry : (v : View) (c : ℕ) (e f : Entry) → CanRename v c e → CanRename v c f → e ≡ f
+one_entry v c e f a b = of_some (sym a.oldest ∙ b.oldest)
+  where
+    of_some : Some e ≡ Some f → e ≡ f
+    of_some h = cc
+
+-- what a context answers, when it is asked, is its front
+pub front_asked : (v : View) (c : ℕ) (front : Option ℕ) → IfSome front (CanRenameStamp v c) → (front ≡ None → (e : Entry) → ¬ CanRename v c e) → IsFront v c front
+front_asked v c None can none = λ e there. absurd (none refl e there)
+front_asked v c (Some stamp) can none = λ e there. ap Some (sym can.stamp_is ∙ ap (λ (f : Entry). f.stamp) (one_entry v c can.entry e can.can there))
+
+-- a front is of a context that is there
+pub front_within : (fronts : List (Option ℕ)) (c stamp : ℕ) → get_or fronts c None ≡ Some stamp → c < length fronts
+front_within fronts c stamp front = elim (cases_lt c (length fronts)) [ inl lt ↦ lt | inr ge ↦ absurd (no_some (sym (get_or_past fronts c None ge) ∙ front)) ]
+  where
+    no_some : None ≡ Some stamp → ⊥
+    no_some is = cc
+
+-- the fronts of one context more
+pub one_more_front : (v : View) (fronts : List (Option ℕ)) (c : ℕ) (front : Option ℕ) → ((d : ℕ) → d < c → IsFront v d (get_or fronts d None)) → c < length fronts → IsFront v c front
+    → (d : ℕ) → d < c + 1 → IsFront v d (get_or (set fronts c front) d None)
+one_more_front v fronts c front below within here d lt = λ e can. elim (cases_eq d c) [
+  | inl is ↦ ap (λ k. get_or (set fronts c front) k None) is ∙ get_or-set_same fronts c front None within ∙ here e (subst (λ k. CanRename v k e) is can)
+  | inr ne ↦ get_or-set_other fronts c d front None ne ∙ below d (omega (arith, lt, ne)) e can
+]
+
+-- ---- what a renaming leaves of the other contexts
+
+-- an element that fails a test gives way to any other: no fewer pass
+count_no_less : (test : Entry → Bool) (es : List Entry) (i : ℕ) (new : Entry) → i < length es → test (get_or es i no_entry) ≡ false → count_by test es ≤ count_by test (set es i new)
+count_no_less test es i new lt fails = omega (arith, sum_by-set (λ e. cond (test e) 1 0) es i new no_entry lt, ap {B = ℕ} (λ b. cond b 1 0) fails)
+
+module _ (m n : Machine) (c stamp : ℕ) (one : IsRenamed m n c stamp) where
+  abbrev es : List Entry
+  es = (context_at m c).flight
+
+  -- there is such a context, since it has an entry
+  inside : c < length m.view.contexts
+  inside = elim (cases_lt c (length m.view.contexts)) [
+    | inl lt ↦ lt
+    | inr ge ↦ let none = ap (λ (x : Context). length x.flight) (get_or_past m.view.contexts c no_context ge) in let within = one.within in absurd (omega (arith, none, within))
+  ]
+
+  other : (d : ℕ) → d ≢ c → context_in n.view d ≡ context_in m.view d
+  other d ne = ap (λ (w : Machine). context_in w.view d) one.after ∙ get_or-set_other m.view.contexts c d (rename_event m.view.cycle (context_at m c) one.place) no_context ne
+
+  same : (d : ℕ) → d ≡ c → (context_in n.view d).flight ≡ set es one.place (with_stage (entry_at (context_at m c) one.place) (renamed_stage m.view.cycle (entry_at (context_at m c) one.place).operation))
+  same d is = ap (λ k. (context_in n.view k).flight) is ∙ ap (λ (w : Machine). (context_at w c).flight) one.after
+      ∙ ap (λ (x : Context). x.flight) (get_or-set_same m.view.contexts c (rename_event m.view.cycle (context_at m c) one.place) no_context inside)
+
+  -- so no fewer pass a test that its entry failed
+  no_fewer : (test : Entry → Bool) → test (entry_at (context_at m c) one.place) ≡ false → of_all test m.view ≤ of_all test n.view
+  no_fewer test fails = sum_by-le-sum_by (λ d. count_by test (context_in m.view d).flight) (λ d. count_by test (context_in n.view d).flight) eight each
+    where
+      each : (d : ℕ) → count_by test (context_in m.view d).flight ≤ count_by test (context_in n.view d).flight
+      each d = elim (cases_eq d c) [
+        | inl is ↦ subst (λ k. count_by test (context_in m.view k).flight ≤ count_by test (context_in n.view k).flight) (sym is)
+            (subst (λ fs. count_by test es ≤ count_by test fs) (sym (same c refl)) (count_no_less test es one.place _ one.within fails))
+        | inr ne ↦ subst (λ (x : Context). count_by test (context_in m.view d).flight ≤ count_by test x.flight) (sym (other d ne)) (omega arith)
+      ]
+
+  profile : n.view.profile ≡ m.view.profile
+  profile = ap (λ (w : Machine). w.view.profile) one.after
+
+  -- what can be renamed of another context then could be before
+  pub could_rename : (d : ℕ) (e : Entry) → d ≢ c → CanRename n.view d e → CanRename m.view d e
+  could_rename d e ne can = record {
+    context = can.context;
+    oldest = ap oldest_fetched (sym here) ∙ can.oldest;
+    age = (let delay = ap (λ (p : Profile). p.front_delay) profile in let cycle = ap (λ (w : Machine). w.view.cycle) one.after in let age = can.age in omega (arith, age, delay, cycle));
+    room = record {
+      reorder = (let most = ap (λ (p : Profile). p.reorder_buffer) profile in let count = own (λ f. true) in let room = can.room.reorder in omega (arith, room, most, count));
+      queue = λ h. let most = ap (λ (p : Profile). p.issue_queue) profile in
+          let count = no_fewer (λ f. is_queued f.stage) (ap is_queued one.fetched) in let room = can.room.queue h in omega (arith, room, most, count);
+      loads = λ h. let most = ap (λ (p : Profile). p.load_queue) profile in let count = own (λ f. is_load f.operation) in let room = can.room.loads h in omega (arith, room, most, count);
+      stores = λ h. let most = ap (λ (p : Profile). p.store_queue) profile in let count = own (λ f. is_store f.operation) in let room = can.room.stores h in omega (arith, room, most, count);
+      registers = λ h. let most = ap (λ (p : Profile). p.extra_registers) profile in
+          let count = no_fewer has_register (ap (λ s. is_renamed s && not (destination_of (entry_at (context_at m c) one.place).operation == 0)) one.fetched) in let room = can.room.registers h in omega (arith, room, most, count);
+    };
+  }
+    where
+      here : context_in n.view d ≡ context_in m.view d
+      here = other d ne
+
+      own : (test : Entry → Bool) → renamed_by test (context_in n.view d).flight ≡ renamed_by test (context_in m.view d).flight
+      own test = ap (λ (x : Context). renamed_by test x.flight) here
+
+  -- with its own context's front asked anew, the fronts are those after it
+  pub fronts_renamed : (fronts : List (Option ℕ)) (front : Option ℕ) → AreFronts m.view fronts → c < length fronts → IsFront n.view c front → AreFronts n.view (set fronts c front)
+  fronts_renamed fronts front old within new = record { each = at }
+    where
+      at : (d : ℕ) → IsFront n.view d (get_or (set fronts c front) d None)
+      at d = λ e can. elim (cases_eq d c) [
+        | inl is ↦ ap (λ k. get_or (set fronts c front) k None) is ∙ get_or-set_same fronts c front None within ∙ new e (subst (λ k. CanRename n.view k e) is can)
+        | inr ne ↦ get_or-set_other fronts c d front None ne ∙ old.each d e (could_rename d e ne can)
+      ]
+
+  -- where the oldest front's context is renamed, its entry is the next of all
+  pub least_is_next : (fronts : List (Option ℕ)) (stamp_before : ℕ) → AreFronts m.view fronts → IsLeastBelow fronts 8 (record { context = c; stamp = stamp_before }) → IsNext m.view (record { context = c; stamp = stamp })
+  least_is_next fronts stamp_before are h = record {
+    entry = entry_at (context_at m c) one.place;
+    can = one.can;
+    stamp = one.stamp_is;
+    least = λ d f can. let le = h.least d f.stamp can.context (are.each d f can) in omega (arith, le, same_stamp);
+  }
+    where
+      same_stamp : (entry_at (context_at m c) one.place).stamp ≡ stamp_before
+      same_stamp = of_some (sym (are.each c (entry_at (context_at m c) one.place) one.can) ∙ h.front)
+        where
+          of_some : Some (entry_at (context_at m c) one.place).stamp ≡ Some stamp_before → (entry_at (context_at m c) one.place).stamp ≡ stamp_before
+          of_some is = cc
+
+-- without a front nothing can be renamed
+pub none_can : (v : View) (fronts : List (Option ℕ)) → AreFronts v fronts → IsNextBelow fronts 8 None → (c : ℕ) (e : Entry) → ¬ CanRename v c e
+none_can v fronts are none c e can = no_some (sym (none c can.context) ∙ are.each c e can)
+  where
+    no_some : None ≡ Some e.stamp → ⊥
+    no_some is = cc
