@@ -195,7 +195,7 @@ module _ {A : Type 0} where
         store = rw here (λ is. omega (arith, room.stores is, h.stores, h.store_places));
       }
 
-  -- an answer that is some stamp, or none
+  -- a result that is some stamp, or none
   pub may_rename : (m : Inside A) (now : Machine) (c : ℕ) (t : Track) (answer : Option ℕ) → c < 8 → IsCounted m now c t → IfSome answer (IsRenamable m.flow t m.profile m.cycle) → IfSome answer (CanRenameStamp now.view c)
   may_rename m now c t None lt h is = tt
   may_rename m now c t (Some stamp) lt h is = record {

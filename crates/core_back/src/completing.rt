@@ -10,16 +10,16 @@ use crate::machine::Machine;
 use join_law::Ctx;
 use std::alloc::Allocator;
 
-/// How many entries completed, and how many these cut.
+/// How many entries completed, and how many these squashed.
 #[derive(Clone, Copy)]
 pub struct Completion {
     /// How many completed.
     pub completed: usize,
-    /// How many were cut.
+    /// How many were squashed.
     pub cut: usize,
 }
 
-/// All entries that are due complete. One that an older one cuts doesn't.
+/// All entries that are due complete. One that an older one squashes doesn't.
 pub fn complete<A: Allocator>(machine: &mut Machine<A>) -> Completion
     requires { machine.old.names ≡ [] }
     ensures alike { IsAlike machine.old machine.new }

@@ -227,7 +227,7 @@ impl<A: Allocator> Machine<A> {
         }
     }
 
-    /// The oldest entry of a context, which is done with a stop, stops it. Answers how many entries are dropped: all.
+    /// The oldest entry of a context, which is done with a stop, stops it. Returns how many entries are dropped: all.
     pub fn stop(&mut self, context: Ctx, why: Stop) -> usize
         requires done { first_done (context_at self.old context).flight ≡ Some (Stops why) }
         requires idle { self.old.names ≡ [] }
@@ -250,8 +250,8 @@ impl<A: Allocator> Machine<A> {
         entry.stage.due(self.cycle)
     }
 
-    /// The entry of a context at a place, which is issued, completes, and cuts what it doesn't keep. Answers how many
-    /// entries are cut.
+    /// The entry of a context at a place, which is issued, completes, and squashes what it doesn't keep. Returns how many
+    /// entries are squashed.
     pub fn complete(&mut self, context: Ctx, place: usize, execution: Execution) -> usize
         requires idle { self.old.names ≡ [] }
         requires place { place < length (context_at self.old context).flight }
@@ -281,7 +281,7 @@ impl<A: Allocator> Machine<A> {
         self.selected = self.flow.select(order, width);
     }
 
-    /// The first of the selected entries issues, after the lag that a delay gives. Answers `None` once none is left.
+    /// The first of the selected entries issues, after the lag that a delay gives. Returns `None` once none is left.
     pub fn issue_next<D: Delay>(&mut self, delay: &mut D) -> Option<Issue>
         requires { self.old.view.cycle < 2 ^ 56 }
         ensures none { result ≡ None → (self.old.names ≡ []) × (self.new ≡ self.old) }
@@ -322,7 +322,7 @@ impl<A: Allocator> Machine<A> {
         events::renamable(&self.flow, track, self.cycle, &self.profile)
     }
 
-    /// The oldest fetched entry of a context is renamed, if it can be. Answers its stamp.
+    /// The oldest fetched entry of a context is renamed, if it can be. Returns its stamp.
     pub fn try_rename(&mut self, context: Ctx) -> Option<u64>
         requires { self.old.names ≡ [] }
         ensures none { result ≡ None → self.new ≡ self.old }
@@ -397,7 +397,7 @@ impl<A: Allocator> Machine<A> {
         asked.can_fetch()
     }
 
-    /// One more entry of a context is fetched, if it can be, and followed where a guess says. Answers its stamp, and
+    /// One more entry of a context is fetched, if it can be, and followed where a guess says. Returns its stamp, and
     /// whether it ends its block.
     pub fn try_fetch<G: Guess>(&mut self, context: Ctx, guess: &mut G) -> Option<Fetch>
         requires idle { self.old.names ≡ [] }

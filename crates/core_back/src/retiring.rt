@@ -130,7 +130,7 @@ fn learn<G: Guess>(guess: &mut G, context: Ctx, entry: &Entry, next: u64)
     }
 }
 
-/// A context whose oldest entry is done with a stop is stopped. Answers how many entries are dropped.
+/// A context whose oldest entry is done with a stop is stopped. Returns how many entries are dropped.
 fn stop_done<A: Allocator>(machine: &mut Machine<A>, context: Ctx) -> usize
     requires { machine.old.names ≡ [] }
     ensures alike { IsAlike machine.old machine.new }

@@ -1,4 +1,4 @@
--- An entry of a context completes, and cuts what it doesn't keep.
+-- An entry of a context completes, and squashes what it doesn't keep.
 use Rattle.std.proofs.Common.{◌≡◌, ℕ, zero, suc, ◌+◌, ◌<◌, ◌≤◌, Bool, true, false, not, ◌&&◌, min, List, [], ◌∷◌, length, get_or, take, drop, map, Option, Some, None, refl, sym, ap, subst, ◌∙◌, arith, inl, inr}
 use Rattle.std.specs.Prelude.{set, ◌==◌, nat_lt, if◌then◌else◌, filter}
 use Rattle.std.proofs.lemmas.Bool.{lt-ltb, le-ltb, ltb-true, ltb-false, cases_lt}
@@ -85,7 +85,7 @@ module _ (start : State) (stamp reorder : ℕ) (f : Flow) (c : ℕ) (t : Track) 
       ap (λ (ns : List Node). get_or ns i no_node) core.nodes ∙ get_or-map node_of_entry (take t.renamed t.context.flight) i no_entry no_node (omega (arith, first, len))
       ∙ ap node_of_entry (get_or-take t.renamed t.context.flight i no_entry first)
 
-  -- ---- the entry is done, before the cut
+  -- ---- the entry is done, before the squash
 
   -- the flight with the entry done
   abbrev done_flight : List Entry
@@ -133,16 +133,16 @@ module _ (start : State) (stamp reorder : ℕ) (f : Flow) (c : ℕ) (t : Track) 
   done_waiting : IsCore start stamp reorder f [] c t → waiting_of done_flow c ≡ waiters_left t.context.flight
   done_waiting core = done_waits (result_in x.outcome) ∙ core.waiting
 
-  -- ---- the cut
+  -- ---- the squash
 
-  -- what the cut leaves of the data flow, once it leaves so many entries
+  -- what the squash leaves of the data flow, once it leaves so many entries
   record IsCut (g : Flow) (n : ℕ) : Type 0 where
     nodes : (lane g c).nodes ≡ map node_of_entry (take t.renamed (take n done_flight))
     registers : (lane g c).registers ≡ (lane f c).registers
     room : (lane g c).room ≡ (lane f c).room
     waits : waiting_of g c ≡ waiters_left (take n done_flight)
 
-  -- nothing is cut
+  -- nothing is squashed
   whole : (n : ℕ) → length t.context.flight ≤ n → c < length f.lanes → IsCore start stamp reorder f [] c t → i < length t.context.flight → (entry_at t.context i).stage ≡ Issued x → IsCut done_flow n
   whole n le within core lt stage =
       let all : done_flight ≡ take n done_flight = sym (take_all n done_flight (omega (arith, le, length-set t.context.flight i (completed_entry (entry_at t.context i) x)))) in
@@ -154,7 +154,7 @@ module _ (start : State) (stamp reorder : ℕ) (f : Flow) (c : ℕ) (t : Track) 
         waits = done_waiting core ∙ waiters-stay [] c t.context.flight i (completed_entry (entry_at t.context i) x) (waiter_for c t.context.flight) refl (ap is_queued stage) ∙ ap waiters_left all;
       }
 
-  -- the flight is cut at a place
+  -- the flight is squashed from a place on
   cut_at : (n : ℕ) → i < n → n < length t.context.flight → c < length f.lanes → IsCore start stamp reorder f [] c t → i < length t.context.flight → (entry_at t.context i).stage ≡ Issued x
       → IsCut (cut_flow done_flow c (entry_at t.context n).stamp) n
   cut_at n past inside within core lt stage =

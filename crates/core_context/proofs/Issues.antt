@@ -32,7 +32,7 @@ use Rattle.core_context.proofs.Queue.{waiters-issue, waiters-other}
 
 -- ---- what issue asks
 
--- the queues of loads and stores answer for an entry that is renamed, and for the one after these
+-- the queues of loads and stores serve an entry that is renamed, and for the one after these
 pub core_answered : {start : State} {stamp reorder c : ℕ} {f : Flow} {names : List EntryId} {t : Track} → IsCore start stamp reorder f names c t → (i : ℕ) → i ≤ t.renamed → IsAnswered t.context i
 core_answered {t = t} core i le = record {
   renamed = subst AllRenamed (take-take i t.renamed t.context.flight le) (renamed-take i (take t.renamed t.context.flight) core.are_renamed);

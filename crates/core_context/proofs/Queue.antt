@@ -235,7 +235,7 @@ waiting-push_other f w d ne = ap (map unheld) (filter-append (λ v. v.context ==
     nil [] = refl
     nil (x ∷ xs) = ap (λ ys. x ∷ ys) (nil xs)
 
--- those of a context from a stamp on are cut
+-- those of a context from a stamp on are squashed
 pub waiting-cut : (f : Flow) (c s : ℕ) → waiting_of (cut_flow f c s) c ≡ filter (λ w. nat_lt w.stamp s) (waiting_of f c)
 waiting-cut f c s = go f.waiters
   where

@@ -205,7 +205,7 @@ pub record Holds (q : Queues) (es : List Entry) : Type 0 where
   pub loads : q.loads ≡ loads_of es
   pub stores : q.stores ≡ stores_of es
 
--- ---- cuts
+-- ---- squashes
 
 -- all from a stamp on are dropped
 pub loads_below : (k : ℕ) (es : List Entry) → below load_stamp k (loads_of es) ≡ loads_of (below (λ (e : Entry). e.stamp) k es)

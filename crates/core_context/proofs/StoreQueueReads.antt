@@ -1,4 +1,4 @@
--- What a track's queues answer to the entry at a place.
+-- What a track's queues give the entry at a place.
 use Rattle.std.proofs.Common.{◌≡◌, ℕ, ◌<◌, List, length, get_or, take, slice_get, Some, sym, ap, ◌∙◌}
 use Rattle.std.proofs.lemmas.Option.{get_or_from_slice_get, slice_get_within}
 use Rattle.paged_memory.specs.Cells.{byte_at}

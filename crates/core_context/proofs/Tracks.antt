@@ -1,4 +1,4 @@
--- What the loops over a flight find, what its ring leaves, and what an entry cuts as it completes.
+-- What the loops over a flight find, what its ring leaves, and what an entry squashes as it completes.
 use Rattle.std.proofs.Common.{◌≡◌, ◌≢◌, ℕ, suc, ◌+◌, ◌-◌, ◌<◌, ◌≤◌, Bool, true, false, cond, List, [], ◌∷◌, length, get_or, take, drop, slice_get, Option, Some, None, refl, sym, ap, subst, ◌∙◌, arith, add-one, length-take, length-drop, inl, inr}
 use Rattle.std.specs.Prelude.{set, nat_lt, not, min, find, option_map, if◌then◌else◌}
 use Rattle.std.specs.List.{list_any}
@@ -94,7 +94,7 @@ module _ (test : Entry → Bool) where
   pub none_all : (es : List Entry) (n : ℕ) → length es ≤ n → list_any test (take n es) ≡ false → list_any test es ≡ false
   none_all es n le none = ap (list_any test) (sym (take_all n es le)) ∙ none
 
--- ---- cuts
+-- ---- squashes
 
 -- no stamp is below 0
 pub below_zero : {X : Type 0} (stamp : X → ℕ) (xs : List X) → below stamp 0 xs ≡ []
@@ -239,7 +239,7 @@ module _ (es : List Entry) (i : ℕ) (e : Entry) (x : Execution) (is : slice_get
         kept (Stops why) = clean_none (drop (i + 1) es)
         kept (Goes step) = let right = store_predicted e step store in rw right refl
 
--- ---- what is left once it is cut
+-- ---- what is left after a squash
 
 module _ (es : List Entry) (i : ℕ) (x : Execution) (lt : i < length es) where
   -- nothing is
@@ -263,7 +263,7 @@ module _ (es : List Entry) (i : ℕ) (x : Execution) (lt : i < length es) where
 
 -- ---- the track
 
--- an entry that cuts nothing completes
+-- an entry that squashes nothing completes
 pub complete_whole : (t : Track) (i : ℕ) (x : Execution) → i < length t.context.flight → (finished t i x).renamed ≤ length (finished t i x).context.flight → cut_stamp t.context i x ≡ None → finished t i x ≡ completed t i x
 complete_whole t i x lt within none =
     let same : t.renamed ≡ min t.renamed (left_by t.context i x) = omega (arith, within, length-set t.context.flight i (completed_entry (get_or t.context.flight i no_entry) x), stamp_past (left_by t.context i x) t.context.flight none) in

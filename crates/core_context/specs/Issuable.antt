@@ -13,7 +13,7 @@ use Rattle.core_context.specs.Track.{Track}
 abbrev pub may_issue_at : Context → ℕ → ℕ → ℕ → Bool
 may_issue_at x i a b = is_clear_on (take i x.flight) (entry_at x i).operation (entry_at x i).pc a b
 
--- the queues of loads and stores answer what the flight says of the entry at a place
+-- the queues of loads and stores give what the flight says of the entry at a place
 pub record IsAnswered (x : Context) (i : ℕ) : Type 0 where
   pub renamed : AllRenamed (take i x.flight)
   pub growing : IsGrowing 0 x.flight

@@ -24,7 +24,7 @@ abbrev pub finished_flow : Flow → ℕ → ℕ → Option ℕ → Flow
 finished_flow f c i None = f
 finished_flow f c i (Some value) = with_lane f c (with_result (lane f c) i value)
 
--- the instruction at a place has its result, and what its entry cuts is forgotten
+-- the instruction at a place has its result, and what its entry squashes is forgotten
 abbrev pub cut_by : Flow → ℕ → ℕ → Execution → Context → Flow
 cut_by f c i x context = cut_if (finished_flow f c i (result_in x.outcome)) c (cut_stamp context i x)
 

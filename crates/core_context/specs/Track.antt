@@ -38,7 +38,7 @@ stopped t why = record t { context = stop_event t.context why; renamed = 0 }
 abbrev pub left_by : Context → ℕ → Execution → ℕ
 left_by c i x = i + 1 + kept_length (entry_at c i) x.outcome (drop (i + 1) c.flight)
 
--- the entry at a place has completed, and nothing is cut yet
+-- the entry at a place has completed, and nothing is squashed yet
 abbrev pub finished : Track → ℕ → Execution → Track
 finished t i x = record t { context = with_flight t.context (slice_set t.context.flight i (completed_entry (entry_at t.context i) x)) }
 
@@ -49,7 +49,7 @@ cut_at t k = let es = below (λ e. e.stamp) k t.context.flight in record t { con
 abbrev pub completed : Track → ℕ → Execution → Track
 completed t i x = record t { context = complete_event t.context i x; renamed = min t.renamed (left_by t.context i x) }
 
--- the stamp of the oldest entry that is cut, if one is
+-- the stamp of the oldest entry that is squashed, if one is
 abbrev pub cut_stamp : Context → ℕ → Execution → Option ℕ
 cut_stamp c i x = if nat_lt (left_by c i x) (length c.flight) then Some (entry_at c (left_by c i x)).stamp else None
 

@@ -243,7 +243,7 @@ pub fn release<A: Allocator>(flow: &mut DataFlow<A>, holds: bool)
     }
 }
 
-/// Tells the queue which loads of a context, which are all let go, have to wait for an older store. Answers whether one
+/// Tells the queue which loads of a context, which are all let go, have to wait for an older store. Returns whether one
 /// has to.
 pub fn hold_loads<A: Allocator>(
     flow: &mut DataFlow<A>,
@@ -270,7 +270,7 @@ pub fn hold_loads<A: Allocator>(
 }
 
 /// Holds the entry of a context at a place, which is let go, if it is a queued load that has the values of its sources
-/// and has to wait for an older store. Answers whether it has to.
+/// and has to wait for an older store. Returns whether it has to.
 fn hold_load<A: Allocator>(
     flow: &mut DataFlow<A>,
     track: &Track<A>,

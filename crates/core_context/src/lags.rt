@@ -32,7 +32,7 @@ pub(crate) fn address_of(effect: Effect) -> u64
     }
 }
 
-/// The lag of what issues: of a load or store that stops one cycle, else the delay's answer.
+/// The lag of what issues: of a load or store that stops one cycle, else what the delay says.
 pub fn lag_of<D: Delay>(delay: &mut D, context: Ctx, performed: &Performed) -> Lag
     ensures lag { let p = performed.now in IsLagOf (D.may_answer delay.old context) p.kind p.address p.outcome result }
     ensures least { 1 ≤ result.cycles }

@@ -67,7 +67,7 @@ impl<A: Allocator> Contexts<A> {
         self.machine
     }
 
-    /// The parts of a cycle, in order. Answers what was done.
+    /// The parts of a cycle, in order. Returns what was done.
     pub(crate) fn cycle<G: Guess, P: Pick, O: Order, D: Delay>(
         &mut self,
         guess: &mut G,

@@ -116,10 +116,10 @@ impl<G: Guess + Drop, P: Pick + Drop, O: Order + Drop, D: Delay + Drop, A: Alloc
 > {
     ghost use Rattle.core_cycle.specs.Shown.{shown};
 
-    /// One cycle: entries retire, complete, issue, are renamed and are fetched. It takes no memory. Answers what was
+    /// One cycle: entries retire, complete, issue, are renamed and are fetched. It takes no memory. Returns what was
     /// done. Whatever is guessed, picked and ordered, and however long it takes, each context is then where plain
     /// RV64I is after as many instructions as it retired, and its flight is sound. What was in flight or fetched is in
-    /// flight then, retired, or was cut.
+    /// flight then, retired, or was squashed.
     pub fn cycle(&mut self) -> CycleNote
         requires { (shown self.old).view.cycle < 2 ^ 56 }
         ensures live { (c : ℕ) → c < 8 → IsLive (start (shown self.new).origin c) (shown self.new).view.stamp (context_at (shown self.new) c) }
