@@ -10,15 +10,14 @@ use Rattle.std.proofs.lemmas.List.Folds.{list_any-append, list_any_none}
 use Rattle.std.proofs.lemmas.List.Kept.{AllPairs-filter}
 use Rattle.std.proofs.lemmas.List.Quantifiers.{all_pairs_push}
 use Rattle.std.proofs.lemmas.List.Sums.{length-filter, count_by-le-length}
-use Rattle.issue_queue.specs.declared.entry.Queued.{Queued}
 use Rattle.issue_queue.specs.declared.places.Places.{Places}
-use Rattle.word_mask.specs.Mask.{has}
-use Rattle.issue_queue.specs.Board.{slot, InStep, IsMask, IsKept, is_listed, listed}
+use Rattle.issue_queue.specs.declared.slots.Slots.{Slots}
+use Rattle.word_mask.specs.Mask.{has, is_listed}
+use Rattle.issue_queue.specs.Board.{slot, InStep, IsMask, IsKept, listed}
 use Rattle.issue_queue.specs.Entry.{Entry, AreDistinct, is_named}
-use Rattle.issue_queue.proofs.Lists.{filter_agree_on, filter-of_map, map_agree_on, map-map, list_any-of_map, All-from_listed}
-use Rattle.issue_queue.proofs.Named.{is_named-swap, AllPairs-head, AllPairs-tail}
-use Rattle.word_mask.proofs.Laws.{count_listed, has_zero, eqb_swap}
-use Rattle.issue_queue.proofs.Marked.{changed, distinct-map}
+use Rattle.issue_queue.proofs.Lists.{filter-of_map, map_agree_on, map-map, list_any-of_map, All-from_listed}
+use Rattle.issue_queue.proofs.Named.{is_named-swap, changed, cond_context, cond_stamp, distinct-map}
+use Rattle.word_mask.proofs.Laws.{count_listed, has_zero, eqb_swap, filter_agree_on, AllPairs-head, AllPairs-tail}
 
 -- what is true of each place that is taken
 pub All-taken : (P : ℕ → Type 0) (capacity : ℕ) (b : Places) (order : List ℕ) → IsKept capacity b order → ((p : ℕ) → has b.valid p ≡ true → P p) → All P order
@@ -65,7 +64,7 @@ contains_none test capacity b order k h =
     ∙ list_any_none (λ q. test (slot b.slots q)) order (All-taken (λ q. test (slot b.slots q) ≡ false) capacity b order k h)
 
 -- an entry that is listed
-pub Contains-listed : (slots : List Queued) (p : ℕ) (order : List ℕ) → is_listed order p ≡ true → Contains (listed slots order) (slot slots p)
+pub Contains-listed : (slots : Slots) (p : ℕ) (order : List ℕ) → is_listed order p ≡ true → Contains (listed slots order) (slot slots p)
 Contains-listed slots p [] l = absurd (true≢false (sym l))
 Contains-listed slots p (q ∷ qs) l = elim (or_cases (eqb q p) (is_listed qs p) l) [
   | inl same ↦ (zero, omega arith, ap (slot slots) (eqb-true q p same))
@@ -86,7 +85,7 @@ All-unmap P f [] h = All-nil (λ x. P (f x))
 All-unmap P f (x ∷ xs) h = All-cons (λ y. P (f y)) x xs (All-head P (f x) (map f xs) h) (All-unmap P f xs (All-tail P (f x) (map f xs) h))
 
 -- entries of two places have different names
-pub apart : (slots : List Queued) (p q : ℕ) (order : List ℕ) → AllPairs AreDistinct (listed slots order) → is_listed order p ≡ true → is_listed order q ≡ true → eqb p q ≡ false → AreDistinct (slot slots p) (slot slots q)
+pub apart : (slots : Slots) (p q : ℕ) (order : List ℕ) → AllPairs AreDistinct (listed slots order) → is_listed order p ≡ true → is_listed order q ≡ true → eqb p q ≡ false → AreDistinct (slot slots p) (slot slots q)
 apart slots p q [] h l m other = absurd (true≢false (sym l))
 apart slots p q (o ∷ os) h l m other =
     let first : All (λ r. AreDistinct (slot slots o) (slot slots r)) os =
@@ -116,7 +115,7 @@ named_at_once context stamp place capacity b order k here named p taken other =
 
 -- ---- a change of the entries in their places
 
-pub entries_changed : (f : Entry → Entry) (capacity : ℕ) (b : Places) (new : List Queued) (order : List ℕ) → IsKept capacity b order
+pub entries_changed : (f : Entry → Entry) (capacity : ℕ) (b : Places) (new : Slots) (order : List ℕ) → IsKept capacity b order
     → ((p : ℕ) → has b.valid p ≡ true → slot new p ≡ f (slot b.slots p)) → listed new order ≡ map f (listed b.slots order)
 entries_changed f capacity b new order k h =
     map_agree_on (slot new) (λ p. f (slot b.slots p)) order (All-taken (λ p. slot new p ≡ f (slot b.slots p)) capacity b order k h)
@@ -136,7 +135,7 @@ kept_changed f contexts stamps capacity b c order k step valid h = record {
 }
 
 -- the entry of a name changes at its place
-pub changed_there : (g : Entry → Entry) (context stamp place capacity : ℕ) (b : Places) (new : List Queued) (order : List ℕ) → IsKept capacity b order
+changed_there : (g : Entry → Entry) (context stamp place capacity : ℕ) (b : Places) (new : Slots) (order : List ℕ) → IsKept capacity b order
     → has b.valid place ≡ true → is_named context stamp (slot b.slots place) ≡ true
     → ((p : ℕ) → slot new p ≡ cond (eqb p place) (g (slot b.slots p)) (slot b.slots p))
     → (p : ℕ) → has b.valid p ≡ true → slot new p ≡ changed (is_named context stamp) g (slot b.slots p)
@@ -148,6 +147,19 @@ changed_there g context stamp place capacity b new order k here named slots p ta
       let name : is_named context stamp (slot b.slots p) ≡ false = named_at_once context stamp place capacity b order k here named p taken t.0 in
       slots p ∙ rw t.0 (rw name refl)
 ]
+
+pub entries_marked : (g : Entry → Entry) (context stamp place capacity : ℕ) (b : Places) (new : Slots) (order : List ℕ) → IsKept capacity b order
+    → has b.valid place ≡ true → is_named context stamp (slot b.slots place) ≡ true → ((p : ℕ) → slot new p ≡ cond (eqb p place) (g (slot b.slots p)) (slot b.slots p))
+    → listed new order ≡ map (changed (is_named context stamp) g) (listed b.slots order)
+entries_marked g context stamp place capacity b new order k here named slots =
+    entries_changed (changed (is_named context stamp) g) capacity b new order k (changed_there g context stamp place capacity b new order k here named slots)
+
+pub kept_marked : (g : Entry → Entry) → ((e : Entry) → (g e).context ≡ e.context) → ((e : Entry) → (g e).stamp ≡ e.stamp) → (context stamp place capacity : ℕ) (b c : Places) (order : List ℕ) → IsKept capacity b order
+    → has b.valid place ≡ true → is_named context stamp (slot b.slots place) ≡ true → InStep c → c.valid ≡ b.valid → ((p : ℕ) → slot c.slots p ≡ cond (eqb p place) (g (slot b.slots p)) (slot b.slots p))
+    → IsKept capacity c order
+kept_marked g contexts stamps context stamp place capacity b c order k here named step valid slots =
+    kept_changed (changed (is_named context stamp) g) (λ e. cond_context (is_named context stamp e) (g e) e (contexts e)) (λ e. cond_stamp (is_named context stamp e) (g e) e (stamps e))
+    capacity b c order k step valid (changed_there g context stamp place capacity b c.slots order k here named slots)
 
 -- no entry has the name
 pub unchanged : (g : Entry → Entry) (context stamp capacity : ℕ) (b : Places) (order : List ℕ) → IsKept capacity b order
@@ -168,7 +180,7 @@ or_no : (a : Bool) → (a || false) ≡ a
 or_no true = refl
 or_no false = refl
 
-pub entries_put : (e : Entry) (place capacity : ℕ) (b : Places) (new : List Queued) (order : List ℕ) → IsKept capacity b order → has b.valid place ≡ false
+pub entries_put : (e : Entry) (place capacity : ℕ) (b : Places) (new : Slots) (order : List ℕ) → IsKept capacity b order → has b.valid place ≡ false
     → ((p : ℕ) → slot new p ≡ cond (eqb p place) e (slot b.slots p)) → listed new (order ++ place ∷ []) ≡ listed b.slots order ++ e ∷ []
 entries_put e place capacity b new order k free slots =
     map-append (slot new) order (place ∷ [])

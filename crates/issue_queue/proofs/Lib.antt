@@ -1,9 +1,7 @@
-pub mod Filtered
 pub mod Named
 pub mod Lists
 pub mod Walks
 pub mod Masks
-pub mod Marked
 pub mod Kept
 pub mod Best
 pub mod Chosen

@@ -1,31 +1,24 @@
 -- What walks over the places of a word keep.
-use Rattle.std.proofs.Common.{◌≡◌, ℕ, ◌+◌, true, false, cond, not, ◌&&◌, List, map, take, length, ◌⊎◌}
-use Rattle.std.specs.Prelude.{count_ones, slice_index}
-use Rattle.issue_queue.specs.declared.entry.Queued.{Queued}
+use Rattle.std.proofs.Common.{◌≡◌, ℕ, ◌+◌, ◌≤◌, true, false, cond, not, ◌&&◌, List, map, take, length, ◌⊎◌}
+use Rattle.std.specs.Prelude.{count_ones, nat_lt, slice_index}
 use Rattle.core_view.specs.declared.note.EntryId.{EntryId}
 use Rattle.issue_queue.specs.declared.places.Places.{Places}
+use Rattle.issue_queue.specs.declared.slots.Slots.{Slots}
 use Rattle.issue_queue.specs.declared.selecting.Candidate.{Candidate}
 use Rattle.word_mask.specs.Mask.{has}
 use Rattle.issue_queue.specs.Board.{slot, InStep}
 use Rattle.issue_queue.specs.Candidates.{is_at}
-use Rattle.issue_queue.specs.Entry.{is_ready, is_named}
-use Rattle.issue_queue.specs.IssueQueue.{awake, is_from, released}
+use Rattle.issue_queue.specs.Entry.{is_supplied, is_named}
+use Rattle.issue_queue.specs.IssueQueue.{awake, is_from}
+use Rattle.issue_queue.specs.Stamps.{stamp_at}
 use Rattle.issue_queue.specs.Views.{name_of}
 
 -- the places of the word that are not left are awake
-pub record IsWoken (slots0 slots : List Queued) (ready woken word left looked register : ℕ) : Type 0 where
-  pub size : length slots ≡ 64
+pub record IsWoken (slots0 slots : Slots) (supplied woken word left looked register : ℕ) : Type 0 where
   pub awoken : (p : ℕ) → slot slots p ≡ cond (has word p && not (has left p)) (awake register (slot slots0 p)) (slot slots0 p)
-  pub readied : (p : ℕ) → has woken p ≡ cond (has word p && not (has left p)) (is_ready (slot slots p)) (has ready p)
+  pub settled : (p : ℕ) → has woken p ≡ cond (has word p && not (has left p)) (is_supplied (slot slots p)) (has supplied p)
   pub within : (p : ℕ) → has left p ≡ true → has word p ≡ true
   pub count : looked + count_ones left ≡ count_ones word
-
--- the entries of the places that are not left are let go
-pub record IsReleased (a b : Places) (left : ℕ) : Type 0 where
-  pub step : InStep b
-  pub valid : b.valid ≡ a.valid
-  pub within : (p : ℕ) → has left p ≡ true → has a.valid p ≡ true
-  pub slots : (p : ℕ) → slot b.slots p ≡ cond (has a.valid p && not (has left p)) (released (slot a.slots p)) (slot a.slots p)
 
 -- the places of the word that are not left have another name
 pub record IsSought (b : Places) (context stamp left : ℕ) : Type 0 where
@@ -46,3 +39,14 @@ pub record IsTaken (a b : Places) (best : List Candidate) (i : ℕ) (selected : 
   pub valid : (p : ℕ) → has b.valid p ≡ (has a.valid p && not (is_at (take i best) p))
   pub names : selected ≡ map (λ c. name_of (slot a.slots c.place)) (take i best)
   pub count : length selected ≡ i
+
+-- the least stamp of the places of the word that are not left
+pub record IsLeast (slots : Slots) (word left least : ℕ) : Type 0 where
+  pub found : (p : ℕ) × (has word p ≡ true) × (stamp_at slots p ≡ least)
+  pub within : (p : ℕ) → has left p ≡ true → has word p ≡ true
+  pub below : (p : ℕ) → has word p ≡ true → (has left p ≡ true) ⊎ (least ≤ stamp_at slots p)
+
+-- those of the word that are not left and have a stamp below one
+pub record IsOlder (slots : Slots) (word left older stamp : ℕ) : Type 0 where
+  pub within : (p : ℕ) → has left p ≡ true → has word p ≡ true
+  pub bits : (p : ℕ) → has older p ≡ ((has word p && not (has left p)) && nat_lt (stamp_at slots p) stamp)

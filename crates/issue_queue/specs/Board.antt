@@ -3,16 +3,17 @@ use Rattle.std.specs.Prelude.{◌≡◌, ℕ, ◌<◌, ◌≤◌, Bool, false, L
 use Rattle.std.specs.List.{list_any}
 use Rattle.issue_queue.specs.declared.places.Places.{Places}
 use Rattle.issue_queue.specs.declared.entry.Queued.{Queued}
-use Rattle.word_mask.specs.Mask.{has}
+use Rattle.issue_queue.specs.declared.slots.Slots.{Slots}
+use Rattle.word_mask.specs.Mask.{has, is_listed}
 use Rattle.issue_queue.specs.Views.{as_entry}
-use Rattle.issue_queue.specs.Entry.{Entry, AreDistinct, is_ready}
+use Rattle.issue_queue.specs.Entry.{Entry, AreDistinct, is_supplied}
 
 abbrev pub blank : Queued
-blank = record { stamp = 0; context = 0; guessed = false; speculative = false; held = false; first = None; second = None }
+blank = record { stamp = 0; context = 0; guessed = false; speculative = false; first = None; second = None }
 
 -- the entry of a place
-abbrev pub slot : List Queued → ℕ → Entry
-slot slots place = as_entry (slice_index_or slots place blank)
+abbrev pub slot : Slots → ℕ → Entry
+slot slots place = as_entry (has slots.held place) (slice_index_or slots.entries place blank)
 
 -- one of its sources is this register
 abbrev pub waits_for : ℕ → Entry → Bool
@@ -25,22 +26,18 @@ abbrev pub is_guessed : Entry → Bool
 is_guessed e = e.guessed
 
 -- the word has a bit for each place that is taken by an entry that passes the test, and no other
-abbrev pub IsMask : (Entry → Bool) → ℕ → List Queued → ℕ → Type 0
+abbrev pub IsMask : (Entry → Bool) → ℕ → Slots → ℕ → Type 0
 IsMask test valid slots word = (p : ℕ) → has word p ≡ (has valid p && test (slot slots p))
 
 -- each word is the mask of its test
 pub record InStep (b : Places) : Type 0 where
-  pub ready : IsMask is_ready b.valid b.slots b.ready
+  pub supplied : IsMask is_supplied b.valid b.slots b.supplied
   pub guesses : IsMask is_guessed b.valid b.slots b.guesses
   pub contexts : (c : ℕ) → c < 8 → IsMask (is_of c) b.valid b.slots (slice_index b.contexts c)
   pub waiters : (r : ℕ) → r < 480 → IsMask (waits_for r) b.valid b.slots (slice_index b.waiters r)
 
--- the place is in the list
-abbrev pub is_listed : List ℕ → ℕ → Bool
-is_listed order p = list_any (λ q. q == p) order
-
 -- the entries of these places
-abbrev pub listed : List Queued → List ℕ → List Entry
+abbrev pub listed : Slots → List ℕ → List Entry
 listed slots order = map (slot slots) order
 
 -- the places that are taken are listed, each once, in the order in which entries were put there; entries have different names

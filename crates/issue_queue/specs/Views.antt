@@ -1,5 +1,5 @@
 -- What is shown of an entry, and what an entry is made of.
-use Rattle.std.specs.Prelude.{false, ◌++◌}
+use Rattle.std.specs.Prelude.{ℕ, Bool, false, List, ◌++◌}
 use Rattle.std.specs.List.{filter_map}
 use Rattle.std.specs.Option.{option_to_list}
 use Rattle.issue_queue.specs.declared.entry.Queued.{Queued}
@@ -8,16 +8,13 @@ use Rattle.core_view.specs.declared.note.EntryId.{EntryId}
 use Rattle.issue_queue.specs.declared.entry.Waiting.{Waiting}
 use Rattle.issue_queue.specs.Entry.{Entry}
 
--- the entry that stands at a place
-abbrev pub as_entry : Queued → Entry
-as_entry q = record {
-  stamp = q.stamp;
-  context = q.context;
-  guessed = q.guessed;
-  speculative = q.speculative;
-  held = q.held;
-  waits = option_to_list q.first ++ option_to_list q.second;
-}
+-- the registers that it waits for
+abbrev pub waits_of : Queued → List ℕ
+waits_of q = option_to_list q.first ++ option_to_list q.second
+
+-- the entry that stands at a place, held or not
+abbrev pub as_entry : Bool → Queued → Entry
+as_entry held q = record { stamp = q.stamp; context = q.context; guessed = q.guessed; speculative = q.speculative; held = held; waits = waits_of q }
 
 -- what an order sees
 abbrev pub view_of : Entry → QueueView

@@ -1,11 +1,11 @@
 //! Entries of the queue, and what is shown of them.
 
-ghost use Rattle.std.specs.Prelude.{◌≡◌, ◌↔◌, ◌==◌, IsTrue, [], not, filter};
+ghost use Rattle.std.specs.Prelude.{◌≡◌, ◌==◌, Bool, false, not, filter};
 ghost use Rattle.std.specs.Option.{option_to_list};
 ghost use Rattle.std.specs.List.{filter_map};
-ghost use Rattle.issue_queue.specs.Entry.{IsReady, is_named, is_ready};
+ghost use Rattle.issue_queue.specs.Entry.{is_named, is_supplied};
 ghost use Rattle.issue_queue.specs.IssueQueue.{awake, is_from};
-ghost use Rattle.issue_queue.specs.Views.{as_entry, entry_of, name_of, view_of};
+ghost use Rattle.issue_queue.specs.Views.{as_entry, entry_of, name_of, view_of, waits_of};
 
 use core_view::EntryId;
 use join_law::Ctx;
@@ -39,14 +39,13 @@ pub struct QueueView {
     pub speculative: bool,
 }
 
-/// An entry in the queue.
+/// An entry in the queue, but for whether it is held.
 #[derive(Clone, Copy)]
 pub(crate) struct Queued {
     context: Ctx,
     stamp: u64,
     guessed: bool,
     speculative: bool,
-    held: bool,
     first: Option<PhysicalRegister>,
     second: Option<PhysicalRegister>,
 }
@@ -59,7 +58,6 @@ impl Default for Queued {
             stamp: 0,
             guessed: false,
             speculative: false,
-            held: false,
             first: None,
             second: None,
         }
@@ -69,7 +67,7 @@ impl Default for Queued {
 impl Queued {
     /// The entry that enters.
     pub(crate) fn new(waiting: Waiting) -> Queued
-        ensures { as_entry result ≡ entry_of waiting }
+        ensures { as_entry false result ≡ entry_of waiting }
     {
         let [first, second] = waiting.sources;
         Queued {
@@ -77,7 +75,6 @@ impl Queued {
             stamp: waiting.stamp,
             guessed: waiting.guessed,
             speculative: waiting.speculative,
-            held: false,
             first,
             second,
         }
@@ -85,35 +82,35 @@ impl Queued {
 
     /// Its context.
     pub(crate) fn context(&self) -> Ctx
-        ensures { result ≡ (as_entry self.now).context }
+        ensures { result ≡ self.now.context }
     {
         self.context
     }
 
     /// The registers that it waits for.
     pub(crate) fn sources(&self) -> [Option<PhysicalRegister>; 2]
-        ensures { (as_entry self.now).waits ≡ filter_map (λ source. source) result }
+        ensures { waits_of self.now ≡ filter_map (λ source. source) result }
     {
         [self.first, self.second]
     }
 
     /// Its stamp.
     pub(crate) fn stamp(&self) -> u64
-        ensures { result ≡ (as_entry self.now).stamp }
+        ensures { result ≡ self.now.stamp }
     {
         self.stamp
     }
 
     /// Whether it is a conditional branch or a JALR.
     pub(crate) fn is_guessed(&self) -> bool
-        ensures { result ≡ (as_entry self.now).guessed }
+        ensures { result ≡ self.now.guessed }
     {
         self.guessed
     }
 
     /// What an order sees of it.
     pub(crate) fn view(&self) -> QueueView
-        ensures { result ≡ view_of (as_entry self.now) }
+        ensures { result ≡ view_of (as_entry false self.now) }
     {
         QueueView {
             stamp: self.stamp,
@@ -125,7 +122,7 @@ impl Queued {
 
     /// Its name.
     pub(crate) fn name(&self) -> EntryId
-        ensures { result ≡ name_of (as_entry self.now) }
+        ensures { result ≡ name_of (as_entry false self.now) }
     {
         EntryId {
             context: self.context,
@@ -135,29 +132,28 @@ impl Queued {
 
     /// Whether it is the entry of a context and stamp.
     pub(crate) fn is_named(&self, context: Ctx, stamp: u64) -> bool
-        ensures { result ≡ is_named context stamp (as_entry self.now) }
+        ensures { result ≡ is_named context stamp (as_entry false self.now) }
     {
         self.context == context && self.stamp == stamp
     }
 
     /// Whether it is of a context and has at least this stamp.
     pub(crate) fn is_from(&self, context: Ctx, stamp: u64) -> bool
-        ensures { result ≡ is_from context stamp (as_entry self.now) }
+        ensures { result ≡ is_from context stamp (as_entry false self.now) }
     {
         self.context == context && self.stamp >= stamp
     }
 
-    /// Whether it waits for nothing and is not held.
-    pub(crate) fn is_ready(&self) -> bool
-        ensures ready { IsTrue result ↔ IsReady (as_entry self.now) }
-        ensures test { result ≡ is_ready (as_entry self.now) }
+    /// Whether it waits for nothing.
+    pub(crate) fn is_supplied(&self) -> bool
+        ensures { result ≡ is_supplied (as_entry false self.now) }
     {
-        self.first.is_none() && self.second.is_none() && !self.held
+        self.first.is_none() && self.second.is_none()
     }
 
     /// Waits for a register no more.
     pub(crate) fn wake(&mut self, register: PhysicalRegister)
-        ensures { as_entry self.new ≡ awake register (as_entry self.old) }
+        ensures { (held : Bool) → as_entry held self.new ≡ awake register (as_entry held self.old) }
     {
         self.first = other_than(self.first, register);
         self.second = other_than(self.second, register);
@@ -165,20 +161,13 @@ impl Queued {
 
     /// Marks whether an older guessed entry of its context has not completed.
     pub(crate) fn set_speculative(&mut self, speculative: bool)
-        ensures { as_entry self.new ≡ record (as_entry self.old) { speculative = speculative } }
+        ensures { (held : Bool) → as_entry held self.new ≡ record (as_entry held self.old) { speculative = speculative } }
     {
         self.speculative = speculative;
     }
-
-    /// Marks whether it is a load that is not clear.
-    pub(crate) fn set_held(&mut self, held: bool)
-        ensures { as_entry self.new ≡ record (as_entry self.old) { held = held } }
-    {
-        self.held = held;
-    }
 }
 
-// The source, unless it is this register.
+/// The source, unless it is this register.
 fn other_than(
     source: Option<PhysicalRegister>,
     register: PhysicalRegister,

@@ -7,6 +7,7 @@ mod order;
 mod places;
 mod queue;
 mod selecting;
+mod slots;
 mod stamps;
 
 pub use entry::{QueueView, Waiting};

@@ -1,18 +1,20 @@
 //! The 64 places of the queue, and words with a bit for each.
 
-ghost use Rattle.std.specs.Prelude.{◌≡◌, ℕ, ◌<◌, ◌≤◌, true, false, not, ◌&&◌, ◌||◌, ◌==◌, ◌^◌, slice_index, slice_index_or, length, map, All, AllPairs, count_ones, if◌then◌else◌, IfSome, IfNone};
+ghost use Rattle.std.specs.Prelude.{◌≡◌, ℕ, ◌<◌, ◌≤◌, true, false, not, ◌&&◌, ◌||◌, ◌==◌, ◌^◌, slice_index, length, map, All, AllPairs, count_ones, if◌then◌else◌, IfSome, IfNone};
 ghost use Rattle.std.specs.List.{list_any};
 ghost use Rattle.std.specs.Option.{option_to_list};
 ghost use Rattle.word_mask.specs.Mask.{has};
-ghost use Rattle.issue_queue.specs.Board.{InStep, IsMask, blank, slot, waits_for};
+ghost use Rattle.issue_queue.specs.Board.{InStep, IsMask, is_of, slot, waits_for};
 ghost use Rattle.issue_queue.specs.Candidates.{is_at};
-ghost use Rattle.issue_queue.specs.Entry.{is_named, is_ready};
+ghost use Rattle.issue_queue.specs.Entry.{is_named, is_ready, is_supplied};
 ghost use Rattle.issue_queue.specs.IssueQueue.{awake, is_from, released};
-ghost use Rattle.issue_queue.specs.Views.{as_entry, entry_of, name_of};
+ghost use Rattle.issue_queue.specs.Stamps.{IsPlaceOfOldest};
+ghost use Rattle.issue_queue.specs.Views.{entry_of, name_of, waits_of};
 
-use crate::Waiting;
 use crate::entry::Queued;
 use crate::selecting::Candidate;
+use crate::slots::Slots;
+use crate::{Waiting, stamps};
 use arrayvec::ArrayVec;
 use core_view::EntryId;
 use join_law::Ctx;
@@ -21,12 +23,12 @@ use rename_file::PhysicalRegister;
 /// Sixty-four places for entries, and of each word the bit of a place.
 #[derive(Drop)]
 pub(crate) struct Places {
-    /// What stands at each place; at one that is free, what stood there last.
-    pub(crate) slots: [Queued; 64],
+    /// What stands at each place.
+    pub(crate) slots: Slots,
     /// The places that are taken.
     pub(crate) valid: u64,
-    /// Those that wait for nothing and are not held.
-    pub(crate) ready: u64,
+    /// Those that wait for nothing.
+    pub(crate) supplied: u64,
     /// Those of conditional branches and JALRs.
     pub(crate) guesses: u64,
     /// Those of each context.
@@ -35,14 +37,14 @@ pub(crate) struct Places {
     pub(crate) waiters: [u64; 480],
 }
 
-// What a wake leaves: the word of ready places, and how many places it looked at.
+/// What a wake leaves: the word of places that wait for nothing, and how many places it looked at.
 #[derive(Drop)]
 struct Woken {
-    ready: u64,
+    supplied: u64,
     looked: usize,
 }
 
-// The bit of a place in the word of an index.
+/// Sets the bit of a place in the word of an index, or clears it.
 fn mark(words: &mut [u64], index: usize, place: usize, flag: bool)
     requires index { index < length words.old }
     requires place { place < 64 }
@@ -52,7 +54,7 @@ fn mark(words: &mut [u64], index: usize, place: usize, flag: bool)
     words[index] = word_mask::assigned(words[index], place, flag);
 }
 
-// The bit of a place in the word of a source, if there is one.
+/// The same in the word of a source, if there is one.
 fn mark_source(words: &mut [u64], source: Option<PhysicalRegister>, place: usize, flag: bool)
     requires length { length words.old ≡ 480 }
     requires place { place < 64 }
@@ -65,36 +67,34 @@ fn mark_source(words: &mut [u64], source: Option<PhysicalRegister>, place: usize
     mark(words, register.index(), place, flag);
 }
 
-// The bit of a place in the word of each source of an entry.
+/// The same in the word of each source of an entry.
 fn mark_sources(words: &mut [u64; 480], entry: &Queued, place: usize, flag: bool)
     requires { place < 64 }
-    ensures { (i p : ℕ) → has (slice_index words.new i) p ≡ (if (p == place) && waits_for i (as_entry entry.now) then flag else has (slice_index words.old i) p) }
+    ensures { (i p : ℕ) → has (slice_index words.new i) p ≡ (if (p == place) && list_any (λ r. r == i) (waits_of entry.now) then flag else has (slice_index words.old i) p) }
 {
     let [first, second] = entry.sources();
     mark_source(words, first, place, flag);
     mark_source(words, second, place, flag);
 }
 
-// Wakes the entries of a word's places.
-fn wake_places(slots: &mut [Queued; 64], ready: u64, word: u64, register: PhysicalRegister) -> Woken
+/// Wakes the entries of a word's places.
+fn wake_places(slots: &mut Slots, supplied: u64, word: u64, register: PhysicalRegister) -> Woken
     ensures slots { (p : ℕ) → slot slots.new p ≡ (if has word p then awake register (slot slots.old p) else slot slots.old p) }
-    ensures ready { (p : ℕ) → has result.ready p ≡ (if has word p then is_ready (slot slots.new p) else has ready p) }
+    ensures supplied { (p : ℕ) → has result.supplied p ≡ (if has word p then is_supplied (slot slots.new p) else has supplied p) }
     ensures looked { result.looked ≡ count_ones word }
 {
-    let mut woken = ready;
+    let mut woken = supplied;
     let mut left = word;
     let mut looked = 0usize;
     while left != 0 {
         let place = word_mask::lowest(left);
         left = word_mask::cleared(left, place);
-        let mut entry = slots[place];
-        entry.wake(register);
-        woken = word_mask::assigned(woken, place, entry.is_ready());
-        slots[place] = entry;
+        slots.wake(place, register);
+        woken = word_mask::assigned(woken, place, slots.at(place).is_supplied());
         looked += 1;
     }
     Woken {
-        ready: woken,
+        supplied: woken,
         looked,
     }
 }
@@ -106,9 +106,9 @@ impl Places {
         ensures free { result.valid ≡ 0 }
     {
         Places {
-            slots: [Queued::default(); 64],
+            slots: Slots::new(),
             valid: 0,
-            ready: 0,
+            supplied: 0,
             guesses: 0,
             contexts: [0; 8],
             waiters: [0; 480],
@@ -126,13 +126,13 @@ impl Places {
         ensures slots { (p : ℕ) → slot self.new.slots p ≡ (if p == result then entry_of waiting else slot self.old.slots p) }
     {
         let place = word_mask::lowest_clear(self.valid);
-        let entry = Queued::new(waiting);
+        self.slots.put(place, waiting);
+        let entry = self.slots.at(place);
         self.valid = word_mask::assigned(self.valid, place, true);
-        self.ready = word_mask::assigned(self.ready, place, entry.is_ready());
+        self.supplied = word_mask::assigned(self.supplied, place, entry.is_supplied());
         self.guesses = word_mask::assigned(self.guesses, place, entry.is_guessed());
         mark(&mut self.contexts, entry.context().index(), place, true);
-        mark_sources(&mut self.waiters, &entry, place, true);
-        self.slots[place] = entry;
+        mark_sources(&mut self.waiters, entry, place, true);
         place
     }
 
@@ -145,12 +145,12 @@ impl Places {
         ensures valid { (p : ℕ) → has self.new.valid p ≡ (has self.old.valid p && not (p == place)) }
         ensures slots { self.new.slots ≡ self.old.slots }
     {
-        let entry = self.slots[place];
+        let entry = self.slots.at(place);
         self.valid = word_mask::cleared(self.valid, place);
-        self.ready = word_mask::assigned(self.ready, place, false);
+        self.supplied = word_mask::assigned(self.supplied, place, false);
         self.guesses = word_mask::assigned(self.guesses, place, false);
         mark(&mut self.contexts, entry.context().index(), place, false);
-        mark_sources(&mut self.waiters, &entry, place, false);
+        mark_sources(&mut self.waiters, entry, place, false);
     }
 
     /// No entry waits for a register any more. Gives how many places it looked at.
@@ -163,8 +163,8 @@ impl Places {
     {
         let index = register.index();
         let word = self.waiters[index];
-        let woken = wake_places(&mut self.slots, self.ready, word, register);
-        self.ready = woken.ready;
+        let woken = wake_places(&mut self.slots, self.supplied, word, register);
+        self.supplied = woken.supplied;
         self.waiters[index] = 0;
         woken.looked
     }
@@ -173,15 +173,11 @@ impl Places {
     pub(crate) fn set_held(&mut self, place: usize, held: bool)
         requires step { InStep self.old }
         requires bound { place < 64 }
-        requires set { has self.old.valid place ≡ true }
         ensures step { InStep self.new }
         ensures valid { self.new.valid ≡ self.old.valid }
         ensures slots { (p : ℕ) → slot self.new.slots p ≡ (if p == place then record (slot self.old.slots p) { held = held } else slot self.old.slots p) }
     {
-        let mut entry = self.slots[place];
-        entry.set_held(held);
-        self.ready = word_mask::assigned(self.ready, place, entry.is_ready());
-        self.slots[place] = entry;
+        self.slots.set_held(place, held);
     }
 
     /// Lets all entries go.
@@ -189,14 +185,9 @@ impl Places {
         requires step { InStep self.old }
         ensures step { InStep self.new }
         ensures valid { self.new.valid ≡ self.old.valid }
-        ensures slots { (p : ℕ) → has self.old.valid p ≡ true → slot self.new.slots p ≡ released (slot self.old.slots p) }
+        ensures slots { (p : ℕ) → slot self.new.slots p ≡ released (slot self.old.slots p) }
     {
-        let mut left = self.valid;
-        while left != 0 {
-            let place = word_mask::lowest(left);
-            left = word_mask::cleared(left, place);
-            self.set_held(place, false);
-        }
+        self.slots.release();
     }
 
     /// Marks the entry of a place as speculative or not.
@@ -207,9 +198,7 @@ impl Places {
         ensures valid { self.new.valid ≡ self.old.valid }
         ensures slots { (p : ℕ) → slot self.new.slots p ≡ (if p == place then record (slot self.old.slots p) { speculative = speculative } else slot self.old.slots p) }
     {
-        let mut entry = self.slots[place];
-        entry.set_speculative(speculative);
-        self.slots[place] = entry;
+        self.slots.set_speculative(place, speculative);
     }
 
     /// The place of the entry of a context and stamp.
@@ -221,7 +210,7 @@ impl Places {
         let mut left = self.contexts[context.index()];
         while left != 0 {
             let place = word_mask::lowest(left);
-            if self.slots[place].is_named(context, stamp) {
+            if self.slots.at(place).is_named(context, stamp) {
                 return Some(place);
             }
             left = word_mask::cleared(left, place);
@@ -240,7 +229,7 @@ impl Places {
         while left != 0 {
             let place = word_mask::lowest(left);
             left = word_mask::cleared(left, place);
-            if self.slots[place].is_from(context, stamp) {
+            if self.slots.at(place).is_from(context, stamp) {
                 self.free(place);
             }
         }
@@ -259,19 +248,31 @@ impl Places {
         requires { InStep self.now }
         ensures { (word : ℕ) × (word < 2 ^ 64) × (result ≡ count_ones word) × IsMask (λ e. (e.context == context) && e.guessed) self.now.valid self.now.slots word }
     {
-        (self.contexts[context.index()] & self.guesses).count_ones() as usize
+        word_mask::both(self.contexts[context.index()], self.guesses).count_ones() as usize
     }
 
-    /// What stands at these places.
-    pub(crate) fn listed(&self, order: &ArrayVec<u8, 64>) -> ArrayVec<Queued, 64>
-        requires { All (λ p. p < 64) order.now.items }
-        ensures { result.items ≡ map (λ p. slice_index_or self.now.slots p blank) order.now.items }
+    /// The places that are ready: they wait for nothing and are not held.
+    pub(crate) fn ready(&self) -> u64
+        requires { InStep self.now }
+        ensures { IsMask is_ready self.now.valid self.now.slots result }
     {
-        let mut entries = ArrayVec::new();
-        for place in order.as_slice() {
-            entries.push(self.slots[*place as usize]);
+        word_mask::without(self.supplied, self.slots.held())
+    }
+
+    /// How many entries are older than the oldest entry of a context, or `None` where it has none.
+    pub(crate) fn oldest_place(&self, context: Ctx) -> Option<usize>
+        requires { InStep self.now }
+        ensures some { IfSome result (IsPlaceOfOldest context self.now.valid self.now.slots) }
+        ensures none { IfNone result ((p : ℕ) → has self.now.valid p ≡ true → is_of context (slot self.now.slots p) ≡ false) }
+    {
+        let own = self.contexts[context.index()];
+        if own == 0 {
+            return None;
         }
-        entries
+        let oldest = stamps::oldest(&self.slots, own);
+        let others = word_mask::without(self.valid, own);
+        let older = stamps::older(&self.slots, others, oldest);
+        Some(older.count_ones() as usize)
     }
 
     /// Frees the places of candidates, and gives the names of what stood there.
@@ -287,7 +288,7 @@ impl Places {
     {
         let mut selected = ArrayVec::new();
         for candidate in best {
-            selected.push(self.slots[candidate.place].name());
+            selected.push(self.slots.at(candidate.place).name());
             self.free(candidate.place);
         }
         selected

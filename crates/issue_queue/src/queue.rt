@@ -2,6 +2,7 @@
 
 ghost use Rattle.std.specs.Prelude.{◌≡◌, ◌↔◌, ◌<◌, ◌≤◌, ◌==◌, ◌&&◌, false, [], ◌∷◌, ◌++◌, length, map, filter, not, count_by, IsTrue, IfSome, IsOk, OnOk, OnErr, IfErr};
 ghost use Rattle.std.specs.List.{list_any};
+ghost use Rattle.word_mask.specs.Mask.{has};
 ghost use Rattle.issue_queue.specs.Entry.{is_named};
 ghost use Rattle.issue_queue.specs.Board.{waits_for};
 ghost use Rattle.issue_queue.specs.IssueQueue.{awake, with_speculative, with_held, released, is_from};
@@ -10,7 +11,7 @@ ghost use Rattle.issue_queue.specs.Stamps.{place_of_oldest};
 ghost use Rattle.issue_queue.specs.Views.{entry_of, view_of};
 
 use crate::places::Places;
-use crate::{Order, Waiting, selecting, stamps};
+use crate::{Order, Waiting, selecting};
 use arrayvec::ArrayVec;
 use core_view::EntryId;
 use join_law::Ctx;
@@ -155,11 +156,10 @@ impl Queue {
         ensures capacity { self.new.capacity ≡ self.old.capacity }
         ensures selected { IsSelected (λ e. O.key_of order.now (view_of e)) width self.old.entries self.new.entries result.items }
     {
-        let best = selecting::best_of(&self.places.slots, self.places.ready, order, width);
+        let ready = self.places.ready();
+        let best = selecting::best_of(&self.places.slots, ready, order, width);
         let selected = self.places.take(best.as_slice());
-        let valid = self.places.valid;
-        self.order
-            .retain(|place| word_mask::has(valid, *place as usize));
+        retain_taken(&mut self.order, self.places.valid);
         selected
     }
 
@@ -168,9 +168,7 @@ impl Queue {
         ensures { self.new ≡ record self.old { entries = filter (λ e. not (is_from context stamp e)) self.old.entries } }
     {
         self.places.free_from(context, stamp);
-        let valid = self.places.valid;
-        self.order
-            .retain(|place| word_mask::has(valid, *place as usize));
+        retain_taken(&mut self.order, self.places.valid);
     }
 
     /// How many entries of a context it holds.
@@ -192,7 +190,13 @@ impl Queue {
         ensures place { result ≡ place_of_oldest context self.now.entries }
         ensures bound { IfSome result (λ place. place ≤ 64) }
     {
-        let entries = self.places.listed(&self.order);
-        stamps::oldest_place(entries.as_slice(), context)
+        self.places.oldest_place(context)
     }
+}
+
+/// Keeps the places that are taken, in their order.
+fn retain_taken(order: &mut ArrayVec<u8, 64>, taken: u64)
+    ensures { order.new.items ≡ filter (λ p. has taken p) order.old.items }
+{
+    order.retain(|place| word_mask::has(taken, *place as usize));
 }

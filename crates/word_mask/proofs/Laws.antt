@@ -1,2 +1,3 @@
--- What callers may cite of the bits of a word.
-pub use Rattle.word_mask.proofs.Words.{has-true, has-false, true-has, false-has, has_zero, has_below, count_listed, eqb_swap}
+-- What callers may cite of the bits of a word, and of lists that name its places.
+pub use Rattle.word_mask.proofs.Words.{has_zero, has_below, count_listed, eqb_swap}
+pub use Rattle.word_mask.proofs.Lists.{filter_agree_on, AllPairs-head, AllPairs-tail}

@@ -111,11 +111,17 @@ ones_without w k fits lt set =
     (ones_less_at (bit_and w (2 ^ 64 - 1 - 2 ^ k)) w (w / 2 ^ k) (w / 2 ^ k / 2) k (w % 2 ^ k) (2 ^ k) refl (mod-lt w (pow_pos k)) (sym (shr_split w k))
     (omega (arith, set)) (omega (arith, split, here, and_comm (2 ^ 64 - 1 - 2 ^ k) w)))
 
+-- the place is below 64, the word has or lacks it as told, and it is the first such place
+pub record IsFirst (w p : ℕ) (flag : Bool) : Type 0 where
+  pub bound : p < 64
+  pub here : has w p ≡ flag
+  pub below : (i : ℕ) → i < p → has w i ≡ not flag
+
 -- a word with a bit is not 0
-pub lowest_bit : (w : ℕ) → 0 < w → w < 2 ^ 64 → (has w (trailing_zeros w64 w) ≡ true) × (trailing_zeros w64 w < 64)
+pub lowest_bit : (w : ℕ) → 0 < w → w < 2 ^ 64 → IsFirst w (trailing_zeros w64 w) true
 lowest_bit w pos fits =
     let t = bit_at-trailing_zeros w64 w pos fits in
-    (true-has w (trailing_zeros w64 w) t.1, t.0)
+    record { bound = t.0; here = true-has w (trailing_zeros w64 w) t.1; below = λ i lt. false-has w i (t.2 i lt) }
 
 one : count_ones 1 ≡ 1
 unfolding ones
@@ -132,12 +138,12 @@ full =
     omega (arith, one, b, c, d, e, f, g)
 
 -- a word that is not full lacks one
-pub lowest_gap : (w : ℕ) → w < 2 ^ 64 → count_ones w < 64 → (has w (trailing_ones w64 w) ≡ false) × (trailing_ones w64 w < 64)
+pub lowest_gap : (w : ℕ) → w < 2 ^ 64 → count_ones w < 64 → IsFirst w (trailing_ones w64 w) false
 lowest_gap w fits few = elim (cases_eq w 18446744073709551615) [
   | inl same ↦ absurd (let all : count_ones w ≡ 64 = rw same full in omega arith)
   | inr other ↦
       let t = bit_at-trailing_ones w64 w (omega arith) in
-      (false-has w (trailing_ones w64 w) t.1, t.0)
+      record { bound = t.0; here = false-has w (trailing_ones w64 w) t.1; below = λ i lt. true-has w i (t.2 i lt) }
 ]
 
 -- the test of a bit in code

@@ -47,6 +47,7 @@ pub fn without(word: u64, other: u64) -> u64
 pub fn lowest(word: u64) -> usize
     requires { 0 < word }
     ensures set { has word result ≡ true }
+    ensures below { (p : ℕ) → p < result → has word p ≡ false }
     ensures bound { result < 64 }
 {
     word.trailing_zeros() as usize
@@ -56,6 +57,7 @@ pub fn lowest(word: u64) -> usize
 pub fn lowest_clear(word: u64) -> usize
     requires { count_ones word < 64 }
     ensures clear { has word result ≡ false }
+    ensures below { (p : ℕ) → p < result → has word p ≡ true }
     ensures bound { result < 64 }
 {
     word.trailing_ones() as usize

@@ -1,5 +1,7 @@
-use Rattle.issue_queue.proofs.Masks.{released_all}
+use Rattle.std.proofs.Common.{true, refl}
+use Rattle.issue_queue.specs.IssueQueue.{released}
+use Rattle.issue_queue.proofs.Masks.{unseen_in_step}
 use Rattle.issue_queue.proofs.places.Places.release.Goals as goal
 
-pub returns-clause-slots : goal.returns-clause-slots
-returns-clause-slots c = released_all c.args.self.now c.loop-left.self c.loop-left.left c.loop-left-test.false c.loop-left.invariant
+pub returns-clause-step : goal.returns-clause-step
+returns-clause-step c = unseen_in_step released (λ e. refl) (λ e. refl) (λ e. refl) (λ p. true) c.args.self.now _ refl refl refl refl refl c.release.ensures c.requires.step
