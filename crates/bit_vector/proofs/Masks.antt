@@ -1,5 +1,5 @@
 -- Words by place.
-use Rattle.std.proofs.Common.{◌≡◌, ℕ, zero, suc, ◌+◌, ◌*◌, ◌/◌, ◌%◌, ◌^◌, ◌<◌, ◌≤◌, Bool, true, false, cond, List, [], ◌∷◌, ◌++◌, length, take, drop, map, set, count_by, bit_and, bit_or, refl, sym, ◌∙◌, ap, arith, ◌-◌}
+use Rattle.std.proofs.Common.{◌≡◌, ℕ, zero, suc, ◌+◌, ◌*◌, ◌%◌, ◌^◌, ◌<◌, ◌≤◌, Bool, true, false, cond, List, [], ◌∷◌, ◌++◌, length, take, map, set, count_by, bit_and, bit_or, refl, sym, ◌∙◌, ap, arith, ◌-◌}
 use Rattle.std.specs.Simd.Lanes.{mask_l}
 use mir.Val.{bool_byte}
 use Rattle.std.specs.Int.{bit_at, bit_not, w64}
@@ -10,18 +10,13 @@ use Rattle.std.proofs.Math.Pow.{pow_mono}
 use Rattle.std.proofs.lemmas.Nat.Bits.{same_from_bits, same_from_bits_below, bit_at_set_same, bit_at_set_other, bit_at_clear_same, bit_at_clear_other}
 use Rattle.std.proofs.lemmas.List.{get_or-set_same, get_or-set_other}
 
-pub mask-drop : (ms : List Bool) → mask_l (drop 1 ms) ≡ mask_l ms / 2
-mask-drop [] = refl
-mask-drop (true ∷ bs) = omega arith
-mask-drop (false ∷ bs) = omega arith
-
 pow-suc : (k : ℕ) → 2 ^ suc k ≡ 2 * 2 ^ k
 pow-suc k = let e : suc k ≡ 1 + k = omega arith in ap (λ n. 2 ^ n) e ∙ pow-add 2 1 k
 
 times-suc : (k a : ℕ) → 2 ^ suc k * a ≡ 2 * (2 ^ k * a)
 times-suc k a = grind (arith, pow-suc k)
 
-pub mask-append : (ms ns : List Bool) → mask_l (ms ++ ns) ≡ mask_l ms + 2 ^ length ms * mask_l ns
+mask-append : (ms ns : List Bool) → mask_l (ms ++ ns) ≡ mask_l ms + 2 ^ length ms * mask_l ns
 mask-append [] ns = omega arith
 mask-append (b ∷ ms) ns = let h : mask_l (ms ++ ns) ≡ mask_l ms + 2 ^ length ms * mask_l ns = mask-append ms ns in omega (arith, h, times-suc (length ms) (mask_l ns))
 
@@ -31,7 +26,7 @@ double-mod a n h = grind arith
 odd-mod : (a n : ℕ) → 0 < n → (1 + 2 * a) % (2 * n) ≡ 1 + 2 * (a % n)
 odd-mod a n h = grind arith
 
-pub mask-take : (k : ℕ) (ms : List Bool) → mask_l (take k ms) ≡ mask_l ms % 2 ^ k
+mask-take : (k : ℕ) (ms : List Bool) → mask_l (take k ms) ≡ mask_l ms % 2 ^ k
 mask-take zero ms = omega arith
 mask-take (suc k) [] = grind arith
 mask-take (suc k) (true ∷ ms) = ap (λ n. 1 + 2 * n) (mask-take k ms) ∙ sym (odd-mod (mask_l ms) (2 ^ k) (pow_pos k)) ∙ ap (λ n. (1 + 2 * mask_l ms) % n) (sym (pow-suc k))

@@ -1,7 +1,7 @@
 -- What is true of a flight, event by event.
-use Rattle.std.proofs.Common.{◌≡◌, ◌≢◌, ℕ, zero, suc, ◌+◌, ◌-◌, ◌%◌, ◌<◌, ◌≤◌, min, List, [], ◌∷◌, ◌++◌, length, take, drop, set, get_or, refl, sym, ◌∙◌, ap, arith, inl, inr, ◌⊎◌, length-set, length-append, length-drop}
+use Rattle.std.proofs.Common.{◌≡◌, ◌≢◌, ℕ, zero, suc, ◌+◌, ◌-◌, ◌%◌, ◌<◌, ◌≤◌, List, [], ◌∷◌, length, take, drop, set, get_or, refl, sym, ◌∙◌, ap, arith, inl, inr, ◌⊎◌, length-set, length-drop}
 use Rattle.std.specs.Int.{bit_at}
-use Rattle.std.proofs.lemmas.List.{length-take-le, get_or-set_same, get_or-set_other, take-append-le, take-take}
+use Rattle.std.proofs.lemmas.List.{length-take-le, get_or-set_same, get_or-set_other}
 use Rattle.std.proofs.lemmas.Grind.{get_or_after_one}
 use Rattle.std.proofs.Math.Seq.{take-set-lt}
 use Rattle.core_view.specs.declared.entry.Entry.{Entry}
@@ -27,25 +27,6 @@ drop-take-one : (n : ℕ) (es : List Entry) → drop 1 (take n es) ≡ take (n -
 drop-take-one zero es = refl
 drop-take-one (suc n) [] = sym (take-none (suc n - 1))
 drop-take-one (suc n) (e ∷ es) = let same : n ≡ suc n - 1 = omega arith in ap (λ k. take k es) same
-
--- the place past the end is no entry, which is fetched
-stage-push : (es : List Entry) (e : Entry) (i : ℕ) → e.stage ≡ Fetched → (entry_in (es ++ e ∷ []) i).stage ≡ (entry_in es i).stage
-stage-push [] e zero fetched = fetched
-stage-push [] e (suc i) fetched = refl
-stage-push (x ∷ es) e zero fetched = refl
-stage-push (x ∷ es) e (suc i) fetched = stage-push es e i fetched
-
--- so is what is past a cut
-stage-take : (n i : ℕ) (es : List Entry) → ((entry_in (take n es) i).stage ≡ (entry_in es i).stage) ⊎ ((entry_in (take n es) i).stage ≡ Fetched)
-stage-take zero i es = inr refl
-stage-take (suc n) i [] = inr refl
-stage-take (suc n) zero (e ∷ es) = inl refl
-stage-take (suc n) (suc i) (e ∷ es) = stage-take n i es
-
-take-more : (n : ℕ) (es : List Entry) (e : Entry) → n < length es → take (n + 1) (set es n e) ≡ take n es ++ e ∷ []
-take-more n [] e lt = absurd (omega arith)
-take-more zero (x ∷ es) e lt = refl
-take-more (suc n) (x ∷ es) e lt = let one : suc n + 1 ≡ suc (n + 1) = omega arith in rw one (ap (λ fs. x ∷ fs) (take-more n es e (omega arith)))
 
 -- ---- stages
 
@@ -138,15 +119,6 @@ hinted-cleared words base place r cycle w es h ahead few renamed size idle other
 
 -- ---- events
 
-pub flight-fetched : (es fs : List Entry) (e : Entry) (r base : ℕ) (m : Marks) (words : List ℕ) → IsFlight es r base m words → e.stage ≡ Fetched → fs ≡ es ++ e ∷ [] → IsFlight fs r base m words
-flight-fetched es fs e r base m words f fetched made = rw made (record {
-  within = omega (arith, f.within, length-append es (e ∷ []));
-  few = f.few;
-  marked = f.marked ∙ ap marks_of (sym (take-append-le r es (e ∷ []) f.within));
-  ahead = λ i h. stage-push es e i fetched ∙ f.ahead i h;
-  hinted = hinted-still words base es (es ++ e ∷ []) f.hinted (λ i x is. sym (stage-push es e i fetched) ∙ is);
-})
-
 pub flight-retired : (es fs : List Entry) (r base : ℕ) (m n : Marks) (words : List ℕ) → IsFlight es r base m words → 0 < r → fs ≡ drop 1 es →
     ((xs : List Entry) → m ≡ marks_of xs → n ≡ marks_of (drop 1 xs)) → IsFlight fs (r - 1) ((base + 1) % 64) n words
 flight-retired es fs r base m n words f some is marks = rw is (record {
@@ -156,23 +128,6 @@ flight-retired es fs r base m n words f some is marks = rw is (record {
   ahead = λ i h. ap (λ (e : Entry). e.stage) (get_or_after_one es i no_entry) ∙ f.ahead (1 + i) (omega arith);
   hinted = hinted-retired words base es f.hinted;
 })
-
--- another entry at the first place that isn't renamed, and not yet issued
-pub flight-renamed : (es fs : List Entry) (e : Entry) (r base : ℕ) (m n : Marks) (words : List ℕ) → IsFlight es r base m words → r < length es → r < 64 → fs ≡ set es r e → ((x : Execution) → e.stage ≡ Issued x → ⊥) →
-    ((xs : List Entry) → m ≡ marks_of xs → r ≡ length xs → n ≡ marks_of (xs ++ e ∷ [])) → IsFlight fs (r + 1) base n words
-flight-renamed es fs e r base m n words f some few made idle marks = rw made (record {
-  within = omega (arith, some, length-set es r e);
-  few = omega (arith, few);
-  marked = marks (take r es) f.marked (sym (length-take-le r es f.within)) ∙ ap marks_of (sym (take-more r es e some));
-  ahead = λ i h. let other : i ≢ r = omega arith in ap (λ (e : Entry). e.stage) (get_or-set_other es r i e no_entry other) ∙ f.ahead i (omega arith);
-  hinted = hinted-still words base es (set es r e) f.hinted still;
-})
-  where
-    still : (i : ℕ) (x : Execution) → (entry_in (set es r e) i).stage ≡ Issued x → (entry_in es i).stage ≡ Issued x
-    still i x is = elim (eq-or i r) [
-      | inl here ↦ absurd (idle x (ap (λ (e : Entry). e.stage) (sym (get_or-set_same es r e no_entry some) ∙ ap (λ k. entry_in (set es r e) k) (sym here)) ∙ is))
-      | inr other ↦ ap (λ (e : Entry). e.stage) (sym (get_or-set_other es r i e no_entry other)) ∙ is
-    ]
 
 -- another entry at a renamed place
 flight-set : (es : List Entry) (e : Entry) (place r base : ℕ) (m n : Marks) (words vs : List ℕ) → IsFlight es r base m words → place < r →
@@ -206,29 +161,6 @@ flight-finished es fs e place r base m n words f within idle made marks =
       | inl here ↦ absurd (idle x (ap (λ (e : Entry). e.stage) (sym (get_or-set_same es place e no_entry (omega (arith, f.within))) ∙ ap (λ k. entry_in (set es place e) k) (sym here)) ∙ is))
       | inr other ↦ ap (λ (e : Entry). e.stage) (sym (get_or-set_other es place i e no_entry other)) ∙ is
     ]
-
--- the first so many entries are left
-pub flight-cut : (es fs : List Entry) (k r base : ℕ) (m n : Marks) (words : List ℕ) → IsFlight es r base m words → fs ≡ take (length fs) es → k ≡ min r (length fs) →
-    ((xs : List Entry) → m ≡ marks_of xs → length xs ≤ 64 → n ≡ marks_of (take k xs)) → IsFlight fs k base n words
-flight-cut es fs k r base m n words f front is marks =
-    let long : length (take r es) ≡ r = length-take-le r es f.within in record {
-      within = omega arith;
-      few = omega (arith, f.few);
-      marked = marks (take r es) f.marked (omega (arith, f.few)) ∙ ap marks_of (take-take k r es (omega arith) ∙ sym (take-take k (length fs) es (omega arith)) ∙ ap (λ xs. take k xs) (sym front));
-      ahead = λ i h. elim (lt-or i (length fs)) [
-        | inl lt ↦ (let past : r ≤ i = omega arith in elim (at i) [ inl same ↦ same ∙ f.ahead i past | inr none ↦ none ])
-        | inr ge ↦ past-end fs i ge
-      ];
-      hinted = hinted-still words base es fs f.hinted (λ i x is. elim (at i) [ inl same ↦ sym same ∙ is | inr none ↦ absurd (fetched-issued x (sym none ∙ is)) ]);
-    }
-  where
-    at : (i : ℕ) → ((entry_in fs i).stage ≡ (entry_in es i).stage) ⊎ ((entry_in fs i).stage ≡ Fetched)
-    at i = rw front (stage-take (length fs) i es)
-
-    past-end : (xs : List Entry) (i : ℕ) → length xs ≤ i → (entry_in xs i).stage ≡ Fetched
-    past-end [] i le = refl
-    past-end (x ∷ xs) zero le = absurd (omega arith)
-    past-end (x ∷ xs) (suc i) le = past-end xs i (omega arith)
 
 pub flight-none : (base : ℕ) (words : List ℕ) → IsFlight [] 0 base (marks_of []) words
 flight-none base words = record {

@@ -40,9 +40,6 @@ stage-not-due words slot cycle (Issued x) h clear = go (x.due == cycle) refl
 pub not-due : (words : List ℕ) (base cycle i : ℕ) (es : List Entry) → IsHinted words base es → bit_at (get_or words (cycle % 64) 0) ((base + i) % 64) ≡ 0 → is_due cycle (entry_in es i) ≡ false
 not-due words base cycle i es h clear = stage-not-due words ((base + i) % 64) cycle (entry_in es i).stage (h i) clear
 
-pub fetched-not-due : (cycle i : ℕ) (es : List Entry) → (entry_in es i).stage ≡ Fetched → is_due cycle (entry_in es i) ≡ false
-fetched-not-due cycle i es is = ap (λ s. is_some (due_at cycle s)) is
-
 -- ---- along a loop
 
 -- none before a place, not the one there, and none after it

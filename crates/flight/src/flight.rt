@@ -1,6 +1,6 @@
 //! The entries of a context in flight.
 
-ghost use Rattle.std.specs.Prelude.{◌≡◌, ◌≢◌, ℕ, ◌+◌, ◌-◌, ◌<◌, ◌≤◌, ◌%◌, false, [], ◌∷◌, ◌++◌, length, take, drop, slice_get, slice_set, option_copied, IfOk, MatchOption, All, count_by};
+ghost use Rattle.std.specs.Prelude.{◌≡◌, ◌≢◌, ℕ, ◌+◌, ◌-◌, ◌<◌, ◌≤◌, ◌%◌, Bool, false, [], ◌∷◌, ◌++◌, length, take, drop, slice_get, slice_set, option_copied, IfOk, MatchOption, All, count_by};
 ghost use Rattle.std.specs.List.{list_any};
 ghost use Rattle.circular_buffer.specs.Buffer.{buffer, last_item};
 ghost use Rattle.reorder_buffer.specs.Growing.{IsGrowing};
@@ -8,7 +8,7 @@ ghost use Rattle.core_view.specs.declared.entry.Stage.TheVariants.{Fetched, Queu
 ghost use Rattle.core_view.specs.Events.{due_at};
 ghost use Rattle.core_view.specs.declared.entry.Entry.{Entry};
 ghost use Rattle.core_view.specs.declared.entry.Execution.{Execution};
-ghost use Rattle.flight.specs.Marked.{is_waiting, is_waiting_load, is_open_guess, is_missed_load};
+ghost use Rattle.flight.specs.Marked.{is_waiting, is_waiting_load, is_open_guess, is_missed_load, word_of};
 ghost use Rattle.flight.specs.Flights.{entry_in, empty_flight, fetched_one, renamed_one, issued_one, finished_one, retired_one, none_left, cut_at, is_due, NoneFrom, IsNext};
 
 use crate::marks::Marks;
@@ -195,12 +195,7 @@ impl<A: Allocator> Flight<A> {
         requires { from ≤ 64 }
         ensures { MatchOption result (NoneFrom is_waiting self.now.entries from) (λ place. IsNext is_waiting self.now.entries from place) }
     {
-        let place = next(self.marks.waiting, from);
-        if place < self.renamed {
-            Some(place)
-        } else {
-            None
-        }
+        self.next_marked(self.marks.waiting, from)
     }
 
     /// The first place from one on whose entry is a load that waits for issue.
@@ -208,7 +203,17 @@ impl<A: Allocator> Flight<A> {
         requires { from ≤ 64 }
         ensures { MatchOption result (NoneFrom is_waiting_load self.now.entries from) (λ place. IsNext is_waiting_load self.now.entries from place) }
     {
-        let place = next(self.marks.waiting_loads, from);
+        self.next_marked(self.marks.waiting_loads, from)
+    }
+
+    /// The first place from one on whose entry has its bit in a word.
+    #[inline]
+    fn next_marked(&self, word: u64, from: usize) -> Option<usize>
+        requires { from ≤ 64 }
+        ensures { (test : Entry → Bool) → word ≡ word_of test (take self.now.renamed self.now.entries) → ((e : Entry) → e.stage ≡ Fetched → test e ≡ false) →
+            MatchOption result (NoneFrom test self.now.entries from) (λ place. IsNext test self.now.entries from place) }
+    {
+        let place = next(word, from);
         if place < self.renamed {
             Some(place)
         } else {

@@ -1,13 +1,7 @@
-use Rattle.std.proofs.Common.{ap, arith}
+use Rattle.std.proofs.Common.{ap}
 use Rattle.flight.specs.declared.marks.Marks.{Marks}
 use Rattle.flight.specs.Marked.{is_waiting, is_queued}
-use Rattle.flight.proofs.Looks.{word-next, word-past}
 use Rattle.flight.proofs.flight.Flight.next_waiting.Goals as goal
 
-pub returns-then-place-self : goal.returns-then-place-self
-returns-then-place-self g c = rw (← c.self.view_is) (word-next is_waiting c.self.inside.ring.items c.self.inside.marks.waiting c.self.inside.renamed c.args.from c.next-place.result (ap (λ (m : Marks). m.waiting) c.self.invariant.1.marked) c.self.invariant.1.within c.self.invariant.1.ahead (λ e is. ap is_queued is)
-    c.next-place.ensures.from c.if-place-self.true (c.next-place.ensures.set (omega (arith, c.if-place-self.true, c.self.invariant.1.few))) c.next-place.ensures.clear)
-
-pub returns-else-place-self : goal.returns-else-place-self
-returns-else-place-self g c = rw (← c.self.view_is) (word-past is_waiting c.self.inside.ring.items c.self.inside.marks.waiting c.self.inside.renamed c.args.from c.next-place.result (ap (λ (m : Marks). m.waiting) c.self.invariant.1.marked) c.self.invariant.1.within c.self.invariant.1.ahead (λ e is. ap is_queued is)
-    (omega (arith, c.if-place-self.false)) c.next-place.ensures.clear)
+pub returns : goal.returns
+returns g c = c.next_marked.ensures is_waiting (rw (← c.self.view_is) (ap (λ (m : Marks). m.waiting) c.self.invariant.1.marked)) (λ e is. ap is_queued is)
