@@ -12,6 +12,7 @@ pub mod Renamable
 pub mod RetiredFronts
 pub mod RetireTurns
 pub mod CompletedCount
+pub mod NextOutcomes
 pub mod Options
 pub mod Laws
 pub mod IssueViews

@@ -7,7 +7,7 @@ use Rattle.std.specs.Arc.{arc_value}
 use Rattle.std.proofs.lemmas.List.{get_or-map, get_or_read, get_or_default, get_or-set_same, get_or-set_other, length-set, length-map, map-set, set-get_or}
 use Rattle.origin_set.specs.Start.{start}
 use Rattle.core_profile.specs.declared.profile.Profile.{Profile}
-use Rattle.core_view.specs.View.{Context, IsLive}
+use Rattle.core_view.specs.View.{Context, IsLive, IsSoundFlight, IsSoundView}
 use Rattle.core_back.specs.declared.machine.Machine.TheInside.{Inside}
 use Rattle.data_flow.specs.Flow.{Flow}
 use Rattle.core_context.specs.Track.{Track}
@@ -219,3 +219,12 @@ module _ {A : Type 0} where
       let at_c = at_context m now c c t shows ok lt refl (get_or_default m.tracks.items c no_track t (omega (arith, lt, ok.tracks))) in
       let same : length t.context.flight ≡ length (context_at now c).flight = ap (λ (x : Context). length x.flight) at_c.context in
       omega (arith, same, at_c.core.front, at_c.core.fits, m.profile.reorder_buffer_in_range.1)
+
+  -- so the view is sound
+  pub all_sound : (m : Inside A) (now : Machine) → machine_of m ≡ now → IsMachine m → IsSoundView now.view
+  all_sound m now shows ok = record {
+    flights = λ c d lt.
+        let count : length now.view.contexts ≡ 8 = ap (λ (v : Machine). length v.view.contexts) (sym shows) ∙ length-map m.tracks.items (λ (t : Track). t.context) ∙ ok.tracks in
+        let below : c < 8 = omega (arith, lt, count) in
+        subst (λ (x : Context). IsSoundFlight now.view.stamp x) (get_or_default now.view.contexts c no_context d lt) (all_live m now shows ok c below).flight;
+  }

@@ -2,13 +2,16 @@
 use Rattle.std.specs.Prelude.{◌≡◌, ℕ, ◌+◌, ◌-◌, ◌<◌, List, [], length, sum_by, get_or, slice_get, option_and_then, slice_set, Option}
 use Rattle.hart_step.specs.declared.environment.Environment.TheVariants.{One}
 use Rattle.hart_step.specs.State.{State}
+use Rattle.hart_step.specs.Next.{next}
+use Rattle.core_view.specs.declared.outcome.Outcome.{Outcome}
+use Rattle.core_view.specs.Outcomes.{moved_by}
 use Rattle.paged_memory.specs.Start.{start_cells}
 use Rattle.origin_set.specs.OriginValue.{OriginValue}
 use Rattle.core_view.specs.declared.note.EntryId.{EntryId}
 use Rattle.core_view.specs.declared.entry.Execution.{Execution}
 use Rattle.core_view.specs.declared.entry.Entry.{Entry}
 use Rattle.core_view.specs.Events.{due_at, with_flight, completed_at}
-use Rattle.core_view.specs.View.{Context, View, first_context}
+use Rattle.core_view.specs.View.{Context, View, entry_at, first_context}
 use Rattle.core_context.specs.Track.{Track, first_track}
 
 -- the origin of the contexts, the view, what was selected and has not issued yet, and how many more entries may be fetched in this cycle
@@ -61,6 +64,10 @@ pub record IsAlike (old new : Machine) : Type 0 where
   pub cycle : new.view.cycle ≡ old.view.cycle
   pub room : new.fetch_room ≡ old.fetch_room
   pub targets : (c : ℕ) → c < 8 → (context_at new c).target ≡ (context_at old c).target
+
+-- an outcome of the oldest entry of a context is what plain RV64I does next in the context's state: the step that it makes, or the stop
+abbrev pub IsNextOf : Context → Outcome → Type 0
+IsNextOf x o = next x.state ≡ moved_by x.state (entry_at x 0).operation o
 
 -- the execution of the entry at a place, where it is due in a cycle
 abbrev pub due_in : ℕ → List Entry → ℕ → Option Execution

@@ -5,12 +5,12 @@ ghost use Rattle.core_view.specs.declared.outcome.Outcome.TheVariants.{Goes, Sto
 ghost use Rattle.core_view.specs.declared.entry.Stage.TheVariants.{Issued};
 ghost use Rattle.core_view.specs.Events.{retire_event, stop_event, complete_event};
 ghost use Rattle.core_view.specs.Operations.{is_guessed, is_load};
-ghost use Rattle.core_view.specs.View.{entry_at, IsLive};
+ghost use Rattle.core_view.specs.View.{entry_at, IsLive, IsSoundView};
 ghost use Rattle.lawful_cycle.specs.Issue.{is_queued};
 ghost use Rattle.lawful_cycle.specs.Rename.{CanRename};
 ghost use Rattle.lawful_cycle.specs.Fetch.{is_fetched, is_missing, is_eligible, oldest_place};
 ghost use Rattle.origin_set.specs.Start.{start};
-ghost use Rattle.core_back.specs.Machine.{IsAlike, context_at, in_flight, with_context, with_cycle, due_in};
+ghost use Rattle.core_back.specs.Machine.{IsAlike, context_at, in_flight, with_context, with_cycle, due_in, IsNextOf};
 ghost use Rattle.core_context.specs.Heads.{first_done};
 ghost use Rattle.core_back.specs.Selected.{IsChosen};
 ghost use Rattle.core_back.specs.Issued.{IsIssued};
@@ -120,6 +120,7 @@ impl<A: Allocator> Machine<A> {
     pub fn cycle(&self) -> u64
         ensures value { result ≡ self.now.view.cycle }
         ensures live { (c : ℕ) → c < 8 → IsLive (start self.now.origin c) self.now.view.stamp (context_at self.now c) }
+        ensures sound { IsSoundView self.now.view }
         ensures contexts { length self.now.view.contexts ≡ 8 }
         ensures few { (c : ℕ) → c < 8 → length (context_at self.now c).flight ≤ 80 }
     {
@@ -199,9 +200,10 @@ impl<A: Allocator> Machine<A> {
         track.status()
     }
 
-    /// The outcome of the oldest entry of a context, where it is done.
+    /// The outcome of the oldest entry of a context, where it is done: what plain RV64I does next in the context's state.
     pub fn head(&self, context: Ctx) -> Option<Outcome>
-        ensures { result ≡ first_done (context_at self.now context).flight }
+        ensures value { result ≡ first_done (context_at self.now context).flight }
+        ensures next { IfSome result (IsNextOf (context_at self.now context)) }
     {
         let track = &self.tracks[context.index()];
         track.head()

@@ -1,9 +1,5 @@
-use Rattle.std.proofs.Common.{◌≡◌, ◌<◌, length, refl, sym, ap, subst, ◌∙◌, arith}
-use Rattle.std.specs.Prelude.{set}
-use Rattle.std.specs.Arc.{arc_value}
-use Rattle.origin_set.specs.Start.{start}
-use Rattle.core_view.specs.declared.entry.Stage.TheVariants.{Issued}
-use Rattle.core_view.specs.View.{Context, entry_at}
+use Rattle.std.proofs.Common.{length, refl, ap, ◌∙◌, arith}
+use Rattle.core_view.specs.View.{Context}
 use Rattle.core_view.specs.Events.{complete_event}
 use Rattle.core_context.specs.Track.{Track}
 use Rattle.core_back.proofs.Machines.{at_context, is_idle, machine_after_event, shown_after, shown_length}

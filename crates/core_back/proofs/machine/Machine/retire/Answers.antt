@@ -1,7 +1,4 @@
 use Rattle.std.proofs.Common.{◌≡◌, ◌+◌, ◌≤◌, length, refl, ap, ◌∙◌, arith}
-use Rattle.std.specs.Prelude.{set}
-use Rattle.std.specs.Arc.{arc_value}
-use Rattle.origin_set.specs.Start.{start}
 use Rattle.core_view.specs.declared.outcome.Outcome.TheVariants.{Goes}
 use Rattle.core_view.specs.View.{Context, entry_at}
 use Rattle.core_view.specs.Events.{retire_event}

@@ -1,10 +1,6 @@
 use Rattle.std.proofs.Common.{length, refl, ap, ◌∙◌, arith}
-use Rattle.core_view.specs.declared.outcome.Outcome.TheVariants.{Stops}
 use Rattle.core_view.specs.View.{Context}
 use Rattle.core_view.specs.Events.{stop_event}
-use Rattle.std.specs.Prelude.{set}
-use Rattle.std.specs.Arc.{arc_value}
-use Rattle.origin_set.specs.Start.{start}
 use Rattle.core_context.specs.Track.{Track}
 use Rattle.core_back.specs.Machine.{context_at}
 use Rattle.core_context.specs.Heads.{first_done}
