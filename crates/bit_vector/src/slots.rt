@@ -9,6 +9,7 @@ pub fn set_slot(word: u64, slot: usize) -> u64
     requires { slot < 64 }
     ensures set { bit_at result slot ≡ 1 }
     ensures others { (i : ℕ) → bit_at word i ≡ 1 → bit_at result i ≡ 1 }
+    ensures unchanged { (i : ℕ) → i ≢ slot → bit_at result i ≡ bit_at word i }
 {
     word | (1 << slot)
 }
