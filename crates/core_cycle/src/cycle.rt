@@ -4,7 +4,7 @@ ghost use Rattle.std.specs.Prelude.{◌≡◌, ℕ, ◌+◌, ◌<◌, ◌≤◌,
 ghost use Rattle.arrayvec.specs.ArrayVec.{array_vec_len};
 ghost use Rattle.join_law.specs.Eight.{place_of};
 ghost use Rattle.checkpoint.specs.Aligned.{IsAligned};
-ghost use Rattle.core_view.specs.View.{IsLive, IsSoundFlight, StatusHolds};
+ghost use Rattle.core_view.specs.View.{IsLive, IsSoundFlight, IsSoundView, StatusHolds};
 ghost use Rattle.hart_step.specs.Next.{after};
 ghost use Rattle.origin_set.specs.Start.{start};
 ghost use Rattle.lawful_cycle.specs.Cycle.{IsLawfulCycle, laws_of};
@@ -142,11 +142,12 @@ impl<G: Guess + Drop, P: Pick + Drop, O: Order + Drop, D: Delay + Drop, A: Alloc
             .cycle(&mut self.guess, &self.pick, &self.order, &mut self.delay)
     }
 
-    /// The number of the cycle that comes. Each context is live, at most 80 of its entries are in flight, and what was
-    /// issued is due in that cycle or later.
+    /// The number of the cycle that comes. Each context is live and the view sound, at most 80 of its entries are in
+    /// flight, and what was issued is due in that cycle or later.
     pub fn cycles(&self) -> u64
         ensures value { result ≡ (shown self.now).view.cycle }
         ensures live { (c : ℕ) → c < 8 → IsLive (start (shown self.now).origin c) (shown self.now).view.stamp (context_at (shown self.now) c) }
+        ensures sound { IsSoundView (shown self.now).view }
         ensures contexts { length (shown self.now).view.contexts ≡ 8 }
         ensures few { (c : ℕ) → c < 8 → length (context_at (shown self.now) c).flight ≤ 80 }
         ensures due { AreDueFrom result (shown self.now).view }
