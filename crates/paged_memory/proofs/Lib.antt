@@ -1,5 +1,6 @@
 pub mod Accesses
 pub mod Bytes
+pub mod Fetched
 pub mod Filled
 pub mod Listed
 pub mod Numbers

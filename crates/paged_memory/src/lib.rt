@@ -17,7 +17,7 @@ ghost use Rattle.paged_memory.specs.Cells.{byte_at, bytes_of, fetch_of, load_of,
 ghost use Rattle.paged_memory.specs.Pages.{pages_of};
 ghost use Rattle.paged_memory.specs.Regions.{most_bytes, most_words};
 ghost use Rattle.paged_memory.specs.Start.{start_cells};
-ghost use Rattle.paged_memory.specs.Stored.{IsStored};
+ghost use Rattle.paged_memory.specs.Stored.{IsFetchedAlike, IsStored};
 ghost use Rattle.std.specs.Result.{result_err};
 
 pub use page::Page;
@@ -156,7 +156,7 @@ impl<A: Allocator> Memory<A> {
     /// # Errors
     ///
     /// `LoadMisaligned`, or else `LoadAccess` where one of the bytes is not mapped.
-    #[inline]
+    #[inline(always)]
     pub fn load(&self, address: u64, width: Width) -> Result<u64, Fault>
         ensures { result ≡ load_of self.now address (bytes_of width) }
     {
@@ -177,10 +177,11 @@ impl<A: Allocator> Memory<A> {
     ///
     /// `StoreMisaligned`, or else `StoreAccess` where one of the bytes may not be written. The
     /// memory is then as it was.
-    #[inline]
+    #[inline(always)]
     pub fn store(&mut self, address: u64, width: Width, value: u64) -> Result<(), Fault>
         ensures ok { OnOk result (store_of self.old address (bytes_of width) value ≡ Ok self.new) }
         ensures stored { OnOk result (IsStored self.old self.new address (bytes_of width) value) }
+        ensures fetched { OnOk result (IsFetchedAlike self.old self.new) }
         ensures err { IfErr result (λ e.
             (store_of self.old address (bytes_of width) value ≡ Err e) × (self.new ≡ self.old)) }
     {

@@ -45,7 +45,7 @@ impl Page {
     }
 
     /// Its bytes, in order of address.
-    #[inline]
+    #[inline(always)]
     pub fn bytes(&self) -> &[u8; 4096]
         ensures { result.now ≡ self.now.bytes }
     {
@@ -62,7 +62,7 @@ impl Page {
     }
 
     /// The word at an offset.
-    #[inline]
+    #[inline(always)]
     pub(crate) fn word(&self, offset: usize) -> u32
         requires { offset + 4 ≤ 4096 }
         ensures { result ≡ number_at (slice_index self.now.bytes) offset 4 }
@@ -72,7 +72,7 @@ impl Page {
     }
 
     /// The number of so many bytes at an offset.
-    #[inline]
+    #[inline(always)]
     pub(crate) fn number(&self, offset: usize, width: Width) -> u64
         requires { offset + bytes_of width ≤ 4096 }
         ensures { result ≡ number_at (slice_index self.now.bytes) offset (bytes_of width) }
@@ -96,7 +96,7 @@ impl Page {
     }
 
     /// Puts the lowest bytes of a number at an offset.
-    #[inline]
+    #[inline(always)]
     pub(crate) fn put(&mut self, offset: usize, width: Width, value: u64)
         requires { offset + bytes_of width ≤ 4096 }
         ensures { let bytes = put_number self.old.bytes offset (bytes_of width) value in

@@ -8,7 +8,7 @@ use crate::{DATA_START, TEXT_START, Width};
 
 /// The bits that are 0 in each multiple of a width. A table and not a choice of paths, so that a
 /// width that is known only when it runs costs no branch.
-#[inline]
+#[inline(always)]
 fn low_bits(width: Width) -> u64
     ensures { result ≡ bytes_of width - 1 }
 {
@@ -21,7 +21,7 @@ fn low_bits(width: Width) -> u64
 }
 
 /// Whether an address is a multiple of a width.
-#[inline]
+#[inline(always)]
 pub fn is_aligned(address: u64, width: Width) -> bool
     ensures { IsTrue result ↔ (address % bytes_of width ≡ 0) }
 {
@@ -29,7 +29,7 @@ pub fn is_aligned(address: u64, width: Width) -> bool
 }
 
 /// The place of the page that an address lies in, of so many text pages and so many in all.
-#[inline]
+#[inline(always)]
 pub fn find(text: usize, total: usize, address: u64) -> Option<usize>
     requires { IsSized text total }
     ensures place { result ≡ place_of text total (address / 4096) }
@@ -42,7 +42,7 @@ pub fn find(text: usize, total: usize, address: u64) -> Option<usize>
 }
 
 /// The place of the text page that an address lies in.
-#[inline]
+#[inline(always)]
 pub fn find_text(text: usize, total: usize, address: u64) -> Option<usize>
     requires { IsSized text total }
     ensures found { IfSome result (λ p. (place_of text total (address / 4096) ≡ Some p) × (p < text)) }
@@ -57,7 +57,7 @@ pub fn find_text(text: usize, total: usize, address: u64) -> Option<usize>
 }
 
 /// The place of the data page that an address lies in.
-#[inline]
+#[inline(always)]
 pub fn find_data(text: usize, total: usize, address: u64) -> Option<usize>
     requires { IsSized text total }
     ensures found { IfSome result (λ p.

@@ -33,7 +33,7 @@ pub fn byte(pages: &[Page], text: usize, address: u64) -> u8
 }
 
 /// The number of a width at an address.
-#[inline]
+#[inline(always)]
 pub fn load(pages: &[Page], text: usize, address: u64, width: Width) -> Result<u64, Fault>
     requires { IsSized text (length pages.now) }
     ensures { result ≡ load_of (cells_of text pages.now) address (bytes_of width) }

@@ -4,13 +4,13 @@ ghost use Rattle.std.specs.Prelude.{◌≡◌, ℕ, length, IfErr, OnOk, Ok, Err
 ghost use Rattle.std.specs.Result.{result_err};
 ghost use Rattle.paged_memory.specs.Cells.{bytes_of, store_of};
 ghost use Rattle.paged_memory.specs.Layout.{cells_of, IsSized, IsSound};
-ghost use Rattle.paged_memory.specs.Stored.{IsStored};
+ghost use Rattle.paged_memory.specs.Stored.{IsFetchedAlike, IsStored};
 
 use crate::place::{find_data, is_aligned};
 use crate::{Fault, Page, Width};
 
 /// Puts the lowest bytes of a number at an address.
-#[inline]
+#[inline(always)]
 pub fn store(
     pages: &mut [Page],
     text: usize,
@@ -24,6 +24,7 @@ pub fn store(
         ≡ Ok (cells_of text pages.new)) }
     ensures stored { OnOk result
         (IsStored (cells_of text pages.old) (cells_of text pages.new) address (bytes_of width) value) }
+    ensures fetched { OnOk result (IsFetchedAlike (cells_of text pages.old) (cells_of text pages.new)) }
     ensures sound { OnOk result (IsSound text pages.new) }
     ensures err { IfErr result (λ e.
         (store_of (cells_of text pages.old) address (bytes_of width) value ≡ Err e)
