@@ -4,3 +4,4 @@ pub mod Values
 pub mod Effects
 pub mod Next
 pub mod StateCode
+pub mod Decoded

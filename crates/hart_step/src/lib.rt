@@ -1,6 +1,7 @@
 //! Plain RV64I: the effect of an instruction, and a hart that performs one after another.
 #![tactic(auto)]
 
+mod decode_cache;
 mod effect;
 mod environment;
 mod hart;
