@@ -31,7 +31,7 @@ push-requires g c = omega (arith, c.loop-done.invariant.room, c.loop-done-test.t
 
 pub loop-done-preserved : goal.loop-done-preserved
 loop-done-preserved g c =
-    let done = (sym c.in-Some-Goes.ensures ∙ ap (λ (o : Outcome). Some o) c.in-Some-Goes.field-0-is) in
+    let done = (sym c.in-Some-Goes.ensures.value ∙ ap (λ (o : Outcome). Some o) c.in-Some-Goes.field-0-is) in
     let open_ = way_open (start c.args.machine.now.origin c.args.context) c.args.machine.now.view.stamp (context_at c.args.machine.now c.args.context) c.retired-live.ensures.live (context_at c.loop-done.machine c.args.context) c.loop-done.done (Goes c.in-Some-Goes.step) c.loop-done.invariant.way done in
     record {
       alike = alike_chain c.args.machine.now c.loop-done.machine c.retire-retirement.new.self c.loop-done.invariant.alike
@@ -67,7 +67,7 @@ returns-in-Some-Stops-clause-width g c = omega (arith, c.loop-done.invariant.roo
 
 pub returns-in-Some-Stops-clause-turn : goal.returns-in-Some-Stops-clause-turn
 returns-in-Some-Stops-clause-turn g c =
-    let done = (sym c.in-Some-Stops.ensures ∙ ap (λ (o : Outcome). Some o) c.in-Some-Stops.field-0-is) in
+    let done = (sym c.in-Some-Stops.ensures.value ∙ ap (λ (o : Outcome). Some o) c.in-Some-Stops.field-0-is) in
     let now : context_at c.stop-stopped.new.self c.args.context ≡ (stop_event (context_at c.loop-done.machine c.args.context) c.in-Some-Stops.why) = context_now c.loop-done.machine c.stop-stopped.new.self c.args.context (stop_event (context_at c.loop-done.machine c.args.context) c.in-Some-Stops.why) (Stops c.in-Some-Stops.why) done c.stop-stopped.ensures.stopped in
     record {
       number = c.loop-done.done;
@@ -104,9 +104,9 @@ returns-in-None-clause-turn g c =
       number = c.loop-done.done;
       after = c.loop-done.invariant.after;
       taken = omega (arith, c.loop-done-test.true);
-      turned = way_none (start c.args.machine.now.origin c.args.context) c.args.machine.now.view.stamp (context_at c.args.machine.now c.args.context) c.retired-live.ensures.live (context_at c.loop-done.machine c.args.context) c.loop-done.done c.loop-done.invariant.way (sym c.in-None.ensures);
+      turned = way_none (start c.args.machine.now.origin c.args.context) c.args.machine.now.view.stamp (context_at c.args.machine.now c.args.context) c.retired-live.ensures.live (context_at c.loop-done.machine c.args.context) c.loop-done.done c.loop-done.invariant.way (sym c.in-None.ensures.value);
       listed = c.loop-done.invariant.listed;
-      kept = λ keeps. absurd (none_kept (context_at c.loop-done.machine c.args.context) (sym c.in-None.ensures) keeps);
+      kept = λ keeps. absurd (none_kept (context_at c.loop-done.machine c.args.context) (sym c.in-None.ensures.value) keeps);
     }
 
 pub returns-in-None-clause-keeps : goal.returns-in-None-clause-keeps

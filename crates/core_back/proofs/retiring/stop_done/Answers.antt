@@ -16,18 +16,18 @@ returns-in-Some-Stops-clause-idle g c = ap (λ (m : Machine). m.names) c.stop.en
 
 pub returns-in-Some-Stops-clause-stopped : goal.returns-in-Some-Stops-clause-stopped
 returns-in-Some-Stops-clause-stopped g c =
-    c.stop.ensures.stopped ∙ ap (λ o. with_context c.args.machine.now c.args.context (stopped_by o (context_at c.args.machine.now c.args.context))) (sym (sym c.in-Some-Stops.ensures ∙ ap (λ (o : Outcome). Some o) c.in-Some-Stops.field-0-is))
+    c.stop.ensures.stopped ∙ ap (λ o. with_context c.args.machine.now c.args.context (stopped_by o (context_at c.args.machine.now c.args.context))) (sym (sym c.in-Some-Stops.ensures.value ∙ ap (λ (o : Outcome). Some o) c.in-Some-Stops.field-0-is))
 
 pub returns-in-Some-Goes-clause-alike : goal.returns-in-Some-Goes-clause-alike
 returns-in-Some-Goes-clause-alike g c = alike_none c.args.machine.now
 
 pub returns-in-Some-Goes-clause-stopped : goal.returns-in-Some-Goes-clause-stopped
 returns-in-Some-Goes-clause-stopped g c =
-    none_changed c.args.machine.now c.args.context ∙ ap (λ o. with_context c.args.machine.now c.args.context (stopped_by o (context_at c.args.machine.now c.args.context))) (sym (sym c.in-Some-Goes.ensures ∙ ap (λ (o : Outcome). Some o) c.in-Some-Goes.field-0-is))
+    none_changed c.args.machine.now c.args.context ∙ ap (λ o. with_context c.args.machine.now c.args.context (stopped_by o (context_at c.args.machine.now c.args.context))) (sym (sym c.in-Some-Goes.ensures.value ∙ ap (λ (o : Outcome). Some o) c.in-Some-Goes.field-0-is))
 
 pub returns-in-None-clause-alike : goal.returns-in-None-clause-alike
 returns-in-None-clause-alike g c = alike_none c.args.machine.now
 
 pub returns-in-None-clause-stopped : goal.returns-in-None-clause-stopped
 returns-in-None-clause-stopped g c =
-    none_changed c.args.machine.now c.args.context ∙ ap (λ o. with_context c.args.machine.now c.args.context (stopped_by o (context_at c.args.machine.now c.args.context))) c.in-None.ensures
+    none_changed c.args.machine.now c.args.context ∙ ap (λ o. with_context c.args.machine.now c.args.context (stopped_by o (context_at c.args.machine.now c.args.context))) c.in-None.ensures.value
