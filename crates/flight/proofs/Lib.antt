@@ -1,3 +1,4 @@
 mod Words
 mod Looks
 mod Kept
+mod Ahead

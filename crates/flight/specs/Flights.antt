@@ -1,11 +1,12 @@
 -- A flight and what each event makes of it.
-use Rattle.std.specs.Prelude.{◌≡◌, ℕ, ◌+◌, ◌-◌, ◌%◌, ◌<◌, ◌≤◌, min, Bool, true, false, is_some, List, [], ◌∷◌, ◌++◌, length, take, drop, slice_set, slice_index_or}
+use Rattle.std.specs.Prelude.{◌≡◌, ℕ, ◌+◌, ◌-◌, ◌%◌, ◌<◌, ◌≤◌, min, Bool, true, false, is_some, List, [], ◌∷◌, ◌++◌, length, take, drop, slice_set, slice_index_or, count_by}
 use Rattle.std.specs.Int.{bit_at}
 use Rattle.reorder_buffer.specs.Growing.{below}
 use Rattle.core_view.specs.declared.entry.Execution.{Execution}
 use Rattle.core_view.specs.declared.entry.Stage.TheVariants.{Fetched, Issued}
 use Rattle.core_view.specs.declared.entry.Entry.{Entry}
 use Rattle.core_view.specs.View.{no_entry}
+use Rattle.core_view.specs.Operations.{is_guessed}
 use Rattle.core_view.specs.Events.{with_stage, renamed_stage, completed_entry, due_at}
 use Rattle.flight.specs.declared.marks.Marks.{Marks}
 use Rattle.flight.specs.Marked.{marks_of}
@@ -53,6 +54,10 @@ none_left f = record f { entries = []; renamed = 0 }
 
 abbrev pub is_due : ℕ → Entry → Bool
 is_due cycle e = is_some (due_at cycle e.stage)
+
+-- how many of the entries from a place on, where the renamed ones end, are guessed
+abbrev pub guesses_ahead : ℕ → List Entry → ℕ
+guesses_ahead renamed es = count_by (λ e. is_guessed e.operation) (drop renamed es)
 
 -- no entry from a place on passes a test
 abbrev pub NoneFrom : (Entry → Bool) → List Entry → ℕ → Type 0

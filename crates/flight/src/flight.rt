@@ -1,6 +1,6 @@
 //! The entries of a context in flight.
 
-ghost use Rattle.std.specs.Prelude.{◌≡◌, ◌≢◌, ℕ, ◌+◌, ◌-◌, ◌<◌, ◌≤◌, ◌%◌, Bool, false, [], ◌∷◌, ◌++◌, length, take, drop, slice_get, slice_set, option_copied, IfOk, MatchOption, All, count_by};
+ghost use Rattle.std.specs.Prelude.{◌≡◌, ◌≢◌, ℕ, ◌+◌, ◌-◌, ◌<◌, ◌≤◌, ◌%◌, Bool, true, false, [], ◌∷◌, ◌++◌, length, take, drop, slice_get, slice_set, option_copied, IfOk, IfSome, MatchOption, All, count_by};
 ghost use Rattle.std.specs.List.{list_any};
 ghost use Rattle.circular_buffer.specs.Buffer.{buffer, last_item};
 ghost use Rattle.reorder_buffer.specs.Growing.{IsGrowing};
@@ -9,7 +9,7 @@ ghost use Rattle.core_view.specs.Events.{due_at};
 ghost use Rattle.core_view.specs.declared.entry.Entry.{Entry};
 ghost use Rattle.core_view.specs.declared.entry.Execution.{Execution};
 ghost use Rattle.flight.specs.Marked.{is_waiting, is_waiting_load, is_open_guess, is_missed_load, word_of};
-ghost use Rattle.flight.specs.Flights.{entry_in, empty_flight, fetched_one, renamed_one, issued_one, finished_one, retired_one, none_left, cut_at, is_due, NoneFrom, IsNext};
+ghost use Rattle.flight.specs.Flights.{entry_in, empty_flight, fetched_one, renamed_one, issued_one, finished_one, retired_one, none_left, cut_at, guesses_ahead, is_due, NoneFrom, IsNext};
 
 use crate::marks::Marks;
 use bit_vector::{clear_slot, count, next, set_slot, turn};
@@ -24,6 +24,8 @@ pub struct Flight<A: Allocator = Global> {
     ring: Ring<Entry, A>,
     renamed: usize,
     marks: Marks,
+    // How many of the entries that are not renamed are guessed.
+    guessed: usize,
     // The slot of the oldest entry, below 64.
     base: usize,
     // A word a cycle modulo 64, with a bit a slot: what is due then has its bit.
@@ -31,15 +33,15 @@ pub struct Flight<A: Allocator = Global> {
 }
 
 impl<A: Allocator> Model for Flight<A> {
-    ghost use Rattle.std.specs.Prelude.{◌<◌};
-    ghost use Rattle.flight.specs.Flights.{Flight, IsFlight};
+    ghost use Rattle.std.specs.Prelude.{◌≡◌, ◌<◌};
+    ghost use Rattle.flight.specs.Flights.{Flight, IsFlight, guesses_ahead};
     ghost use Rattle.flight.specs.FlightCode.{coded_flight};
 
     ghost Value = { Flight };
 
     ghost view = { λ f. record { entries = f.ring.items; renamed = f.renamed; capacity = f.ring.capacity } };
 
-    ghost invariant = { λ f. (f.base < 64) × IsFlight f.ring.items f.renamed f.base f.marks f.hints };
+    ghost invariant = { λ f. (f.base < 64) × IsFlight f.ring.items f.renamed f.base f.marks f.hints × (f.guessed ≡ guesses_ahead f.renamed f.ring.items) };
 
     ghost coded = { coded_flight };
 }
@@ -56,6 +58,7 @@ impl<A: Allocator> Flight<A> {
             ring,
             renamed: 0,
             marks: Marks::new(),
+            guessed: 0,
             base: 0,
             hints: [0; 64],
         })
@@ -108,6 +111,9 @@ impl<A: Allocator> Flight<A> {
         ensures { self.new ≡ fetched_one self.old entry }
     {
         push_in(&mut self.ring, entry);
+        // How many there are is a bound of how many are guessed.
+        let _len = self.ring.len();
+        self.guessed += usize::from(entry.operation.is_guessed());
     }
 
     /// The oldest fetched entry is renamed in a cycle.
@@ -121,6 +127,7 @@ impl<A: Allocator> Flight<A> {
         set_in(&mut self.ring, self.renamed, entry);
         self.marks.push(self.renamed, &entry);
         self.renamed += 1;
+        self.guessed -= usize::from(entry.operation.is_guessed());
     }
 
     /// The entry at a place, which waits for issue, issues.
@@ -165,6 +172,7 @@ impl<A: Allocator> Flight<A> {
         self.ring.cut_from(stamp);
         self.renamed = self.renamed.min(self.ring.len());
         self.marks.keep(self.renamed);
+        self.guessed = guesses_from(&self.ring, self.renamed);
     }
 
     /// All entries leave.
@@ -174,6 +182,7 @@ impl<A: Allocator> Flight<A> {
         self.ring.cut_from(0);
         self.marks = Marks::new();
         self.renamed = 0;
+        self.guessed = 0;
     }
 
     /// Whether one of the renamed entries is guessed and has not completed.
@@ -190,10 +199,27 @@ impl<A: Allocator> Flight<A> {
         count(self.marks.missed_loads)
     }
 
+    /// How many of the entries that are not renamed are guessed.
+    pub fn guesses_ahead(&self) -> usize
+        ensures value { result ≡ guesses_ahead self.now.renamed self.now.entries }
+        ensures bound { result ≤ length self.now.entries }
+    {
+        self.guessed
+    }
+
+    /// The place of the oldest renamed entry that is guessed and has not completed, or 64.
+    pub fn first_open_guess(&self) -> usize
+        ensures before { (i : ℕ) → i < result → i < self.now.renamed → is_open_guess (entry_in self.now.entries i) ≡ false }
+        ensures here { result < self.now.renamed → is_open_guess (entry_in self.now.entries result) ≡ true }
+    {
+        next(self.marks.open_guesses, 0)
+    }
+
     /// The first place from one on whose entry waits for issue.
     pub fn next_waiting(&self, from: usize) -> Option<usize>
         requires { from ≤ 64 }
-        ensures { MatchOption result (NoneFrom is_waiting self.now.entries from) (λ place. IsNext is_waiting self.now.entries from place) }
+        ensures next { MatchOption result (NoneFrom is_waiting self.now.entries from) (λ place. IsNext is_waiting self.now.entries from place) }
+        ensures few { IfSome result (λ place. place < 64) }
     {
         self.next_marked(self.marks.waiting, from)
     }
@@ -201,7 +227,8 @@ impl<A: Allocator> Flight<A> {
     /// The first place from one on whose entry is a load that waits for issue.
     pub fn next_waiting_load(&self, from: usize) -> Option<usize>
         requires { from ≤ 64 }
-        ensures { MatchOption result (NoneFrom is_waiting_load self.now.entries from) (λ place. IsNext is_waiting_load self.now.entries from place) }
+        ensures next { MatchOption result (NoneFrom is_waiting_load self.now.entries from) (λ place. IsNext is_waiting_load self.now.entries from place) }
+        ensures few { IfSome result (λ place. place < 64) }
     {
         self.next_marked(self.marks.waiting_loads, from)
     }
@@ -210,8 +237,9 @@ impl<A: Allocator> Flight<A> {
     #[inline]
     fn next_marked(&self, word: u64, from: usize) -> Option<usize>
         requires { from ≤ 64 }
-        ensures { (test : Entry → Bool) → word ≡ word_of test (take self.now.renamed self.now.entries) → ((e : Entry) → e.stage ≡ Fetched → test e ≡ false) →
+        ensures next { (test : Entry → Bool) → word ≡ word_of test (take self.now.renamed self.now.entries) → ((e : Entry) → e.stage ≡ Fetched → test e ≡ false) →
             MatchOption result (NoneFrom test self.now.entries from) (λ place. IsNext test self.now.entries from place) }
+        ensures few { IfSome result (λ place. place < 64) }
     {
         let place = next(word, from);
         if place < self.renamed {
@@ -225,6 +253,7 @@ impl<A: Allocator> Flight<A> {
     pub fn next_due(&mut self, cycle: u64, from: usize) -> Option<usize>
         requires { from ≤ 64 }
         ensures next { MatchOption result (NoneFrom (is_due cycle) self.old.entries from) (λ place. IsNext (is_due cycle) self.old.entries from place) }
+        ensures few { IfSome result (λ place. place < 64) }
         ensures same { self.new ≡ self.old }
     {
         let mut place = self.next_hint(cycle, from);
@@ -291,6 +320,17 @@ fn set_in<A: Allocator>(ring: &mut Ring<Entry, A>, place: usize, entry: Entry)
     ensures { ring.new ≡ buffer (slice_set ring.old.items place entry) ring.old.capacity }
 {
     ring.set(place, entry);
+}
+
+/// How many entries from a place on are guessed.
+fn guesses_from<A: Allocator>(ring: &Ring<Entry, A>, from: usize) -> usize
+    ensures { result ≡ guesses_ahead from ring.now.items }
+{
+    let mut count = 0;
+    for place in from..ring.len() {
+        count += usize::from(at(ring, place).operation.is_guessed());
+    }
+    count
 }
 
 /// Whether an entry is issued and due a number of times 64 cycles from a cycle.

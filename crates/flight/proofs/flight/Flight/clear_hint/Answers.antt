@@ -16,4 +16,5 @@ invariant_of-self g c =
         hinted = hinted-cleared c.self.inside.hints c.self.inside.base c.args.place c.self.inside.renamed c.args.cycle c.clear_slot.result c.self.inside.ring.items c.self.invariant.1.hinted c.self.invariant.1.ahead c.self.invariant.1.few within c.self.told
             (λ x is. c.is_due_in_round.ensures c.if-is_due_in_round.false x (ap (λ (e : Entry). e.stage) c.at.ensures ∙ is)) c.clear_slot.ensures.others;
       },
+      c.self.invariant.2,
     )

@@ -1,0 +1,61 @@
+-- How many of the entries that are not renamed are guessed, event by event.
+use Rattle.std.proofs.Common.{◌≡◌, ℕ, zero, suc, ◌+◌, ◌-◌, ◌<◌, ◌≤◌, Bool, true, false, cond, List, [], ◌∷◌, ◌++◌, length, drop, set, refl, sym, ◌∙◌, ap, arith, length-drop}
+use Rattle.std.proofs.lemmas.List.Sums.{sum_by-cons, count_by-le-length}
+use mir.Val.{bool_byte}
+use Rattle.core_view.specs.declared.entry.Entry.{Entry}
+use Rattle.core_view.specs.Operations.{is_guessed}
+use Rattle.flight.specs.Flights.{entry_in, guesses_ahead}
+
+one-more : (e : Entry) (es : List Entry) → guesses_ahead 0 (e ∷ es) ≡ cond (is_guessed e.operation) 1 0 + guesses_ahead 0 es
+one-more e es = sum_by-cons (λ (f : Entry). cond (is_guessed f.operation) 1 0) e es
+
+-- no more than there are
+pub guesses-most : (r : ℕ) (es : List Entry) → guesses_ahead r es ≤ length es
+guesses-most r es = omega (arith, count_by-le-length (λ (e : Entry). is_guessed e.operation) (drop r es), length-drop r es)
+
+-- past the end there is none
+pub guesses-end : (r : ℕ) (es : List Entry) → length es ≤ r → guesses_ahead r es ≡ 0
+guesses-end r es le = omega (arith, count_by-le-length (λ (e : Entry). is_guessed e.operation) (drop r es), length-drop r es)
+
+-- those from a place on are the one there and those from the next on
+pub guesses-next : (r : ℕ) (es : List Entry) → r < length es → guesses_ahead r es ≡ cond (is_guessed (entry_in es r).operation) 1 0 + guesses_ahead (r + 1) es
+guesses-next r [] lt = absurd (omega arith)
+guesses-next zero (e ∷ es) lt = one-more e es
+guesses-next (suc r) (e ∷ es) lt = let one : suc r + 1 ≡ suc (r + 1) = omega arith in rw one (guesses-next r es (omega arith))
+
+-- one more entry, the youngest
+pub guesses-push : (r : ℕ) (es : List Entry) (e : Entry) → r ≤ length es → guesses_ahead r (es ++ e ∷ []) ≡ guesses_ahead r es + cond (is_guessed e.operation) 1 0
+guesses-push zero [] e le = omega (arith, one-more e [])
+guesses-push (suc r) [] e le = absurd (omega arith)
+guesses-push zero (f ∷ es) e le = omega (arith, one-more f es, one-more f (es ++ e ∷ []), guesses-push 0 es e (omega arith))
+guesses-push (suc r) (f ∷ es) e le = guesses-push r es e (omega arith)
+
+-- another entry before them
+pub guesses-set : (r i : ℕ) (es : List Entry) (e : Entry) → i < r → guesses_ahead r (set es i e) ≡ guesses_ahead r es
+guesses-set zero i es e lt = absurd (omega arith)
+guesses-set (suc r) i [] e lt = refl
+guesses-set (suc r) zero (f ∷ es) e lt = refl
+guesses-set (suc r) (suc i) (f ∷ es) e lt = guesses-set r i es e (omega arith)
+
+pub set-kept : (g r i : ℕ) (es fs : List Entry) (e : Entry) → g ≡ guesses_ahead r es → fs ≡ set es i e → i < r → g ≡ guesses_ahead r fs
+set-kept g r i es fs e is made lt = is ∙ sym (guesses-set r i es e lt) ∙ ap (guesses_ahead r) (sym made)
+
+-- the first of them is renamed
+pub guesses-renamed : (r : ℕ) (es : List Entry) (e : Entry) → r < length es → is_guessed e.operation ≡ is_guessed (entry_in es r).operation → guesses_ahead r es ≡ cond (is_guessed e.operation) 1 0 + guesses_ahead (r + 1) (set es r e)
+guesses-renamed r es e lt same =
+    guesses-next r es lt ∙ ap (λ b. cond b 1 0 + guesses_ahead (r + 1) es) (sym same) ∙ ap (λ n. cond (is_guessed e.operation) 1 0 + n) (sym (guesses-set (r + 1) r es e (omega arith)))
+
+-- the oldest entry, which is renamed, leaves
+pub guesses-retired : (r : ℕ) (es : List Entry) → 0 < r → guesses_ahead (r - 1) (drop 1 es) ≡ guesses_ahead r es
+guesses-retired zero es some = absurd (omega arith)
+guesses-retired (suc r) [] some = none (suc r - 1)
+  where
+    none : (n : ℕ) → guesses_ahead n [] ≡ 0
+    none zero = refl
+    none (suc n) = refl
+guesses-retired (suc r) (e ∷ es) some = let same : suc r - 1 ≡ r = omega arith in ap (λ k. guesses_ahead k es) same
+
+-- a test counts for one at most
+pub one-most : (b : Bool) → bool_byte b ≤ 1
+one-most true = omega arith
+one-most false = omega arith
