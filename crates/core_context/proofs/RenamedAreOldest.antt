@@ -6,13 +6,14 @@ use Rattle.std.proofs.lemmas.List.{take-append-drop}
 use Rattle.std.proofs.lemmas.List.Sums.{sum_by-cons, sum_by-append, count_by_more_yes, count_by_more_no, count_by-le-length}
 use Rattle.std.proofs.lemmas.Option.{get_or_from_slice_get}
 use Rattle.core_view.specs.declared.entry.Stage.{Stage}
-use Rattle.core_view.specs.declared.entry.Stage.TheVariants.{Fetched}
+use Rattle.core_view.specs.declared.entry.Stage.TheVariants.{Fetched, Queued, Issued, Done}
 use Rattle.core_view.specs.declared.entry.Entry.{Entry}
 use Rattle.core_view.specs.Operations.{is_load, is_guessed}
 use Rattle.core_view.specs.Flight.{is_open}
 use Rattle.core_view.specs.Queues.{is_renamed, AllRenamed}
 use Rattle.core_view.specs.View.{Context, no_entry}
 use Rattle.lawful_cycle.specs.Fetch.{is_fetched, is_missing, is_running, is_eligible}
+use Rattle.flight.specs.Marked.{has_missed, is_missed_load}
 use Rattle.core_context.specs.Cores.{AllFetched, front_room}
 use Rattle.core_context.proofs.Tracks.{within}
 
@@ -72,6 +73,22 @@ guessed_count n es renamed fetched =
     let all : count_by p es ≡ count_by p (take n es) + count_by p (drop n es) = count_split p n es in
     omega (arith, none, same, all)
 
+-- how many loads missed, by the words of a flight or by the stages
+abbrev pub missed_of : List Entry → ℕ
+missed_of es = count_by (λ e. is_load e.operation && is_missing e.stage) es
+
+same_stage : (s : Stage) → has_missed s ≡ is_missing s
+same_stage Fetched = refl
+same_stage Queued = refl
+same_stage (Issued x) = refl
+same_stage (Done x) = refl
+
+pub missed_same : (es : List Entry) → count_by is_missed_load es ≡ missed_of es
+missed_same [] = refl
+missed_same (e ∷ es) =
+    let p : Entry → Bool = λ e. is_load e.operation && is_missing e.stage in
+    count_cons is_missed_load e es (p e) (ap (λ b. is_load e.operation && b) (same_stage e.stage)) ∙ ap (λ n. cond (p e) 1 0 + n) (missed_same es) ∙ sym (count_cons p e es (p e) refl)
+
 -- ---- whether more can be fetched
 
 room_same : (k : ℕ) → nat_lt k front_room ≡ nat_lt 0 (front_room - k)
@@ -84,40 +101,3 @@ room_same k = by_test (nat_lt k front_room) refl
 pub eligible_is : (x : Context) (n : ℕ) → AllRenamed (take n x.flight) → AllFetched (drop n x.flight) → (is_running x.status && is_open x.flight && nat_lt (length x.flight - n) front_room) ≡ is_eligible x
 eligible_is x n renamed fetched =
     ap (λ b. is_running x.status && is_open x.flight && b) (room_same (length x.flight - n) ∙ ap (λ k. nat_lt 0 (front_room - k)) (sym (fetched_count n x.flight renamed fetched)))
-
--- ---- counting, entry by entry
-
--- what is left to count from a place on
-pub left_more : (p : Entry → Bool) (es : List Entry) (i : ℕ) (e : Entry) (b : Bool) → slice_get es i ≡ Some e → p e ≡ b → count_by p (drop i es) ≡ cond b 1 0 + count_by p (drop (i + 1) es)
-left_more p es i e b read h = at_place es i read ∙ ap (λ k. cond b 1 0 + count_by p (drop k es)) (sym (add-one i))
-  where
-    at_place : (fs : List Entry) (j : ℕ) → slice_get fs j ≡ Some e → count_by p (drop j fs) ≡ cond b 1 0 + count_by p (drop (suc j) fs)
-    at_place [] zero r = absurd cc
-    at_place [] (suc j) r = absurd cc
-    at_place (f ∷ fs) zero r = let same : f ≡ e = cc in count_cons p f fs b (ap p same ∙ h)
-    at_place (f ∷ fs) (suc j) r = at_place fs j r
-
--- nothing is left at the end
-pub left_none : (p : Entry → Bool) (es : List Entry) (i : ℕ) → length es ≤ i → count_by p (drop i es) ≡ 0
-left_none p [] zero le = refl
-left_none p [] (suc i) le = refl
-left_none p (e ∷ es) zero le = absurd (omega arith)
-left_none p (e ∷ es) (suc i) le = left_none p es i (omega (arith, le))
-
--- of the first ones, one more
-pub first_more : (p : Entry → Bool) (es : List Entry) (i : ℕ) (e : Entry) (b : Bool) → slice_get es i ≡ Some e → p e ≡ b → count_by p (take (i + 1) es) ≡ count_by p (take i es) + cond b 1 0
-first_more p es i e b read h = by_test b h
-  where
-    here : get_or es i no_entry ≡ e
-    here = get_or_from_slice_get es i e no_entry read
-
-    by_test : (b : Bool) → p e ≡ b → count_by p (take (i + 1) es) ≡ count_by p (take i es) + cond b 1 0
-    by_test true q = count_by_more_yes p es i no_entry (within es i e read) (ap p here ∙ q)
-    by_test false q = let same : count_by p (take (i + 1) es) ≡ count_by p (take i es) = count_by_more_no p es i no_entry (within es i e read) (ap p here ∙ q) in omega (arith, same)
-
--- no more than there are
-pub first_most : (p : Entry → Bool) (es : List Entry) (i : ℕ) → count_by p (take i es) ≤ i
-first_most p es i = omega (arith, count_by-le-length p (take i es), length-take i es)
-
-pub left_most : (p : Entry → Bool) (es : List Entry) (i : ℕ) → count_by p (drop i es) ≤ length es
-left_most p es i = omega (arith, count_by-le-length p (drop i es), length-drop i es)

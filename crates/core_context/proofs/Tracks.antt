@@ -48,6 +48,10 @@ past xs i is =
       | inr none ↦ none.0
     ]
 
+-- a change of what stands at a place is a change of what was read there
+pub set_read : (es fs : List Entry) (i : ℕ) (e : Entry) (change : Entry → Entry) → slice_get es i ≡ Some e → fs ≡ set es i (change (get_or es i no_entry)) → fs ≡ set es i (change e)
+set_read es fs i e change read is = is ∙ ap (λ (n : Entry). set es i (change n)) (get_or_from_slice_get es i e no_entry read)
+
 -- ---- the end of a flight
 
 -- the pc where a flight goes on is the one that its last entry was followed at

@@ -185,6 +185,7 @@ fn rename_oldest<A: Allocator>(
     cycle: u64,
 )
     requires some { track.old.renamed < length track.old.context.flight }
+    requires few { track.old.renamed < 64 }
     requires younger { All (λ n. n.operands.stamp < (entry_at track.old.context track.old.renamed).stamp) (lane flow.old context).nodes }
     requires room { length (lane flow.old context).nodes < (lane flow.old context).room }
     requires free { 0 < destination_of (entry_at track.old.context track.old.renamed).operation → taken flow.old < flow.old.extra }

@@ -1,6 +1,10 @@
+use Rattle.std.proofs.Common.{arith}
 use Rattle.core_context.proofs.Renames.{nodes_older, first_idle, first_fetched}
 use Rattle.core_context.proofs.EventsKept.{rename_kept, nothing_kept}
 use Rattle.core_context.proofs.events.rename.Goals as goal
+
+pub rename_oldest-requires-clause-few : goal.rename_oldest-requires-clause-few
+rename_oldest-requires-clause-few g c = omega (arith, c.in_ok-stamp.ensures.can.fits, c.args.profile.now.reorder_buffer_in_range.1)
 
 pub rename_oldest-requires-clause-younger : goal.rename_oldest-requires-clause-younger
 rename_oldest-requires-clause-younger g c = nodes_older c.requires.core.core c.in_ok-stamp.ensures.can.some

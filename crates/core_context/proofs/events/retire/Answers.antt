@@ -1,5 +1,5 @@
 use Rattle.core_view.specs.declared.outcome.Outcome.TheVariants.{Goes}
-use Rattle.core_context.proofs.Retires.{is_first_done, oldest_known, oldest_done, oldest_idle, oldest_below, oldest_sized}
+use Rattle.core_context.proofs.Retires.{is_first_done, oldest_renamed, oldest_known, oldest_done, oldest_idle, oldest_below, oldest_sized}
 use Rattle.core_context.proofs.EventsKept.{parked_kept, running_kept}
 use Rattle.core_context.proofs.events.retire.Goals as goal
 
@@ -22,7 +22,10 @@ commit-requires-clause-idle g c =
     oldest_idle k.start k.stamp k.reorder c.args.flow.now c.args.context c.args.track.now d.execution c.args.step k.core d.some d.stage
 
 pub retire-requires-clause-some : goal.retire-requires-clause-some
-retire-requires-clause-some g c = (is_first_done c.args.track.now.context.flight (Goes c.args.step) c.requires.done).some
+retire-requires-clause-some g c =
+    let k = c.requires.core in
+    let d = is_first_done c.args.track.now.context.flight (Goes c.args.step) c.requires.done in
+    oldest_renamed k.start k.stamp k.reorder c.args.flow.now c.args.context c.args.track.now d.execution c.args.step k.core d.some d.stage
 
 pub retire-requires-clause-below : goal.retire-requires-clause-below
 retire-requires-clause-below g c =

@@ -11,19 +11,19 @@ use Rattle.core_context.proofs.track.Track.ask.Goals as goal
 
 pub returns-clause-waits : goal.returns-clause-waits
 returns-clause-waits g c =
-    let read : slice_get c.self.inside.flight.items c.args.place ≡ Some c.unwrap-entry.result.now = search rules in
-    let flight : c.self.inside.flight.items ≡ c.args.self.now.context.flight = ap (λ (t : Track). t.context.flight) c.self.view_is in
+    let read : slice_get c.self.inside.flight.entries c.args.place ≡ Some c.unwrap-entry.result.now = search rules in
+    let flight : c.self.inside.flight.entries ≡ c.args.self.now.context.flight = ap (λ (t : Track). t.context.flight) c.self.view_is in
     c.ask_load.ensures.clear
     ∙ asked_clear c.args.self.now.context c.args.place c.unwrap-entry.result.now c.self.inside.queue.stores (load_span c.args.address (bytes_of c.args.width)) c.requires.answered
-    (sym (ap (λ (es : List Entry). slice_get es c.args.place) flight) ∙ read) (c.self.invariant.3 ∙ ap (λ (es : List Entry). stores_of es) flight)
+    (sym (ap (λ (es : List Entry). slice_get es c.args.place) flight) ∙ read) (c.self.invariant.2 ∙ ap (λ (es : List Entry). stores_of es) flight)
 
 pub returns-clause-seen : goal.returns-clause-seen
 returns-clause-seen g c =
-    let read : slice_get c.self.inside.flight.items c.args.place ≡ Some c.unwrap-entry.result.now = search rules in
-    let flight : c.self.inside.flight.items ≡ c.args.self.now.context.flight = ap (λ (t : Track). t.context.flight) c.self.view_is in
+    let read : slice_get c.self.inside.flight.entries c.args.place ≡ Some c.unwrap-entry.result.now = search rules in
+    let flight : c.self.inside.flight.entries ≡ c.args.self.now.context.flight = ap (λ (t : Track). t.context.flight) c.self.view_is in
     let memory : c.self.inside.memory ≡ c.args.self.now.context.state.memory = ap (λ (t : Track). t.context.state.memory) c.self.view_is in
     let s = load_span c.args.address (bytes_of c.args.width) in
     let value = asked_value c.args.self.now.context c.args.place c.unwrap-entry.result.now c.self.inside.queue.stores s c.requires.answered
-    (sym (ap (λ (es : List Entry). slice_get es c.args.place) flight) ∙ read) (c.self.invariant.3 ∙ ap (λ (es : List Entry). stores_of es) flight) in
+    (sym (ap (λ (es : List Entry). slice_get es c.args.place) flight) ∙ read) (c.self.invariant.2 ∙ ap (λ (es : List Entry). stores_of es) flight) in
     subst (λ (n : ℕ). IfSome (number_answered c.ask_load.result) (λ v. v ≡ n))
     (ap (λ (m : Cells). value_seen_in (byte_at m) c.self.inside.queue.stores c.unwrap-entry.result.now.stamp s) memory ∙ value) c.ask_load.ensures.seen

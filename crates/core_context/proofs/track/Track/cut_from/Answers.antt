@@ -1,5 +1,5 @@
-use Rattle.std.proofs.Common.{List, ap, sym, ◌∙◌, arith}
-use Rattle.circular_buffer.specs.Buffer.{Buffer}
+use Rattle.std.proofs.Common.{List, ap, sym, ◌∙◌}
+use Rattle.flight.specs.Flights.{Flight}
 use Rattle.reorder_buffer.specs.Growing.{below}
 use Rattle.core_view.specs.declared.entry.Entry.{Entry}
 use Rattle.core_view.specs.Queues.{LoadSlot, StoreSlot, loads_of, stores_of}
@@ -9,9 +9,8 @@ use Rattle.core_context.proofs.track.Track.cut_from.Goals as goal
 
 pub invariant_of-self : goal.invariant_of-self
 invariant_of-self g c =
-    let left = sym (ap (λ (b : Buffer Entry). b.items) c.cut_from.ensures.below) in (
+    let left = sym (ap (λ (f : Flight). f.entries) c.cut_from.ensures) in (
       c.self.invariant.0,
-      omega (arith, c.len.ensures.len, c.min-self-inside.ensures),
-      ap (λ (q : Queues). q.loads) c.drop_from.ensures ∙ ap (λ (qs : List LoadSlot). below load_stamp c.args.stamp qs) c.self.invariant.2 ∙ loads_below c.args.stamp c.self.inside.flight.items ∙ ap (λ (es : List Entry). loads_of es) left,
-      ap (λ (q : Queues). q.stores) c.drop_from.ensures ∙ ap (λ (qs : List StoreSlot). below store_stamp c.args.stamp qs) c.self.invariant.3 ∙ stores_below c.args.stamp c.self.inside.flight.items ∙ ap (λ (es : List Entry). stores_of es) left,
+      ap (λ (q : Queues). q.loads) c.drop_from.ensures ∙ ap (λ (qs : List LoadSlot). below load_stamp c.args.stamp qs) c.self.invariant.1 ∙ loads_below c.args.stamp c.self.inside.flight.entries ∙ ap (λ (es : List Entry). loads_of es) left,
+      ap (λ (q : Queues). q.stores) c.drop_from.ensures ∙ ap (λ (qs : List StoreSlot). below store_stamp c.args.stamp qs) c.self.invariant.2 ∙ stores_below c.args.stamp c.self.inside.flight.entries ∙ ap (λ (es : List Entry). stores_of es) left,
     )
