@@ -1,21 +1,19 @@
 -- What a flight has ahead of renaming, counted: its renamed entries are its oldest ones.
-use Rattle.std.proofs.Common.{◌≡◌, ℕ, zero, suc, ◌+◌, ◌-◌, ◌<◌, ◌≤◌, Bool, true, false, cond, List, [], ◌∷◌, length, get_or, take, drop, slice_get, Some, add-one, length-take, length-drop, refl, sym, ap, ◌∙◌, arith}
+use Rattle.std.proofs.Common.{◌≡◌, ℕ, ◌+◌, ◌-◌, ◌<◌, ◌≤◌, Bool, true, false, cond, List, [], ◌∷◌, length, take, drop, length-drop, refl, sym, ap, ◌∙◌, arith}
 use Rattle.std.specs.Prelude.{◌&&◌, not, nat_lt, count_by}
 use Rattle.std.proofs.lemmas.Bool.Decides.{nat_tests}
 use Rattle.std.proofs.lemmas.List.{take-append-drop}
-use Rattle.std.proofs.lemmas.List.Sums.{sum_by-cons, sum_by-append, count_by_more_yes, count_by_more_no, count_by-le-length}
-use Rattle.std.proofs.lemmas.Option.{get_or_from_slice_get}
+use Rattle.std.proofs.lemmas.List.Sums.{sum_by-cons, sum_by-append}
 use Rattle.core_view.specs.declared.entry.Stage.{Stage}
 use Rattle.core_view.specs.declared.entry.Stage.TheVariants.{Fetched, Queued, Issued, Done}
 use Rattle.core_view.specs.declared.entry.Entry.{Entry}
 use Rattle.core_view.specs.Operations.{is_load, is_guessed}
 use Rattle.core_view.specs.Flight.{is_open}
 use Rattle.core_view.specs.Queues.{is_renamed, AllRenamed}
-use Rattle.core_view.specs.View.{Context, no_entry}
+use Rattle.core_view.specs.View.{Context}
 use Rattle.lawful_cycle.specs.Fetch.{is_fetched, is_missing, is_running, is_eligible}
 use Rattle.flight.specs.Marked.{has_missed, is_missed_load}
 use Rattle.core_context.specs.Cores.{AllFetched, front_room}
-use Rattle.core_context.proofs.Tracks.{within}
 
 -- ---- counts of a flight
 

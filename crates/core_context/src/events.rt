@@ -263,9 +263,14 @@ pub fn hold_loads<A: Allocator>(
         return false;
     }
     let mut holds = false;
-    for place in 0..track.renamed_count() {
+    let mut from = 0;
+    for _turn in 0..track.renamed_count() {
+        let Some(place) = track.next_queued_load(from) else {
+            return holds;
+        };
         let held = hold_load(flow, track, context, place);
         holds = holds || held;
+        from = place + 1;
     }
     holds
 }

@@ -219,7 +219,7 @@ impl<A: Allocator> Flight<A> {
     pub fn next_waiting(&self, from: usize) -> Option<usize>
         requires { from ≤ 64 }
         ensures next { MatchOption result (NoneFrom is_waiting self.now.entries from) (λ place. IsNext is_waiting self.now.entries from place) }
-        ensures few { IfSome result (λ place. place < 64) }
+        ensures renamed { IfSome result (λ place. place < self.now.renamed) }
     {
         self.next_marked(self.marks.waiting, from)
     }
@@ -228,7 +228,7 @@ impl<A: Allocator> Flight<A> {
     pub fn next_waiting_load(&self, from: usize) -> Option<usize>
         requires { from ≤ 64 }
         ensures next { MatchOption result (NoneFrom is_waiting_load self.now.entries from) (λ place. IsNext is_waiting_load self.now.entries from place) }
-        ensures few { IfSome result (λ place. place < 64) }
+        ensures renamed { IfSome result (λ place. place < self.now.renamed) }
     {
         self.next_marked(self.marks.waiting_loads, from)
     }
@@ -253,7 +253,7 @@ impl<A: Allocator> Flight<A> {
     pub fn next_due(&mut self, cycle: u64, from: usize) -> Option<usize>
         requires { from ≤ 64 }
         ensures next { MatchOption result (NoneFrom (is_due cycle) self.old.entries from) (λ place. IsNext (is_due cycle) self.old.entries from place) }
-        ensures few { IfSome result (λ place. place < 64) }
+        ensures renamed { IfSome result (λ place. place < self.old.renamed) }
         ensures same { self.new ≡ self.old }
     {
         let mut place = self.next_hint(cycle, from);
