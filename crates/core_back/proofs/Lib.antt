@@ -16,3 +16,4 @@ pub mod NextOutcomes
 pub mod Options
 pub mod Laws
 pub mod IssueViews
+pub mod DuePlaces

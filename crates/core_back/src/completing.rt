@@ -54,10 +54,15 @@ fn complete_context<A: Allocator>(machine: &mut Machine<A>, context: Ctx) -> Com
     let len = machine.len(context);
     let mut completed = 0;
     let mut cut = 0;
-    for place in 0..len {
+    let mut from = 0;
+    for _turn in 0..len {
+        let Some(place) = machine.next_due(context, from) else {
+            return Completion { completed, cut };
+        };
         let done = complete_place(machine, context, place);
         completed += done.completed;
         cut += done.cut;
+        from = place + 1;
     }
     Completion { completed, cut }
 }

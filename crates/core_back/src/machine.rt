@@ -1,6 +1,6 @@
 //! Eight contexts, and the data flow that they share.
 
-ghost use Rattle.std.specs.Prelude.{◌≡◌, ℕ, ◌+◌, ◌-◌, ◌<◌, ◌≤◌, ◌^◌, ◌&&◌, false, not, length, count_by, slice_get, slice_index, [], IfOk, IfSome, Some, None};
+ghost use Rattle.std.specs.Prelude.{◌≡◌, ℕ, ◌+◌, ◌-◌, ◌<◌, ◌≤◌, ◌^◌, ◌&&◌, false, not, length, count_by, slice_get, slice_index, [], IfOk, IfSome, MatchOption, Some, None};
 ghost use Rattle.core_view.specs.declared.outcome.Outcome.TheVariants.{Goes, Stops};
 ghost use Rattle.core_view.specs.declared.entry.Stage.TheVariants.{Issued};
 ghost use Rattle.core_view.specs.Events.{retire_event, stop_event, complete_event};
@@ -11,6 +11,7 @@ ghost use Rattle.lawful_cycle.specs.Rename.{CanRename};
 ghost use Rattle.lawful_cycle.specs.Fetch.{is_fetched, is_missing, is_eligible, oldest_place};
 ghost use Rattle.origin_set.specs.Start.{start};
 ghost use Rattle.core_back.specs.Machine.{IsAlike, context_at, in_flight, with_context, with_cycle, due_in, IsNextOf};
+ghost use Rattle.flight.specs.Flights.{is_due, NoneFrom, IsNext};
 ghost use Rattle.core_context.specs.Heads.{first_done};
 ghost use Rattle.core_back.specs.Selected.{IsChosen};
 ghost use Rattle.core_back.specs.Issued.{IsIssued};
@@ -241,6 +242,18 @@ impl<A: Allocator> Machine<A> {
         let dropped = track.len();
         events::stop(&mut self.flow, track, context, why);
         dropped
+    }
+
+    /// The first place from one on of a context's flight whose entry is due in this cycle.
+    pub fn next_due(&mut self, context: Ctx, from: usize) -> Option<usize>
+        requires { from ≤ 64 }
+        ensures next { let es = (context_at self.old context).flight in MatchOption result (NoneFrom (is_due self.old.view.cycle) es from) (λ place. IsNext (is_due self.old.view.cycle) es from place) }
+        ensures few { IfSome result (λ place. place < 64) }
+        ensures same { self.new ≡ self.old }
+    {
+        let cycle = self.cycle;
+        let track = &mut self.tracks[context.index()];
+        track.next_due(cycle, from)
     }
 
     /// The execution of the entry of a context at a place, where it is due in this cycle.

@@ -1,14 +1,6 @@
-use Rattle.std.proofs.Common.{◌≡◌, ◌+◌, ◌≤◌, length}
-use Rattle.core_view.specs.Events.{with_flight, completed_at, completed_from}
-use Rattle.core_back.specs.Machine.{context_at, with_context}
-use Rattle.core_back.specs.Coming.{to_come, number_of}
+use Rattle.std.proofs.Common.{◌≤◌}
+use Rattle.core_back.proofs.DuePlaces.{IsSoFar}
 use Rattle.core_back.proofs.completing.complete_context.Given as goal
 
-abbrev pub invariant-loop-place : goal.invariant-loop-place
-invariant-loop-place g l = record {
-  others : l.machine ≡ with_context l.fn.machine l.context (with_flight (context_at l.fn.machine l.context) (context_at l.machine l.context).flight);
-  so_far : completed_from l.fn.machine.view.cycle l.place (context_at l.machine l.context).flight ≡ completed_at l.fn.machine.view.cycle (context_at l.fn.machine l.context).flight;
-  cut : l.cut + length (context_at l.machine l.context).flight ≡ l.len;
-  coming : l.completed + to_come l.fn.machine.view.cycle l.place (context_at l.machine l.context).flight ≡ number_of l.fn.machine.view.cycle (context_at l.fn.machine l.context);
-  count : l.completed ≤ l.place;
-}
+abbrev pub invariant-loop-turn : goal.invariant-loop-turn
+invariant-loop-turn g l = record { so_far : IsSoFar l.fn.machine l.machine l.context l.from l.len l.completed l.cut; count : l.completed ≤ l._turn; past : l._turn ≤ l.from; few : l.from ≤ 64 }
