@@ -78,7 +78,7 @@ so_far_step first m k c p len completed cut one more h others goes_on cuts count
 -- past all places
 pub so_far_all : (first m : Machine) (c p len completed cut : ℕ) → IsSoFar first m c p len completed cut → length (context_at m c).flight ≤ p
     → (m ≡ with_context first c (with_flight (context_at first c) (completed_at first.view.cycle (context_at first c).flight)))
-      × (cut + length (completed_at first.view.cycle (context_at first c).flight) ≡ len) × (completed ≡ number_of first.view.cycle (context_at first c))
+    × (cut + length (completed_at first.view.cycle (context_at first c).flight) ≡ len) × (completed ≡ number_of first.view.cycle (context_at first c))
 so_far_all first m c p len completed cut h le =
     let all = sym (from_end first.view.cycle p (context_at m c).flight le) ∙ h.so_far in
     let same : length (context_at m c).flight ≡ length (completed_at first.view.cycle (context_at first c).flight) = ap (λ (es : List Entry). length es) all in

@@ -28,12 +28,7 @@ use join_law::Ctx;
 use std::alloc::Allocator;
 
 /// The oldest entry, which is done with a step, retires.
-pub fn retire<A: Allocator>(
-    flow: &mut DataFlow<A>,
-    track: &mut Track<A>,
-    context: Ctx,
-    step: Step,
-)
+pub fn retire<A: Allocator>(flow: &mut DataFlow<A>, track: &mut Track<A>, context: Ctx, step: Step)
     requires core { IsIdleCore flow.old context track.old }
     requires done { first_done track.old.context.flight ≡ Some (Goes step) }
     ensures track { track.new ≡ retired track.old step }
@@ -47,12 +42,7 @@ pub fn retire<A: Allocator>(
 }
 
 /// The oldest entry, which is done with a stop, stops the context.
-pub fn stop<A: Allocator>(
-    flow: &mut DataFlow<A>,
-    track: &mut Track<A>,
-    context: Ctx,
-    why: Stop,
-)
+pub fn stop<A: Allocator>(flow: &mut DataFlow<A>, track: &mut Track<A>, context: Ctx, why: Stop)
     requires core { IsIdleCore flow.old context track.old }
     requires done { first_done track.old.context.flight ≡ Some (Stops why) }
     ensures track { track.new ≡ stopped track.old why }
@@ -246,11 +236,7 @@ pub fn release<A: Allocator>(flow: &mut DataFlow<A>, holds: bool)
 
 /// Tells the queue which loads of a context, which are all let go, have to wait for an older store. Returns whether one
 /// has to.
-pub fn hold_loads<A: Allocator>(
-    flow: &mut DataFlow<A>,
-    track: &Track<A>,
-    context: Ctx,
-) -> bool
+pub fn hold_loads<A: Allocator>(flow: &mut DataFlow<A>, track: &Track<A>, context: Ctx) -> bool
     requires nodes { length (lane flow.old context).nodes ≡ track.now.renamed }
     requires answered { (i : ℕ) → i < track.now.renamed → IsAnswered track.now.context i }
     requires let_go { (k : ℕ) → IsMarked flow.old context k false }
