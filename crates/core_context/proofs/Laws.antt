@@ -12,12 +12,10 @@ pub use Rattle.core_context.proofs.Issues.{core_answered, core_sources, queued_r
 pub use Rattle.core_context.proofs.Issues.{issue_core, issue_other}
 -- the oldest entry, where it is done
 pub use Rattle.core_context.proofs.Retires.{is_first_done}
-
 -- ---- counts over the flight by counts that are kept
 
 pub use Rattle.core_context.proofs.RenamedAreOldest.{count_cons, count_split, eligible_is, fetched_count, fetched_none, guessed_count, missed_count}
 pub use Rattle.core_context.proofs.WaitingCounts.{count_waiters, oldest_waiting, sum_eight_same, waiting_guesses, waiting_number}
-
 -- ---- what waits
 
 pub use Rattle.core_context.proofs.Queue.{behind_at, core_waiting, eight-remarked, waiting-remarked}
