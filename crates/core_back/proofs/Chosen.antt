@@ -14,11 +14,11 @@ use Rattle.core_view.specs.declared.note.EntryId.{EntryId}
 use Rattle.core_view.specs.declared.entry.Stage.TheVariants.{Queued}
 use Rattle.core_view.specs.declared.entry.Entry.{Entry}
 use Rattle.core_view.specs.Operations.{is_guessed}
-use Rattle.core_view.specs.Flight.{known, IsGrowing}
+use Rattle.core_view.specs.Flight.{known, IsGrowing, is_queued, is_open_guess}
 use Rattle.core_view.specs.View.{View, Context, entry_at, no_entry}
 use Rattle.data_flow.specs.Flow.{Flow, Waiter, lane, sources_at, both, is_supplied, is_waiter, waits_of, queued_waiter, queued}
 use Rattle.lawful_cycle.specs.Views.{context_in, is_id}
-use Rattle.lawful_cycle.specs.Issue.{is_queued, is_open_guess, first_value, second_value, is_ready_on, is_ready, Place, entry_in, id_in, queue_view, IsReadyIn, IsNotAfter}
+use Rattle.lawful_cycle.specs.Issue.{first_value, second_value, is_ready_on, is_ready, Place, entry_in, id_in, queue_view, IsReadyIn, IsNotAfter}
 use Rattle.core_context.specs.Queued.{unheld, waiting_of, waiter_for}
 use Rattle.core_context.specs.Issuable.{may_issue_at, must_wait, AreHeld}
 use Rattle.core_context.specs.Track.{Track}

@@ -11,14 +11,14 @@ use Rattle.core_view.specs.Queues.{is_renamed, AllRenamed, load_slot, store_slot
 use Rattle.core_view.specs.View.{Context, entry_at, no_entry}
 use Rattle.data_flow.specs.Flow.{Lane, no_lane, lane, takes, taken_in, taken}
 use Rattle.lawful_cycle.specs.Views.{eight, context_in}
-use Rattle.lawful_cycle.specs.Issue.{is_queued}
+use Rattle.core_view.specs.Flight.{is_queued}
 use Rattle.lawful_cycle.specs.Rename.{renamed_by, of_all, has_register, HasRoom, oldest_fetched, CanRename}
 use Rattle.core_profile.specs.declared.profile.Profile.{Profile}
 use Rattle.core_back.specs.declared.machine.Machine.TheInside.{Inside}
 use Rattle.core_context.specs.Cores.{node_of_entry, AllFetched}
 use Rattle.core_context.specs.Track.{Track}
-use Rattle.core_back.specs.Renamable.{CanRenameStamp}
-use Rattle.core_context.specs.Renamable.{IsRenamable}
+use Rattle.core_back.specs.Renamable.{IsPastFront, IsPastFrontStamp}
+use Rattle.core_context.specs.Renamable.{IsRenamable, IsPastFront as IsTrackPastFront}
 use Rattle.core_back.specs.Machine.{Machine, context_at, no_track, no_context}
 use Rattle.core_back.specs.Shown.{machine_of, IsMachine}
 use Rattle.core_context.specs.Queued.{waiting_of}
@@ -195,14 +195,31 @@ module _ {A : Type 0} where
         store = rw here (λ is. omega (arith, room.stores is, h.stores, h.store_places));
       }
 
-  -- a result that is some stamp, or none
-  pub may_rename : (m : Inside A) (now : Machine) (c : ℕ) (t : Track) (answer : Option ℕ) → c < 8 → IsCounted m now c t → IfSome answer (IsRenamable m.flow t m.profile m.cycle) → IfSome answer (CanRenameStamp now.view c)
-  may_rename m now c t None lt h is = tt
-  may_rename m now c t (Some stamp) lt h is = record {
-    entry = entry_at (context_at now c) t.renamed;
-    can = can_rename m now c t stamp lt h is;
-    stamp_is = ap (λ (x : Context). (entry_at x t.renamed).stamp) (sym h.context) ∙ is.stamp_is;
-  }
+  -- the stamp that its parts give is that of an entry past the front delay
+  pub past_front : (m : Inside A) (now : Machine) (c : ℕ) (t : Track) (answer : Option ℕ) → IsCounted m now c t → IfSome answer (IsTrackPastFront t m.profile m.cycle) → IfSome answer (IsPastFrontStamp now.view c)
+  past_front m now c t None h is = tt
+  past_front m now c t (Some stamp) h is =
+      let here : entry_at t.context t.renamed ≡ entry_at (context_at now c) t.renamed = ap (λ (x : Context). entry_at x t.renamed) h.context in
+      let old : IsPastFront now.view c (entry_at t.context t.renamed) = record {
+        oldest = h.oldest ∙ slice_get-get_or t.context.flight t.renamed no_entry is.some;
+        age = subst (λ (p : Profile). (entry_at t.context t.renamed).fetched + p.front_delay ≤ now.view.cycle) h.profile (omega (arith, is.age, h.cycle));
+      } in
+      record {
+        entry = entry_at (context_at now c) t.renamed;
+        front = subst (IsPastFront now.view c) here old;
+        stamp_is = ap (λ (x : Context). (entry_at x t.renamed).stamp) (sym h.context) ∙ is.stamp_is;
+      }
+
+  pub not_past_front : (m : Inside A) (now : Machine) (c : ℕ) (t : Track) → IsCounted m now c t → ((stamp : ℕ) → ¬ (IsTrackPastFront t m.profile m.cycle stamp)) → (e : Entry) → ¬ (IsPastFront now.view c e)
+  not_past_front m now c t h not_one e old =
+      let read : slice_get t.context.flight t.renamed ≡ Some e = sym h.oldest ∙ old.oldest in
+      let here : entry_at t.context t.renamed ≡ e = get_or_from_slice_get t.context.flight t.renamed e no_entry read in
+      let age : e.fetched + m.profile.front_delay ≤ now.view.cycle = subst (λ (p : Profile). e.fetched + p.front_delay ≤ now.view.cycle) (sym h.profile) old.age in
+      not_one e.stamp (record {
+        some = slice_get_within t.context.flight t.renamed e read;
+        stamp_is = ap (λ (f : Entry). f.stamp) here;
+        age = rw here (omega (arith, age, h.cycle));
+      })
 
   pub may_not_rename : (m : Inside A) (now : Machine) (c : ℕ) (t : Track) → IsCounted m now c t → ((stamp : ℕ) → ¬ (IsRenamable m.flow t m.profile m.cycle stamp)) → (e : Entry) → ¬ (CanRename now.view c e)
   may_not_rename m now c t h not_one e can = not_one e.stamp (is_renamable m now c t e h can)

@@ -13,11 +13,10 @@ use Rattle.issue_queue.specs.Views.{name_of}
 use Rattle.issue_queue.specs.IsSelected.{IsSelected, is_among}
 use Rattle.core_view.specs.declared.entry.Stage.TheVariants.{Queued}
 use Rattle.core_view.specs.declared.entry.Entry.{Entry}
-use Rattle.core_view.specs.Flight.{known, IsGrowing}
+use Rattle.core_view.specs.Flight.{known, IsGrowing, is_queued}
 use Rattle.core_view.specs.View.{entry_at, no_entry}
 use Rattle.data_flow.specs.Wired.{waiter_of}
 use Rattle.data_flow.specs.Flow.{Waiter, Lane, Flow, lane, seen_past_node, seen_past_nodes, sources_of, sources_at, is_supplied, is_waiter, waits_in, waits_of, queued_waiter, queued}
-use Rattle.lawful_cycle.specs.Issue.{is_queued}
 use Rattle.core_context.specs.Queued.{unheld, waiting_of, waiter_for}
 use Rattle.core_context.specs.Issuable.{may_issue_at, IsMarked, must_wait, AreHeld, IsClear}
 use Rattle.core_back.specs.Shown.{AreApart, IsSuppliedIn}

@@ -1,11 +1,17 @@
--- Which entries can be renamed.
-use Rattle.std.specs.Prelude.{◌≡◌, ℕ}
+-- Which entries may be renamed next.
+use Rattle.std.specs.Prelude.{◌≡◌, ℕ, ◌+◌, ◌≤◌, Some}
 use Rattle.core_view.specs.declared.entry.Entry.{Entry}
 use Rattle.core_view.specs.View.{View}
-use Rattle.lawful_cycle.specs.Rename.{CanRename}
+use Rattle.lawful_cycle.specs.Views.{context_in}
+use Rattle.lawful_cycle.specs.Rename.{oldest_fetched}
 
--- the entry of a context that can be renamed has this stamp
-pub record CanRenameStamp (v : View) (c stamp : ℕ) : Type 0 where
+-- an entry is a context's oldest fetched one, and was fetched at least the front delay ago
+pub record IsPastFront (v : View) (c : ℕ) (e : Entry) : Type 0 where
+  pub oldest : oldest_fetched (context_in v c) ≡ Some e
+  pub age : e.fetched + v.profile.front_delay ≤ v.cycle
+
+-- such an entry has this stamp
+pub record IsPastFrontStamp (v : View) (c stamp : ℕ) : Type 0 where
   pub entry : Entry
-  pub can : CanRename v c entry
+  pub front : IsPastFront v c entry
   pub stamp_is : entry.stamp ≡ stamp

@@ -4,11 +4,11 @@ ghost use Rattle.std.specs.Prelude.{◌≡◌, ℕ, ◌+◌, ◌-◌, ◌<◌, �
 ghost use Rattle.core_view.specs.declared.outcome.Outcome.TheVariants.{Goes, Stops};
 ghost use Rattle.core_view.specs.declared.entry.Stage.TheVariants.{Issued};
 ghost use Rattle.core_view.specs.Events.{retire_event, stop_event, complete_event};
-ghost use Rattle.core_view.specs.Operations.{is_guessed, is_load};
+ghost use Rattle.core_view.specs.Operations.{is_guessed};
 ghost use Rattle.core_view.specs.View.{entry_at, IsLive, IsSoundView};
-ghost use Rattle.lawful_cycle.specs.Issue.{is_queued};
 ghost use Rattle.lawful_cycle.specs.Rename.{CanRename};
-ghost use Rattle.lawful_cycle.specs.Fetch.{is_fetched, is_missing, is_eligible, oldest_place};
+ghost use Rattle.core_view.specs.Flight.{is_queued, is_missed_load};
+ghost use Rattle.lawful_cycle.specs.Fetch.{is_fetched, is_eligible, oldest_place};
 ghost use Rattle.origin_set.specs.Start.{start};
 ghost use Rattle.core_back.specs.Machine.{IsAlike, context_at, in_flight, with_context, with_cycle, due_in, IsNextOf};
 ghost use Rattle.flight.specs.Flights.{is_due, NoneFrom, IsNext};
@@ -16,7 +16,7 @@ ghost use Rattle.core_context.specs.Heads.{first_done};
 ghost use Rattle.core_back.specs.Selected.{IsChosen};
 ghost use Rattle.core_back.specs.Issued.{IsIssued};
 ghost use Rattle.core_back.specs.Fetched.{IsRenamed, IsFetched};
-ghost use Rattle.core_back.specs.Renamable.{CanRenameStamp};
+ghost use Rattle.core_back.specs.Renamable.{IsPastFront, IsPastFrontStamp};
 ghost use Rattle.core_back.specs.First.{IsFirst, IsTarget, AreMarksAt};
 ghost use Rattle.checkpoint.specs.Aligned.{IsAligned};
 ghost use Rattle.join_law.specs.Eight.{place_of};
@@ -326,15 +326,15 @@ impl<A: Allocator> Machine<A> {
         })
     }
 
-    /// The stamp of the oldest fetched entry of a context, if it can be renamed: it was fetched as many cycles ago as the
-    /// front delay says, and each place that it needs is free.
-    pub fn renamable(&self, context: Ctx) -> Option<u64>
+    /// The stamp of the oldest fetched entry of a context, if it was fetched as many cycles ago as the front delay says:
+    /// no other entry of the context can be renamed.
+    pub fn front(&self, context: Ctx) -> Option<u64>
         requires { self.now.names ≡ [] }
-        ensures can { IfSome result (CanRenameStamp self.now.view context) }
-        ensures none { result ≡ None → (e : Entry) → ¬ (CanRename self.now.view context e) }
+        ensures front { IfSome result (IsPastFrontStamp self.now.view context) }
+        ensures none { result ≡ None → (e : Entry) → ¬ (IsPastFront self.now.view context e) }
     {
         let track = &self.tracks[context.index()];
-        events::renamable(&self.flow, track, self.cycle, &self.profile)
+        events::front(track, self.cycle, &self.profile)
     }
 
     /// The oldest fetched entry of a context is renamed, if it can be. Returns its stamp.
@@ -371,7 +371,7 @@ impl<A: Allocator> Machine<A> {
 
     /// How many loads of a context were issued, have not completed, and missed.
     pub fn missed_loads(&self, context: Ctx) -> usize
-        ensures value { result ≡ count_by (λ e. is_load e.operation && is_missing e.stage) (context_at self.now context).flight }
+        ensures value { result ≡ count_by is_missed_load (context_at self.now context).flight }
         ensures bound { result ≤ 80 }
     {
         let track = &self.tracks[context.index()];

@@ -11,7 +11,7 @@ use Rattle.core_view.specs.declared.entry.Stage.{Stage}
 use Rattle.core_view.specs.declared.entry.Stage.TheVariants.{Fetched, Queued, Issued, Done}
 use Rattle.core_view.specs.declared.entry.Entry.{Entry}
 use Rattle.core_view.specs.Operations.{destination_of, is_guessed}
-use Rattle.core_view.specs.Flight.{result_of, result_in, is_done, IsGrowing}
+use Rattle.core_view.specs.Flight.{result_of, result_in, is_done, IsGrowing, is_queued, is_open_guess}
 use Rattle.core_view.specs.Queues.{is_renamed, AllRenamed}
 use Rattle.core_view.specs.View.{entry_at, no_entry}
 use Rattle.core_view.specs.Events.{completed_entry, complete_in, kept_length}
@@ -19,7 +19,6 @@ use Rattle.core_view.proofs.RingForm.{complete_take, kept_take}
 use Rattle.core_view.proofs.Live.{complete_live}
 use Rattle.data_flow.specs.Flow.{Node, Lane, Flow, Waiter, no_node, node_at, lane, with_result, result_for, cut_from, cut_flow}
 use Rattle.core_context.specs.Track.{Track, left_by, completed}
-use Rattle.lawful_cycle.specs.Issue.{is_queued, is_open_guess}
 use Rattle.core_context.specs.Queued.{is_behind, waiting_of, waiter_for, up_to_guess, settled}
 use Rattle.core_context.specs.Steps.{cut_if, finished_flow, cut_by, settled_flow, completed_flow}
 use Rattle.core_context.specs.Cores.{operands_of, node_of_entry, AllFetched, is_waiting, waiters_of, IsCore}

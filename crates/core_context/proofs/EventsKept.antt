@@ -3,7 +3,6 @@ use Rattle.std.proofs.Common.{◌≡◌, ◌≢◌, ℕ, ◌+◌, ◌<◌, Bool,
 use Rattle.std.specs.Prelude.{◌==◌}
 use Rattle.std.proofs.lemmas.Bool.{eq-eqb, ne_eqb}
 use Rattle.std.specs.List.{list_any}
-use Rattle.lawful_cycle.specs.Issue.{is_open_guess}
 use Rattle.hart_step.specs.declared.stop.Stop.{Stop}
 use Rattle.core_view.specs.declared.outcome.Step.{Step}
 use Rattle.core_view.specs.declared.outcome.Outcome.TheVariants.{Goes, Stops}
@@ -11,7 +10,7 @@ use Rattle.core_view.specs.declared.entry.Execution.{Execution}
 use Rattle.core_view.specs.declared.entry.Stage.TheVariants.{Issued}
 use Rattle.core_view.specs.View.{entry_at}
 use Rattle.core_view.specs.declared.status.Status.TheVariants.{Running}
-use Rattle.core_view.specs.Flight.{is_open, pc_past}
+use Rattle.core_view.specs.Flight.{is_open, pc_past, is_open_guess}
 use Rattle.core_view.specs.Operations.{operation_at}
 use Rattle.core_view.specs.Events.{MayFollow}
 use Rattle.data_flow.specs.Flow.{Flow, lane, with_lane, without_oldest, cut_flow}

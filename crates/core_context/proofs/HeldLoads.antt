@@ -14,9 +14,9 @@ use Rattle.core_view.specs.declared.entry.Execution.{Execution}
 use Rattle.core_view.specs.declared.entry.Stage.TheVariants.{Fetched, Queued, Issued}
 use Rattle.core_view.specs.declared.entry.Entry.{Entry}
 use Rattle.core_view.specs.Operations.{is_load}
-use Rattle.flight.specs.Marked.{is_queued as is_waiting_stage, is_waiting_load}
+use Rattle.flight.specs.Marked.{is_waiting_load}
 use Rattle.core_view.specs.Outcomes.{image_of}
-use Rattle.core_view.specs.Flight.{seen_of, IsGrowing}
+use Rattle.core_view.specs.Flight.{seen_of, IsGrowing, is_queued as is_waiting_stage}
 use Rattle.core_view.specs.Events.{with_stage}
 use Rattle.core_view.specs.Loads.{newest, newest_sharing, is_clear, may_issue}
 use Rattle.core_view.specs.Spans.{shares}

@@ -13,10 +13,9 @@ use Rattle.core_view.specs.declared.entry.Entry.{Entry}
 use Rattle.core_view.specs.declared.entry.Stage.{Stage}
 use Rattle.core_view.specs.declared.entry.Stage.TheVariants.{Fetched, Queued, Issued, Done}
 use Rattle.core_view.specs.Operations.{is_guessed}
-use Rattle.core_view.specs.Flight.{IsGrowing, is_done}
+use Rattle.core_view.specs.Flight.{IsGrowing, is_done, is_queued, is_open_guess}
 use Rattle.core_view.specs.View.{no_entry}
 use Rattle.data_flow.specs.Flow.{Flow, Waiter, waits_in, is_waiter, is_waiter_from, cut_flow}
-use Rattle.lawful_cycle.specs.Issue.{is_queued, is_open_guess}
 use Rattle.core_context.specs.Queued.{queued_at, is_behind, unheld, waiting_of, waiter_for}
 use Rattle.core_context.specs.Track.{Track}
 use Rattle.core_context.specs.Steps.{IsRemarked}

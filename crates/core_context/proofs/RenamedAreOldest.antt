@@ -5,14 +5,13 @@ use Rattle.std.proofs.lemmas.Bool.Decides.{nat_tests}
 use Rattle.std.proofs.lemmas.List.{take-append-drop}
 use Rattle.std.proofs.lemmas.List.Sums.{sum_by-cons, sum_by-append}
 use Rattle.core_view.specs.declared.entry.Stage.{Stage}
-use Rattle.core_view.specs.declared.entry.Stage.TheVariants.{Fetched, Queued, Issued, Done}
+use Rattle.core_view.specs.declared.entry.Stage.TheVariants.{Fetched}
 use Rattle.core_view.specs.declared.entry.Entry.{Entry}
 use Rattle.core_view.specs.Operations.{is_load, is_guessed}
-use Rattle.core_view.specs.Flight.{is_open}
+use Rattle.core_view.specs.Flight.{is_open, has_missed, is_missed_load}
 use Rattle.core_view.specs.Queues.{is_renamed, AllRenamed}
 use Rattle.core_view.specs.View.{Context}
-use Rattle.lawful_cycle.specs.Fetch.{is_fetched, is_missing, is_running, is_eligible}
-use Rattle.flight.specs.Marked.{has_missed, is_missed_load}
+use Rattle.lawful_cycle.specs.Fetch.{is_fetched, is_running, is_eligible}
 use Rattle.core_context.specs.Cores.{AllFetched, front_room}
 
 -- ---- counts of a flight
@@ -50,15 +49,15 @@ fetched_count n es renamed fetched =
     omega (arith, count_split is_fetched n es, none, all_fetched (drop n es) fetched, length-drop n es)
 
 -- a load that missed is renamed
-pub missed_count : (n : ℕ) (es : List Entry) → AllFetched (drop n es) → count_by (λ e. is_load e.operation && is_missing e.stage) (take n es) ≡ count_by (λ e. is_load e.operation && is_missing e.stage) es
+pub missed_count : (n : ℕ) (es : List Entry) → AllFetched (drop n es) → count_by is_missed_load (take n es) ≡ count_by is_missed_load es
 missed_count n es fetched =
-    let p : Entry → Bool = λ e. is_load e.operation && is_missing e.stage in
+    let p : Entry → Bool = is_missed_load in
     let none : count_by p (drop n es) ≡ 0 = fetched_none p (drop n es) (λ e h. unfetched (is_load e.operation) e.stage h) fetched in
     let all : count_by p es ≡ count_by p (take n es) + count_by p (drop n es) = count_split p n es in
     omega (arith, none, all)
   where
-    unfetched : (b : Bool) (s : Stage) → s ≡ Fetched → (b && is_missing s) ≡ false
-    unfetched true s h = ap is_missing h
+    unfetched : (b : Bool) (s : Stage) → s ≡ Fetched → (b && has_missed s) ≡ false
+    unfetched true s h = ap has_missed h
     unfetched false s h = refl
 
 -- the guessed ones of the others
@@ -70,22 +69,6 @@ guessed_count n es renamed fetched =
     let same : count_by q (drop n es) ≡ count_by p (drop n es) = fetched_same q p (drop n es) (λ e h. ap (λ s. not (is_renamed s) && is_guessed e.operation) (sym h)) fetched in
     let all : count_by p es ≡ count_by p (take n es) + count_by p (drop n es) = count_split p n es in
     omega (arith, none, same, all)
-
--- how many loads missed, by the words of a flight or by the stages
-abbrev pub missed_of : List Entry → ℕ
-missed_of es = count_by (λ e. is_load e.operation && is_missing e.stage) es
-
-same_stage : (s : Stage) → has_missed s ≡ is_missing s
-same_stage Fetched = refl
-same_stage Queued = refl
-same_stage (Issued x) = refl
-same_stage (Done x) = refl
-
-pub missed_same : (es : List Entry) → count_by is_missed_load es ≡ missed_of es
-missed_same [] = refl
-missed_same (e ∷ es) =
-    let p : Entry → Bool = λ e. is_load e.operation && is_missing e.stage in
-    count_cons is_missed_load e es (p e) (ap (λ b. is_load e.operation && b) (same_stage e.stage)) ∙ ap (λ n. cond (p e) 1 0 + n) (missed_same es) ∙ sym (count_cons p e es (p e) refl)
 
 -- ---- whether more can be fetched
 

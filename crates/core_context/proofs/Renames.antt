@@ -11,14 +11,13 @@ use Rattle.core_view.specs.declared.operation.Operation.TheVariants as operation
 use Rattle.core_view.specs.declared.entry.Stage.TheVariants.{Fetched}
 use Rattle.core_view.specs.declared.entry.Entry.{Entry}
 use Rattle.core_view.specs.Operations.{stops_at_fetch, is_guessed, destination_of}
-use Rattle.core_view.specs.Flight.{is_done, IsGrowing, result_of}
+use Rattle.core_view.specs.Flight.{is_done, IsGrowing, result_of, is_queued, is_open_guess}
 use Rattle.core_view.specs.Events.{with_stage, renamed_stage}
 use Rattle.core_view.specs.Queues.{is_renamed}
 use Rattle.core_view.specs.View.{entry_at, no_entry}
 use Rattle.core_view.proofs.Live.{rename_live}
 use Rattle.data_flow.specs.Flow.{Node, Lane, Flow, Waiter, lane, with_lane, with_node, waits_in}
 use Rattle.std.specs.List.{list_any}
-use Rattle.lawful_cycle.specs.Issue.{is_queued, is_open_guess}
 use Rattle.core_context.specs.Queued.{queued_at, unheld, waiting_of, waiter_for}
 use Rattle.core_context.specs.Track.{Track, renamed_one}
 use Rattle.core_context.specs.Cores.{operands_of, node_of_entry, is_selected, waiters_of, IsCore}

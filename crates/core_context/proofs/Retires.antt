@@ -14,7 +14,7 @@ use Rattle.core_view.specs.declared.entry.Stage.TheVariants.{Fetched, Queued, Is
 use Rattle.core_view.specs.declared.entry.Entry.{Entry}
 use Rattle.core_view.specs.Operations.{destination_of}
 use Rattle.core_view.specs.Outcomes.{IsSized}
-use Rattle.core_view.specs.Flight.{result_of, result_in, is_done, IsGrowing}
+use Rattle.core_view.specs.Flight.{result_of, result_in, is_done, IsGrowing, is_queued}
 use Rattle.core_view.specs.Queues.{is_renamed, AllRenamed}
 use Rattle.core_view.specs.View.{IsLive, StatusHolds, entry_at, no_entry}
 use Rattle.core_view.specs.Events.{retire_event}
@@ -22,7 +22,6 @@ use Rattle.core_view.proofs.Steps.{IsOutcomeSized}
 use Rattle.core_view.proofs.Live.{retire_live, stop_live, flight_running, done_sized}
 use Rattle.data_flow.specs.Flow.{Node, Lane, Flow, no_node, node_at, lane, with_lane, without_oldest, cut_from, cut_flow, waits_in}
 use Rattle.core_context.specs.Track.{Track, is_last, retired, stopped}
-use Rattle.lawful_cycle.specs.Issue.{is_queued}
 use Rattle.core_context.specs.Queued.{queued_at, waiting_of}
 use Rattle.core_context.specs.Steps.{retired_flow}
 use Rattle.core_context.specs.Heads.{done_outcome, first_done}

@@ -5,12 +5,11 @@ use Rattle.std.specs.List.{list_any}
 use Rattle.std.proofs.lemmas.Bool.{eq-eqb, eqb-true, ne_eqb, or_parts}
 use Rattle.std.proofs.lemmas.List.{get_or-take, take-take, length-take}
 use Rattle.std.proofs.lemmas.List.Elements.{All-map}
-use Rattle.std.proofs.lemmas.List.Folds.{list_any-append, list_any_at}
+use Rattle.std.proofs.lemmas.List.Folds.{list_any-append}
 use Rattle.core_view.specs.declared.entry.Entry.{Entry}
-use Rattle.core_view.specs.Flight.{IsGrowing}
+use Rattle.core_view.specs.Flight.{IsGrowing, is_queued, is_open_guess}
 use Rattle.core_view.specs.View.{no_entry}
 use Rattle.data_flow.specs.Flow.{Flow, Waiter, with_speculative}
-use Rattle.lawful_cycle.specs.Issue.{is_queued, is_open_guess}
 use Rattle.core_context.specs.Track.{Track}
 use Rattle.core_context.specs.Queued.{queued_at, is_behind, unheld, waiting_of, waiter_for, up_to_guess, settled}
 use Rattle.core_context.specs.Steps.{settled_flow}
@@ -31,11 +30,6 @@ take_more es n lt = (let one : n + 1 ≡ suc n = omega arith in rw one (go es n 
 -- one more that isn't open
 pub closed_more : (es : List Entry) (n : ℕ) → n < length es → list_any is_open_guess (take n es) ≡ false → is_open_guess (get_or es n no_entry) ≡ false → list_any is_open_guess (take (n + 1) es) ≡ false
 closed_more es n lt none closed = ap (list_any is_open_guess) (take_more es n lt) ∙ list_any-append is_open_guess (take n es) (get_or es n no_entry ∷ []) ∙ rw (none, closed) refl
-
--- one that is open among the first
-pub open_found : (es : List Entry) (n i : ℕ) → i < n → i < length es → is_open_guess (get_or es i no_entry) ≡ true → list_any is_open_guess (take n es) ≡ true
-open_found es n i lt within open_ =
-    list_any_at is_open_guess (take n es) i no_entry (omega (arith, length-take n es, lt, within)) (ap is_open_guess (get_or-take n es i no_entry lt) ∙ open_)
 
 pub up_none : (es : List Entry) → list_any is_open_guess es ≡ false → up_to_guess es ≡ es
 up_none [] none = refl

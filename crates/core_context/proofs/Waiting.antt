@@ -6,10 +6,9 @@ use Rattle.std.proofs.lemmas.Bool.Decides.{nat_tests}
 use Rattle.core_view.specs.declared.entry.Stage.{Stage}
 use Rattle.core_view.specs.declared.entry.Stage.TheVariants.{Fetched, Queued, Issued, Done}
 use Rattle.core_view.specs.declared.entry.Entry.{Entry}
-use Rattle.core_view.specs.Flight.{IsGrowing}
+use Rattle.core_view.specs.Flight.{IsGrowing, is_queued}
 use Rattle.core_view.specs.View.{no_entry}
 use Rattle.data_flow.specs.Flow.{Node}
-use Rattle.lawful_cycle.specs.Issue.{is_queued}
 use Rattle.core_context.specs.Queued.{queued_at}
 use Rattle.core_context.specs.Cores.{node_of_entry}
 

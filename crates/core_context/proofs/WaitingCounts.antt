@@ -7,12 +7,11 @@ use Rattle.std.proofs.lemmas.Bool.{eq-eqb, ne_eqb}
 use Rattle.std.proofs.lemmas.List.Sums.{sum_by-cons, length-filter}
 use Rattle.std.proofs.lemmas.List.Elements.{All-head, All-tail}
 use Rattle.core_view.specs.declared.entry.Entry.{Entry}
-use Rattle.core_view.specs.Flight.{IsGrowing}
+use Rattle.core_view.specs.Flight.{IsGrowing, is_queued}
 use Rattle.core_view.specs.Operations.{is_guessed}
 use Rattle.issue_queue.specs.Stamps.{stamps_of}
 use Rattle.data_flow.specs.Flow.{Flow, Lane, Waiter, queued_waiter, queued}
 use Rattle.lawful_cycle.specs.Views.{eight}
-use Rattle.lawful_cycle.specs.Issue.{is_queued}
 use Rattle.core_context.specs.Queued.{unheld, waiting_of, waiter_for}
 use Rattle.core_context.specs.Cores.{is_waiting, waiters_of}
 

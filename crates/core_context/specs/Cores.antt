@@ -5,13 +5,12 @@ use Rattle.hart_step.specs.State.{State}
 use Rattle.core_view.specs.declared.entry.Stage.TheVariants.{Fetched}
 use Rattle.core_view.specs.declared.entry.Entry.{Entry}
 use Rattle.core_view.specs.Operations.{destination_of, first_source_of, second_source_of}
-use Rattle.core_view.specs.Flight.{result_of}
+use Rattle.core_view.specs.Flight.{result_of, is_queued}
 use Rattle.core_view.specs.Queues.{AllRenamed}
 use Rattle.core_view.specs.View.{IsLive}
 use Rattle.core_view.specs.declared.note.EntryId.{EntryId}
 use Rattle.data_flow.specs.declared.operands.Operands.{Operands}
 use Rattle.data_flow.specs.Flow.{Node, Waiter, Flow, lane}
-use Rattle.lawful_cycle.specs.Issue.{is_queued}
 use Rattle.core_context.specs.Track.{Track}
 use Rattle.core_context.specs.Queued.{queued_at, waiting_of, waiter_for}
 

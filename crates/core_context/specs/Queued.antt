@@ -4,7 +4,7 @@ use Rattle.std.specs.List.{list_any}
 use Rattle.core_view.specs.declared.entry.Entry.{Entry}
 use Rattle.core_view.specs.Operations.{is_guessed}
 use Rattle.data_flow.specs.Flow.{Waiter, Flow}
-use Rattle.lawful_cycle.specs.Issue.{is_queued, is_open_guess}
+use Rattle.core_view.specs.Flight.{is_queued, is_open_guess}
 
 -- the entry of a stamp is queued
 abbrev pub queued_at : ℕ → List Entry → Bool

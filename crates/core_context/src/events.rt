@@ -6,7 +6,7 @@ ghost use Rattle.core_view.specs.Outcomes.{image_of, IsSized};
 ghost use Rattle.data_flow.specs.Flow.{lane, node_at, sources_at, taken, waits_in, cut_flow, released};
 ghost use Rattle.core_view.specs.declared.entry.Stage.TheVariants.{Fetched, Queued, Issued};
 ghost use Rattle.core_view.specs.declared.outcome.Outcome.TheVariants.{Goes, Stops};
-ghost use Rattle.core_view.specs.Flight.{seen_of, IsSound};
+ghost use Rattle.core_view.specs.Flight.{seen_of, IsSound, is_open_guess as is_open_guess_entry};
 ghost use Rattle.core_view.specs.Operations.{destination_of, stops_at_fetch, is_load, is_store};
 ghost use Rattle.core_view.specs.Queues.{loads_of, stores_of};
 ghost use Rattle.core_view.specs.View.{entry_at};
@@ -15,9 +15,8 @@ ghost use Rattle.core_context.specs.Track.{is_last, retired, stopped, completed,
 ghost use Rattle.core_context.specs.Cores.{operands_of, AllFetched};
 ghost use Rattle.core_context.specs.Heads.{first_done};
 ghost use Rattle.core_context.specs.Left.{IsIdleCore, IsEventAt};
-ghost use Rattle.core_context.specs.Renamable.{IsRenamable};
+ghost use Rattle.core_context.specs.Renamable.{IsPastFront, IsRenamable};
 ghost use Rattle.core_context.specs.Steps.{retired_flow, settled_flow, completed_flow, renamed_flow, IsRemarked};
-ghost use Rattle.lawful_cycle.specs.Issue.{is_open_guess as is_open_guess_entry};
 
 use crate::track::{Track, is_open_guess, is_queued};
 use core_profile::Profile;
@@ -100,9 +99,22 @@ fn complete_entry<A: Allocator>(
     }
 }
 
+/// The stamp of the oldest fetched entry, if it was fetched as many cycles ago as the front delay says.
+pub fn front<A: Allocator>(track: &Track<A>, cycle: u64, profile: &Profile) -> Option<u64>
+    ensures can { IfSome result (IsPastFront track.now profile.now cycle) }
+    ensures none { result ≡ None → (stamp : ℕ) → ¬ (IsPastFront track.now profile.now cycle stamp) }
+{
+    let entry = track.entry(track.renamed_count())?;
+    if is_past_front(entry, cycle, profile) {
+        Some(entry.stamp)
+    } else {
+        None
+    }
+}
+
 /// The stamp of the oldest fetched entry, if it can be renamed in a cycle: it was fetched as many cycles ago as the front
 /// delay says, and each place that it needs is free.
-pub fn renamable<A: Allocator>(
+fn renamable<A: Allocator>(
     flow: &DataFlow<A>,
     track: &Track<A>,
     cycle: u64,

@@ -11,26 +11,30 @@ use Rattle.core_view.specs.Queues.{is_renamed}
 use Rattle.core_view.specs.Events.{with_stage, renamed_stage, rename_event}
 use Rattle.core_view.specs.View.{Context, View, no_entry, entry_at}
 use Rattle.lawful_cycle.specs.Views.{eight, context_in}
-use Rattle.lawful_cycle.specs.Issue.{is_queued}
+use Rattle.core_view.specs.Flight.{is_queued}
 use Rattle.lawful_cycle.specs.Rename.{CanRename, IsNext, of_all, renamed_by, has_register, oldest_fetched}
 use Rattle.core_back.specs.Machine.{Machine, context_at, no_context}
 use Rattle.core_back.specs.Fetched.{IsRenamed}
-use Rattle.core_back.specs.Renamable.{CanRenameStamp}
+use Rattle.core_back.specs.Renamable.{IsPastFront, IsPastFrontStamp}
 use Rattle.core_cycle.specs.Fronts.{IsFront, AreFronts, IsLeastBelow, IsNextBelow}
 
 -- ---- one front
 
--- a context has one entry that can be renamed
-pub one_entry : (v : View) (c : ℕ) (e f : Entry) → CanRename v c e → CanRename v c f → e ≡ f
+-- an entry that can be renamed is past the front delay
+is_past_front : (v : View) (c : ℕ) (e : Entry) → CanRename v c e → IsPastFront v c e
+is_past_front v c e can = record { oldest = can.oldest; age = can.age }
+
+-- a context has one entry that is past the front delay and may be renamed next
+one_entry : (v : View) (c : ℕ) (e f : Entry) → IsPastFront v c e → IsPastFront v c f → e ≡ f
 one_entry v c e f a b = of_some (sym a.oldest ∙ b.oldest)
   where
     of_some : Some e ≡ Some f → e ≡ f
     of_some h = cc
 
--- what a context answers, when it is asked, is its front
-pub front_asked : (v : View) (c : ℕ) (front : Option ℕ) → IfSome front (CanRenameStamp v c) → (front ≡ None → (e : Entry) → ¬ CanRename v c e) → IsFront v c front
-front_asked v c None can none = λ e there. absurd (none refl e there)
-front_asked v c (Some stamp) can none = λ e there. ap Some (sym can.stamp_is ∙ ap (λ (f : Entry). f.stamp) (one_entry v c can.entry e can.can there))
+-- what is returned for a context, when it is asked, is its front
+pub front_asked : (v : View) (c : ℕ) (front : Option ℕ) → IfSome front (IsPastFrontStamp v c) → (front ≡ None → (e : Entry) → ¬ IsPastFront v c e) → IsFront v c front
+front_asked v c None past none = λ e there. absurd (none refl e (is_past_front v c e there))
+front_asked v c (Some stamp) past none = λ e there. ap Some (sym past.stamp_is ∙ ap (λ (f : Entry). f.stamp) (one_entry v c past.entry e past.front (is_past_front v c e there)))
 
 -- a front is of a context that is there
 pub front_within : (fronts : List (Option ℕ)) (c stamp : ℕ) → get_or fronts c None ≡ Some stamp → c < length fronts

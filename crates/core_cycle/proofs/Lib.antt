@@ -8,3 +8,4 @@ pub mod AheadCounts
 pub mod KeptFronts
 pub mod Renamings
 pub mod Whole
+pub mod ShownPicks

@@ -3,3 +3,4 @@ pub mod Faults
 pub mod Picks
 pub mod Fronts
 pub mod Shown
+pub mod ShownViews

@@ -5,7 +5,7 @@ ghost use Rattle.arrayvec.specs.ArrayVec.{array_vec_len};
 ghost use Rattle.core_view.specs.View.{IsLive};
 ghost use Rattle.origin_set.specs.Start.{start};
 ghost use Rattle.lawful_cycle.specs.Cycle.{IsLawfulCycle, laws_of};
-ghost use Rattle.lawful_cycle.specs.Timing.{AreDueFrom};
+ghost use Rattle.lawful_cycle.specs.Timing.{AreTimely};
 ghost use Rattle.core_back.specs.Machine.{context_at, in_flight};
 
 use crate::{fetching, renaming};
@@ -18,8 +18,8 @@ use issue_queue::Order;
 use std::alloc::{Allocator, Global};
 use std::marker::Model;
 
-/// Eight contexts between two cycles, when what was issued is due in the cycle that comes or later. A contract sees the
-/// machine.
+/// Eight contexts between two cycles, when each entry was fetched by the cycle that comes, and what was issued is due
+/// in it or later. A contract sees the machine.
 #[derive(Drop)]
 pub(crate) struct Contexts<A: Allocator = Global> {
     machine: Machine<A>,
@@ -30,7 +30,7 @@ impl<A: Allocator> Model for Contexts<A> {
     ghost use Rattle.std.specs.Coded.{codes};
     ghost use Rattle.core_view.specs.ViewCode.{coded_view};
     ghost use Rattle.core_back.specs.Machine.{Machine as Shown};
-    ghost use Rattle.lawful_cycle.specs.Timing.{AreDueFrom};
+    ghost use Rattle.lawful_cycle.specs.Timing.{AreTimely};
 
     ghost Value = { Shown };
 
@@ -38,24 +38,25 @@ impl<A: Allocator> Model for Contexts<A> {
 
     ghost view = { λ c. c.machine };
 
-    ghost invariant = { λ c. (c.machine.names ≡ []) × (c.machine.fetch_room ≡ 8) × AreDueFrom c.machine.view.cycle c.machine.view };
+    ghost invariant = { λ c. (c.machine.names ≡ []) × (c.machine.fetch_room ≡ 8) × AreTimely c.machine.view.cycle c.machine.view };
 }
 
 impl<A: Allocator> Contexts<A> {
-    /// Contexts of which nothing is selected, nothing fetched in this cycle, and nothing issued that was due before it.
+    /// Contexts of which nothing is selected, nothing fetched in this cycle or after it, and nothing issued that was due
+    /// before it.
     pub(crate) fn new(machine: Machine<A>) -> Self
         requires idle { machine.names ≡ [] }
         requires room { machine.fetch_room ≡ 8 }
-        requires due { AreDueFrom machine.view.cycle machine.view }
+        requires timely { AreTimely machine.view.cycle machine.view }
         ensures { result ≡ machine }
     {
         Contexts { machine }
     }
 
-    /// The machine. What was issued is due in the cycle that comes, or later.
+    /// The machine. Each entry was fetched by the cycle that comes, and what was issued is due in it or later.
     pub(crate) fn machine(&self) -> &Machine<A>
         ensures value { result.now ≡ self.now }
-        ensures due { AreDueFrom self.now.view.cycle self.now.view }
+        ensures timely { AreTimely self.now.view.cycle self.now.view }
     {
         &self.machine
     }
@@ -87,7 +88,7 @@ impl<A: Allocator> Contexts<A> {
         ensures delay { D.may_answer delay.new ≡ D.may_answer delay.old }
         ensures greatest { D.greatest_lag delay.new ≡ D.greatest_lag delay.old }
         ensures lawful { IsLawfulCycle (laws_of (P.key_of pick.now) (O.key_of order.now) (G.may_answer guess.old) (D.may_answer delay.old)) self.old.view self.new.view result }
-        ensures due { AreDueFrom self.new.view.cycle self.new.view }
+        ensures timely { AreTimely self.new.view.cycle self.new.view }
         ensures flights { result.cut + array_vec_len result.retired + in_flight self.new ≡ in_flight self.old + array_vec_len result.fetched }
     {
         let mut note = CycleNote::new();

@@ -8,7 +8,7 @@ ghost use Rattle.core_view.specs.View.{IsLive, IsSoundFlight, IsSoundView, Statu
 ghost use Rattle.hart_step.specs.Next.{after};
 ghost use Rattle.origin_set.specs.Start.{start};
 ghost use Rattle.lawful_cycle.specs.Cycle.{IsLawfulCycle, laws_of};
-ghost use Rattle.lawful_cycle.specs.Timing.{AreDueFrom};
+ghost use Rattle.lawful_cycle.specs.Timing.{AreTimely};
 ghost use Rattle.core_back.specs.Machine.{context_at, in_flight, IsAlike};
 ghost use Rattle.core_back.specs.First.{IsFirst, AreMarksAt};
 ghost use Rattle.core_cycle.specs.Faults.{IsBehind, IsRefusal};
@@ -135,7 +135,7 @@ impl<G: Guess + Drop, P: Pick + Drop, O: Order + Drop, D: Delay + Drop, A: Alloc
         ensures pick { self.new.pick ≡ self.old.pick }
         ensures order { self.new.order ≡ self.old.order }
         ensures lawful { IsLawfulCycle (laws_of (P.key_of self.old.pick) (O.key_of self.old.order) (G.may_answer self.old.guess) (D.may_answer self.old.delay)) (shown self.old).view (shown self.new).view result }
-        ensures due { AreDueFrom (shown self.new).view.cycle (shown self.new).view }
+        ensures timely { AreTimely (shown self.new).view.cycle (shown self.new).view }
         ensures flights { result.cut + array_vec_len result.retired + in_flight (shown self.new) ≡ in_flight (shown self.old) + array_vec_len result.fetched }
     {
         self.contexts
@@ -143,14 +143,14 @@ impl<G: Guess + Drop, P: Pick + Drop, O: Order + Drop, D: Delay + Drop, A: Alloc
     }
 
     /// The number of the cycle that comes. Each context is live and the view sound, at most 80 of its entries are in
-    /// flight, and what was issued is due in that cycle or later.
+    /// flight, each was fetched by that cycle, and what was issued is due in it or later.
     pub fn cycles(&self) -> u64
         ensures value { result ≡ (shown self.now).view.cycle }
         ensures live { (c : ℕ) → c < 8 → IsLive (start (shown self.now).origin c) (shown self.now).view.stamp (context_at (shown self.now) c) }
         ensures sound { IsSoundView (shown self.now).view }
         ensures contexts { length (shown self.now).view.contexts ≡ 8 }
         ensures few { (c : ℕ) → c < 8 → length (context_at (shown self.now) c).flight ≤ 80 }
-        ensures due { AreDueFrom result (shown self.now).view }
+        ensures timely { AreTimely result (shown self.now).view }
     {
         self.contexts.machine().cycle()
     }

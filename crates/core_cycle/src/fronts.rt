@@ -8,14 +8,14 @@ use core_view::EntryId;
 use join_law::Ctx;
 use std::alloc::Allocator;
 
-/// The stamps of the contexts' oldest fetched entries, where these can be renamed.
+/// The stamps of the contexts' oldest fetched entries, where these are past the front delay: no others can be renamed.
 pub(crate) fn fronts_of<A: Allocator>(machine: &Machine<A>) -> [Option<u64>; 8]
     requires { machine.now.names ≡ [] }
     ensures { AreFronts machine.now.view result }
 {
     let mut fronts = [None; 8];
     for context in Ctx::all() {
-        fronts[context.index()] = machine.renamable(context);
+        fronts[context.index()] = machine.front(context);
     }
     fronts
 }

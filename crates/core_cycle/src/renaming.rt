@@ -55,7 +55,7 @@ fn rename_oldest<A: Allocator>(
     while let Some(front) = oldest_front(fronts) {
         let place = front.context.index();
         if let Some(stamp) = machine.try_rename(front.context) {
-            fronts[place] = machine.renamable(front.context);
+            fronts[place] = machine.front(front.context);
             return Some(EntryId {
                 context: front.context,
                 stamp,

@@ -1,5 +1,5 @@
 -- What a flight of entries, oldest first, may look like over an architectural state.
-use Rattle.std.specs.Prelude.{◌≡◌, ℕ, ◌+◌, ◌%◌, ◌<◌, ◌≤◌, Bool, true, false, not, ◌==◌, if◌then◌else◌, List, [], ◌∷◌, map, get_or, slice_set, Option, Some, None}
+use Rattle.std.specs.Prelude.{◌≡◌, ℕ, ◌+◌, ◌%◌, ◌<◌, ◌≤◌, Bool, true, false, not, ◌&&◌, ◌==◌, if◌then◌else◌, List, [], ◌∷◌, map, get_or, slice_set, Option, Some, None}
 use Rattle.paged_memory.specs.Cells.{byte_at}
 use Rattle.hart_step.specs.State.{State}
 use Rattle.core_view.specs.declared.operation.Operation.{Operation}
@@ -11,7 +11,7 @@ use Rattle.core_view.specs.declared.entry.Stage.{Stage}
 use Rattle.core_view.specs.declared.entry.Stage.TheVariants.{Fetched, Queued, Issued, Done}
 use Rattle.core_view.specs.declared.entry.Entry.{Entry}
 use Rattle.core_view.specs.Spans.{shares, overlaid}
-use Rattle.core_view.specs.Operations.{stops_at_fetch, is_guessed, unguessed_next, first_source_of, second_source_of, destination_of}
+use Rattle.core_view.specs.Operations.{stops_at_fetch, is_load, is_guessed, unguessed_next, first_source_of, second_source_of, destination_of}
 use Rattle.core_view.specs.Outcomes.{Image, bytes_written, span_of, outcome_in}
 
 -- ---- what a stage shows
@@ -22,6 +22,27 @@ is_done Fetched = false
 is_done Queued = false
 is_done (Issued execution) = false
 is_done (Done execution) = true
+
+-- renamed, and not yet issued
+abbrev pub is_queued : Stage → Bool
+is_queued Fetched = false
+is_queued Queued = true
+is_queued (Issued execution) = false
+is_queued (Done execution) = false
+
+-- issued with a miss, and not yet completed
+abbrev pub has_missed : Stage → Bool
+has_missed Fetched = false
+has_missed Queued = false
+has_missed (Issued execution) = execution.miss
+has_missed (Done execution) = false
+
+abbrev pub is_missed_load : Entry → Bool
+is_missed_load e = is_load e.operation && has_missed e.stage
+
+-- a guessed entry that hasn't completed
+abbrev pub is_open_guess : Entry → Bool
+is_open_guess e = is_guessed e.operation && not (is_done e.stage)
 
 -- the result of an outcome: a stop gives none
 abbrev pub result_in : Outcome → Option ℕ

@@ -16,7 +16,7 @@ use Rattle.data_flow.specs.declared.operands.Renamed.{Renamed}
 use Rattle.data_flow.specs.declared.data_flow.DataFlow.TheInside.{Inside}
 use Rattle.data_flow.specs.Flow.{Node, Lane, Waiter, Flow, lane, no_lane, no_node, node_at, with_lane, without_newest, cut_from, cut_flow, waits_in, is_waiter, is_waiter_from}
 use Rattle.data_flow.specs.Wired.{waiter_of, IsWaiting, node_of, flow, IsWiredUp, no_buffer, no_renamed}
-use Rattle.data_flow.proofs.Calls.{stamp_of}
+use Rattle.data_flow.proofs.LaneEvents.{stamp_of}
 use Rattle.data_flow.proofs.Places.{Here, here_unread}
 use Rattle.data_flow.proofs.Steps.{shown}
 use Rattle.data_flow.proofs.Ties.{get_or-map, lengths}

@@ -4,7 +4,7 @@ pub mod Cells
 pub mod Sources
 pub mod Waits
 pub mod Counts
-pub mod Calls
+pub mod LaneEvents
 pub mod Marks
 pub mod Ready
 pub mod Carried

@@ -15,7 +15,7 @@ use Rattle.data_flow.specs.Banks.{bank_with, CellsWith}
 use Rattle.data_flow.specs.Wired.{cell_of, node_of, lane_of, lanes_of, flow, IsTied, AreTied, IsWaiting, IsWiredUp, no_buffer, no_renamed}
 use Rattle.data_flow.proofs.Ties.{lane_at, tied_at, lanes-set, tied-set, IsWiredOver, get_or-map}
 use Rattle.data_flow.proofs.Cells.{same_lanes, same_all_tied, used_in_banks, free_unused, sources_used}
-use Rattle.data_flow.proofs.Calls.{stamp_of, push_tied, push_lane}
+use Rattle.data_flow.proofs.LaneEvents.{stamp_of, push_tied, push_lane}
 use Rattle.data_flow.proofs.Counts.{counted_all}
 use Rattle.data_flow.proofs.Places.{Here, here_unread}
 use Rattle.data_flow.proofs.Steps.{Leaves, one_changes}

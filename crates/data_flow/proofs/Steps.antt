@@ -19,7 +19,7 @@ use Rattle.data_flow.specs.Flow.{Node, Lane, Waiter, Flow, lane, no_lane, no_nod
 use Rattle.data_flow.specs.Wired.{node_of, lane_of, lanes_of, flow, waiter_of, IsTied, AreTied, IsWaiting, IsWiredUp, no_buffer, no_renamed}
 use Rattle.data_flow.proofs.Ties.{lanes-set, tied-set, get_or-map}
 use Rattle.data_flow.proofs.Cells.{same_all_tied, used_is_cell}
-use Rattle.data_flow.proofs.Calls.{stamp_of, finished, one_lane, finish_lane, set_lane, result_used, result_above, bank_past, commits, committable, IsCommittable, bank_before, undoes, undoable}
+use Rattle.data_flow.proofs.LaneEvents.{stamp_of, finished, one_lane, finish_lane, set_lane, result_used, result_above, bank_past, commits, committable, IsCommittable, bank_before, undoes, undoable}
 use Rattle.data_flow.proofs.Places.{Here, here_unread}
 use Rattle.data_flow.proofs.Sources.{IsAt}
 use Rattle.data_flow.proofs.Waiters.{waiters_awake}

@@ -1,3 +1,6 @@
 pub mod Before
+pub mod EachContext
 pub mod NextBelow
 pub mod Picked
+pub mod WithoutPlaces
+pub mod Laws

@@ -35,6 +35,16 @@ impl Pick for NamedPick {
             NamedPick::Iqposn => Iqposn.key(view, context),
         }
     }
+
+    fn reads_places(&self) -> bool {
+        match self {
+            NamedPick::RoundRobin => RoundRobin.reads_places(),
+            NamedPick::Icount => Icount.reads_places(),
+            NamedPick::Brcount => Brcount.reads_places(),
+            NamedPick::Misscount => Misscount.reads_places(),
+            NamedPick::Iqposn => Iqposn.reads_places(),
+        }
+    }
 }
 
 impl From<FetchPolicy> for NamedPick {

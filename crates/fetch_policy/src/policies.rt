@@ -1,6 +1,6 @@
 //! The fetch policies.
 
-ghost use Rattle.std.specs.Prelude.{◌≡◌, ℕ};
+ghost use Rattle.std.specs.Prelude.{◌≡◌, ℕ, false};
 ghost use Rattle.fetch_policy.specs.Keys.{brcount_key, icount_key, iqposn_key, misscount_key, round_robin_key};
 
 use crate::view::FetchView;
@@ -9,6 +9,7 @@ use join_law::Ctx;
 /// A fetch policy: contexts are picked by the least key, and among equal keys by turn.
 pub trait Pick {
     ghost use Rattle.fetch_policy.specs.declared.view.FetchView.{FetchView};
+    ghost use Rattle.fetch_policy.specs.Places.{without_places};
 
     /// The function of view and context that the policy is.
     ghost key_of: { Self → FetchView → ℕ → ℕ };
@@ -16,6 +17,13 @@ pub trait Pick {
     /// The key of a context.
     fn key(&self, view: &FetchView, context: Ctx) -> u64
         ensures { result ≡ key_of self.now view.now context };
+
+    /// Whether keys may depend on the contexts' `oldest_place`. Where they don't, a core may show none in its place.
+    fn reads_places(&self) -> bool
+        ensures { result ≡ false → (view : FetchView) (context : ℕ) → key_of self.now (without_places view) context ≡ key_of self.now view context }
+    {
+        true
+    }
 }
 
 /// RR: contexts take turns.
@@ -44,6 +52,10 @@ impl Pick for RoundRobin {
     fn key(&self, _view: &FetchView, _context: Ctx) -> u64 {
         0
     }
+
+    fn reads_places(&self) -> bool {
+        false
+    }
 }
 
 impl Pick for Icount {
@@ -51,6 +63,10 @@ impl Pick for Icount {
 
     fn key(&self, view: &FetchView, context: Ctx) -> u64 {
         view.contexts.place(context).entries
+    }
+
+    fn reads_places(&self) -> bool {
+        false
     }
 }
 
@@ -60,6 +76,10 @@ impl Pick for Brcount {
     fn key(&self, view: &FetchView, context: Ctx) -> u64 {
         view.contexts.place(context).guessed
     }
+
+    fn reads_places(&self) -> bool {
+        false
+    }
 }
 
 impl Pick for Misscount {
@@ -67,6 +87,10 @@ impl Pick for Misscount {
 
     fn key(&self, view: &FetchView, context: Ctx) -> u64 {
         view.contexts.place(context).missed_loads
+    }
+
+    fn reads_places(&self) -> bool {
+        false
     }
 }
 

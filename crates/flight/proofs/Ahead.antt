@@ -13,10 +13,6 @@ one-more e es = sum_by-cons (λ (f : Entry). cond (is_guessed f.operation) 1 0) 
 pub guesses-most : (r : ℕ) (es : List Entry) → guesses_ahead r es ≤ length es
 guesses-most r es = omega (arith, count_by-le-length (λ (e : Entry). is_guessed e.operation) (drop r es), length-drop r es)
 
--- past the end there is none
-pub guesses-end : (r : ℕ) (es : List Entry) → length es ≤ r → guesses_ahead r es ≡ 0
-guesses-end r es le = omega (arith, count_by-le-length (λ (e : Entry). is_guessed e.operation) (drop r es), length-drop r es)
-
 -- those from a place on are the one there and those from the next on
 pub guesses-next : (r : ℕ) (es : List Entry) → r < length es → guesses_ahead r es ≡ cond (is_guessed (entry_in es r).operation) 1 0 + guesses_ahead (r + 1) es
 guesses-next r [] lt = absurd (omega arith)
@@ -39,11 +35,6 @@ guesses-set (suc r) (suc i) (f ∷ es) e lt = guesses-set r i es e (omega arith)
 
 pub set-kept : (g r i : ℕ) (es fs : List Entry) (e : Entry) → g ≡ guesses_ahead r es → fs ≡ set es i e → i < r → g ≡ guesses_ahead r fs
 set-kept g r i es fs e is made lt = is ∙ sym (guesses-set r i es e lt) ∙ ap (guesses_ahead r) (sym made)
-
--- the first of them is renamed
-pub guesses-renamed : (r : ℕ) (es : List Entry) (e : Entry) → r < length es → is_guessed e.operation ≡ is_guessed (entry_in es r).operation → guesses_ahead r es ≡ cond (is_guessed e.operation) 1 0 + guesses_ahead (r + 1) (set es r e)
-guesses-renamed r es e lt same =
-    guesses-next r es lt ∙ ap (λ b. cond b 1 0 + guesses_ahead (r + 1) es) (sym same) ∙ ap (λ n. cond (is_guessed e.operation) 1 0 + n) (sym (guesses-set (r + 1) r es e (omega arith)))
 
 -- the oldest entry, which is renamed, leaves
 pub guesses-retired : (r : ℕ) (es : List Entry) → 0 < r → guesses_ahead (r - 1) (drop 1 es) ≡ guesses_ahead r es

@@ -8,7 +8,8 @@ ghost use Rattle.core_view.specs.declared.entry.Stage.TheVariants.{Fetched, Queu
 ghost use Rattle.core_view.specs.Events.{due_at};
 ghost use Rattle.core_view.specs.declared.entry.Entry.{Entry};
 ghost use Rattle.core_view.specs.declared.entry.Execution.{Execution};
-ghost use Rattle.flight.specs.Marked.{is_waiting, is_waiting_load, is_open_guess, is_missed_load, word_of};
+ghost use Rattle.core_view.specs.Flight.{is_open_guess, is_missed_load};
+ghost use Rattle.flight.specs.Marked.{is_waiting, is_waiting_load, word_of};
 ghost use Rattle.flight.specs.Flights.{entry_in, empty_flight, fetched_one, renamed_one, issued_one, finished_one, retired_one, none_left, cut_at, guesses_ahead, is_due, NoneFrom, IsNext};
 
 use crate::marks::Marks;
@@ -149,7 +150,12 @@ impl<A: Allocator> Flight<A> {
         requires issued { (entry_in self.old.entries place).stage ≡ Issued execution }
         ensures { self.new ≡ finished_one self.old place execution }
     {
-        let entry = at(&self.ring, place).completed(execution);
+        // What is written is what stands there, but for the stage's name and the followed pc.
+        let entry = *at(&self.ring, place);
+        let Stage::Issued { execution } = entry.stage else {
+            unreachable!();
+        };
+        let entry = entry.completed(execution);
         set_in(&mut self.ring, place, entry);
         self.marks.assign(place, &entry);
     }

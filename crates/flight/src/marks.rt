@@ -2,7 +2,8 @@
 
 ghost use Rattle.std.specs.Prelude.{◌≡◌, ◌&&◌, ◌<◌, ◌≤◌, List, [], ◌∷◌, ◌++◌, length, take, drop, slice_set};
 ghost use Rattle.core_view.specs.declared.entry.Entry.{Entry};
-ghost use Rattle.flight.specs.Marked.{marks_of, is_waiting, is_waiting_load, is_open_guess, is_missed_load, has_missed};
+ghost use Rattle.core_view.specs.Flight.{is_open_guess, is_missed_load, has_missed};
+ghost use Rattle.flight.specs.Marked.{marks_of, is_waiting, is_waiting_load};
 
 use bit_vector::{assign, first, push, without_first};
 use core_view::{Entry, Stage};

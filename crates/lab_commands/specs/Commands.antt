@@ -41,26 +41,26 @@ WritesBeginning request bytes old new =
     (new ≡ old)
     ⊎ ((refused : Option ℕ) × (output : List ℕ) × IsOutput request bytes refused output × AppendsBeginning old new output)
 
--- why a text has no listing: its own fault, or memory was wanted
+-- why a text has no listing: its own fault, or memory ran out
 abbrev pub IsListingRefusal : {A : Type 0} → List ℕ → Refusal A → Type 0
 IsListingRefusal text (Assembly fault) = assembled.IsRefusal (lines text) fault
 IsListingRefusal text OutOfMemory = ⊤
 IsListingRefusal text _ = ⊥
 
--- why a text has no block: its own fault, or memory was wanted, for a mark or else
+-- why a text has no block: its own fault, or memory ran out, for a mark or else
 abbrev pub IsStepRefusal : {A : Type 0} → List ℕ → Refusal A → Type 0
 IsStepRefusal text (Assembly fault) = assembled.IsRefusal (lines text) fault
 IsStepRefusal text (Mark fault) = fault ≡ marks.OutOfMemory
 IsStepRefusal text OutOfMemory = ⊤
 IsStepRefusal text _ = ⊥
 
--- memory was wanted, for a mark or else
+-- memory ran out, for a mark or else
 abbrev pub IsWantOfMarks : {A : Type 0} → Refusal A → Type 0
 IsWantOfMarks (Mark fault) = fault ≡ marks.OutOfMemory
 IsWantOfMarks OutOfMemory = ⊤
 IsWantOfMarks _ = ⊥
 
--- why a text has no report: its plan's own fault, or memory was wanted, for the plan, a mark or else
+-- why a text has no report: its plan's own fault, or memory ran out, for the plan, a mark or else
 abbrev pub IsRunRefusal : {A : Type 0} → List ℕ → Refusal A → Type 0
 IsRunRefusal text (Plan line) =
     (fault : PlanFault) × RefusesText (formed (parse_document text)) fault × (string_bytes line ≡ printed_name (fault_text fault))
@@ -75,7 +75,7 @@ IsTextRefusal (Asm _) text refusal = IsListingRefusal text refusal
 IsTextRefusal (Step _ _ _) text refusal = IsStepRefusal text refusal
 IsTextRefusal (Run _) text refusal = IsRunRefusal text refusal
 
--- why a source with these bytes left has no text: memory was wanted, or the source has failed, or the bytes are too many
+-- why a source with these bytes left has no text: memory ran out, or the source has failed, or the bytes are too many
 -- or no text
 abbrev pub IsUnreadable : {A : Type 0} → Bool → Option (List ℕ) → List ℕ → Refusal A → Type 0
 IsUnreadable failed left name OutOfMemory = ⊤
@@ -98,7 +98,7 @@ pub record DevicesAfter : Type 0 where
 abbrev pub IsRefusedText : {A : Type 0} → Request → Refusal A → List ℕ → Type 0
 IsRefusedText request refusal bytes = (length bytes ≤ file_limit) × IsUtf8 bytes × IsTextRefusal request bytes refusal
 
--- why a command refuses: memory was wanted, or its source has no text, or its sink has failed, or no device has failed
+-- why a command refuses: memory ran out, or its source has no text, or its sink has failed, or no device has failed
 -- and it is a job, of a report that was written, or the text
 abbrev pub IsRefusal : {A : Type 0} → Request → DevicesAfter → Refusal A → Type 0
 IsRefusal request d OutOfMemory = ⊤

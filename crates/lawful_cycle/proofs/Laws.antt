@@ -6,4 +6,4 @@ pub use Rattle.lawful_cycle.proofs.SameViews.{same_views, renamed_in, renamed_no
 -- a run goes on by a lawful cycle
 pub use Rattle.lawful_cycle.proofs.Chains.{run_next}
 -- a lawful cycle leaves nothing issued that was due before the next one
-pub use Rattle.lawful_cycle.proofs.Timing.{cycle_due}
+pub use Rattle.lawful_cycle.proofs.Timing.{cycle_timely}

@@ -8,7 +8,7 @@ pub mod Misses
 pub mod Chains
 pub mod UniqueComplete
 pub mod OneFirst
-pub mod Turns
+pub mod ListsInTurns
 pub mod UniqueRetire
 pub mod Stamped
 pub mod UniqueRename

@@ -12,7 +12,8 @@ use Rattle.core_view.specs.declared.note.Issue.{Issue}
 use Rattle.core_view.specs.Events.{with_flight}
 use Rattle.core_view.specs.View.{View, entry_at}
 use Rattle.lawful_cycle.specs.Views.{context_in, is_id}
-use Rattle.lawful_cycle.specs.Issue.{is_queued, is_ready_on, first_value, second_value, Place, entry_in, id_in, queue_view, IsReadyIn, IsNotAfter, issued_from, no_issue, no_place, IsIssue}
+use Rattle.core_view.specs.Flight.{is_queued}
+use Rattle.lawful_cycle.specs.Issue.{is_ready_on, first_value, second_value, Place, entry_in, id_in, queue_view, IsReadyIn, IsNotAfter, issued_from, no_issue, no_place, IsIssue}
 use Rattle.lawful_cycle.specs.Stamps.{flight_in, IsStamped}
 use Rattle.lawful_cycle.specs.SameAnswers.{HaveSameLags}
 use Rattle.lawful_cycle.proofs.SameViews.{same_changes}

@@ -10,14 +10,13 @@ use Rattle.data_tags.specs.declared.delay.Lag.{Lag}
 use Rattle.core_view.specs.declared.operation.Operation.{Operation}
 use Rattle.core_view.specs.declared.operation.Operation.TheVariants.{Performs, Stops}
 use Rattle.core_view.specs.declared.outcome.Outcome.{Outcome}
-use Rattle.core_view.specs.declared.entry.Stage.{Stage}
-use Rattle.core_view.specs.declared.entry.Stage.TheVariants.{Fetched, Queued, Issued, Done}
+use Rattle.core_view.specs.declared.entry.Stage.TheVariants.{Issued}
 use Rattle.core_view.specs.declared.entry.Entry.{Entry}
 use Rattle.core_view.specs.declared.note.EntryId.{EntryId}
 use Rattle.core_view.specs.declared.note.Issue.{Issue}
 use Rattle.core_view.specs.Operations.{is_guessed, first_source_of, second_source_of}
 use Rattle.core_view.specs.Outcomes.{image_of, outcome_in}
-use Rattle.core_view.specs.Flight.{is_done, source_value}
+use Rattle.core_view.specs.Flight.{is_queued, is_open_guess, source_value}
 use Rattle.core_view.specs.Loads.{may_issue}
 use Rattle.core_view.specs.Events.{with_flight, with_stage}
 use Rattle.core_view.specs.View.{Context, View, entry_at, seen_at}
@@ -35,12 +34,6 @@ first_value x i = source_value (seen_at x i).registers (first_source_of (operati
 
 abbrev pub second_value : Context → ℕ → Option ℕ
 second_value x i = source_value (seen_at x i).registers (second_source_of (operation_at_place x i))
-
-abbrev pub is_queued : Stage → Bool
-is_queued Fetched = false
-is_queued Queued = true
-is_queued (Issued execution) = false
-is_queued (Done execution) = false
 
 -- a load is clear after these entries, on the values of its sources
 abbrev pub is_clear_on : List Entry → Operation → ℕ → ℕ → ℕ → Bool
@@ -76,10 +69,6 @@ entry_in v p = entry_at (context_in v p.context) p.place
 
 abbrev pub id_in : View → Place → EntryId
 id_in v p = record { context = p.context; stamp = (entry_in v p).stamp }
-
--- an older guessed entry that hasn't completed
-abbrev pub is_open_guess : Entry → Bool
-is_open_guess e = is_guessed e.operation && not (is_done e.stage)
 
 -- what an order sees of it
 abbrev pub queue_view : View → Place → QueueView

@@ -1,5 +1,5 @@
-pub mod Ends
+pub mod DropBefore
 pub mod Replacing
 pub mod Scans
 pub mod Numbers
-pub mod Asked
+pub mod SeenByNewest

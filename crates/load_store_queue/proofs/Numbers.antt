@@ -1,15 +1,7 @@
 -- The number that bytes spell, byte by byte.
-use Rattle.std.proofs.Common.{◌≡◌, ℕ, zero, suc, ◌+◌, ◌-◌, ◌*◌, ◌%◌, ◌^◌, ◌<◌, ◌≤◌, refl, ap, sym, ◌∙◌, arith}
+use Rattle.std.proofs.Common.{◌≡◌, ℕ, zero, suc, ◌+◌, ◌-◌, ◌*◌, ◌%◌, ◌^◌, ◌<◌, ◌≤◌, refl, ap, ◌∙◌, arith}
 use Rattle.std.proofs.Math.Nat.{pow-le-pow_right}
 use Rattle.paged_memory.specs.Cells.{Cells, byte_at, number_at, IsByteMap}
-
--- the byte so far past an address, where there is one
-pub byte_read : (m : Cells) (a offset x byte : ℕ) → x ≡ a + offset → byte ≡ byte_at m x → byte ≡ byte_at m (a + offset)
-byte_read m a offset x byte at read = read ∙ ap (byte_at m) at
-
--- none is mapped past the last one
-pub none_past : (m : Cells) (x : ℕ) → IsByteMap m → 2 ^ 64 ≤ x → 0 ≡ byte_at m x
-none_past m x is past = sym (is.addressed x past)
 
 -- so many bytes spell a number below that power of 256
 number_below : (m : Cells) (a n : ℕ) → IsByteMap m → number_at (byte_at m) a n < 256 ^ n

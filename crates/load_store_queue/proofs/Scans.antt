@@ -10,7 +10,7 @@ use Rattle.core_view.specs.Loads.{passing}
 use Rattle.core_view.specs.Queues.{LoadSlot, StoreSlot, conflict_in, bytes_before, newest_in}
 use Rattle.reorder_buffer.specs.Growing.{IsGrowing}
 use Rattle.load_store_queue.specs.Queues.{load_stamp}
-use Rattle.load_store_queue.proofs.Ends.{drop_before}
+use Rattle.load_store_queue.proofs.DropBefore.{drop_before}
 
 -- ---- conflicts
 

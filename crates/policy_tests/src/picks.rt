@@ -105,3 +105,19 @@ fn counts_are_their_own(rt: HostRuntime) {
     let misscount = NamedPick::from(FetchPolicy::Misscount);
     assert!(rt; brcount.key(&view, first) == 2 && misscount.key(&view, first) == 1);
 }
+
+#[test]
+fn iqposn_alone_reads_places(rt: HostRuntime) {
+    assert!(rt; Iqposn.reads_places() && !RoundRobin.reads_places() && !Icount.reads_places());
+    assert!(rt; !Brcount.reads_places() && !Misscount.reads_places());
+    for policy in [
+        FetchPolicy::RoundRobin,
+        FetchPolicy::Icount,
+        FetchPolicy::Brcount,
+        FetchPolicy::Misscount,
+        FetchPolicy::Iqposn,
+    ] {
+        let reads = NamedPick::from(policy).reads_places();
+        assert!(rt; reads == (policy == FetchPolicy::Iqposn));
+    }
+}

@@ -3,5 +3,5 @@ pub mod Uses
 pub mod Banks
 pub mod Files
 pub mod Sources
-pub mod Calls
+pub mod FoundContext
 pub mod Starts

@@ -1,5 +1,5 @@
 use Rattle.std.proofs.Common.{◌≡◌, ◌+◌, ◌<◌, ◌∙◌, length, map, take, ap, sym, arith}
-use Rattle.lawful_cycle.specs.Issue.{is_open_guess}
+use Rattle.core_view.specs.Flight.{is_open_guess}
 use Rattle.core_context.specs.Queued.{settled}
 use Rattle.core_context.proofs.Settles.{settled_first, settled_queued, settled_other, settled_found, settled_end, closed_more}
 use Rattle.core_context.proofs.events.settle_speculation.Goals as goal

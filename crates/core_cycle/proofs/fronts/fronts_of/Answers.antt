@@ -11,12 +11,12 @@ loop-context-preserved g c =
     let item = get_or c.all-context-items.result c.loop-context.context-index c.context-item.result in
     let here = ap (λ (xs : List ℕ). get_or xs c.loop-context.context-index c.context-item.result) c.all-context-items.ensures ∙ nth_context c.loop-context.context-index c.context-item.result c.loop-context-test.true in
     let place : c.index.result ≡ c.loop-context.context-index = c.index.ensures.value ∙ here in
-    let asked = front_asked c.args.machine.now.view item c.renamable.result c.renamable.ensures.can c.renamable.ensures.none in
+    let asked = front_asked c.args.machine.now.view item c.front.result c.front.ensures.front c.front.ensures.none in
     let i = c.loop-context.invariant in
     let eight = i.eight in
     let last = c.loop-context-test.true in
     record {
-      below = subst (λ k. (d : ℕ) → d < c.loop-context.context-index + 1 → IsFront c.args.machine.now.view d (get_or (set c.loop-context.fronts k c.renamable.result) d None)) (sym place)
-          (one_more_front c.args.machine.now.view c.loop-context.fronts c.loop-context.context-index c.renamable.result i.below (omega (arith, eight, last)) (subst (λ k. IsFront c.args.machine.now.view k c.renamable.result) here asked));
-      eight = length-set c.loop-context.fronts c.index.result c.renamable.result ∙ eight;
+      below = subst (λ k. (d : ℕ) → d < c.loop-context.context-index + 1 → IsFront c.args.machine.now.view d (get_or (set c.loop-context.fronts k c.front.result) d None)) (sym place)
+          (one_more_front c.args.machine.now.view c.loop-context.fronts c.loop-context.context-index c.front.result i.below (omega (arith, eight, last)) (subst (λ k. IsFront c.args.machine.now.view k c.front.result) here asked));
+      eight = length-set c.loop-context.fronts c.index.result c.front.result ∙ eight;
     }

@@ -15,9 +15,9 @@ returns-in-Some-try_rename-clause-next g c =
 
 pub returns-in-Some-try_rename-clause-fronts : goal.returns-in-Some-try_rename-clause-fronts
 returns-in-Some-try_rename-clause-fronts g c =
-    let asked = front_asked c.try_rename.new.self.view c.in-Some.front.context c.renamable.result c.renamable.ensures.can c.renamable.ensures.none in
-    subst (λ k. AreFronts c.try_rename.new.self.view (set c.loop-front.fronts k c.renamable.result)) (sym c.index-place.ensures.value)
-    (fronts_renamed c.loop-front.machine c.try_rename.new.self c.in-Some.front.context c.in-Some-try_rename.stamp c.in-Some-try_rename.ensures.renamed c.loop-front.fronts c.renamable.result c.loop-front.invariant.fronts (front_within c.loop-front.fronts c.in-Some.front.context c.in-Some.front.stamp c.in-Some.ensures.front) asked)
+    let asked = front_asked c.try_rename.new.self.view c.in-Some.front.context c.front.result c.front.ensures.front c.front.ensures.none in
+    subst (λ k. AreFronts c.try_rename.new.self.view (set c.loop-front.fronts k c.front.result)) (sym c.index-place.ensures.value)
+    (fronts_renamed c.loop-front.machine c.try_rename.new.self c.in-Some.front.context c.in-Some-try_rename.stamp c.in-Some-try_rename.ensures.renamed c.loop-front.fronts c.front.result c.loop-front.invariant.fronts (front_within c.loop-front.fronts c.in-Some.front.context c.in-Some.front.stamp c.in-Some.ensures.front) asked)
 
 pub returns-clause-none : goal.returns-clause-none
 returns-clause-none g c = λ _. none_can c.loop-front.machine.view c.loop-front.fronts c.loop-front.invariant.fronts c.in_default.ensures

@@ -1,6 +1,6 @@
 use Rattle.std.proofs.Common.{◌∙◌, arith}
 use Rattle.std.proofs.lemmas.List.Sums.{count_by-le-length}
-use Rattle.lawful_cycle.specs.Issue.{is_queued}
+use Rattle.core_view.specs.Flight.{is_queued}
 use Rattle.core_back.specs.Machine.{context_at}
 use Rattle.core_context.proofs.Laws.{waiting_number}
 use Rattle.core_back.proofs.Renamable.{flight_most, idle_waiting}

@@ -3,8 +3,8 @@ use Rattle.rv64_decode.specs.declared.insn.Insn.{Insn}
 use Rattle.core_view.specs.View.{Context}
 use Rattle.lawful_cycle.specs.Fetch.{IsFetch}
 use Rattle.lawful_cycle.specs.Cycle.{IsLawfulCycle, laws_of}
-use Rattle.lawful_cycle.specs.Timing.{AreDueFrom}
-use Rattle.lawful_cycle.proofs.Laws.{cycle_due}
+use Rattle.lawful_cycle.specs.Timing.{AreTimely}
+use Rattle.lawful_cycle.proofs.Laws.{cycle_timely}
 use Rattle.core_back.specs.Machine.{Machine, context_at}
 use Rattle.core_cycle.proofs.Whole.{in_flight_is}
 use Rattle.core_cycle.proofs.contexts.Contexts.cycle.Goals as goal
@@ -40,11 +40,11 @@ returns-clause-lawful g c =
       cut = omega (arith, c.retire-dropped.ensures.dropped, c.complete-completion.ensures.cut, in_flight_is c.self.inside.machine count_before, in_flight_is c.complete-completion.new.machine count_after);
     })
 
-pub returns-clause-due : goal.returns-clause-due
-returns-clause-due g c =
-    let before : AreDueFrom c.args.self.now.view.cycle c.args.self.now.view = subst (λ (m : Machine). AreDueFrom m.view.cycle m.view) c.self.view_is c.self.invariant.2 in
-    cycle_due (laws_of (g.P.Pick.key_of c.args.pick.now) (g.O.Order.key_of c.args.order.now) (g.G.Guess.may_answer c.args.guess.now) (g.D.Delay.may_answer c.args.delay.now)) c.args.self.now.view _ _
+pub returns-clause-timely : goal.returns-clause-timely
+returns-clause-timely g c =
+    let before : AreTimely c.args.self.now.view.cycle c.args.self.now.view = subst (λ (m : Machine). AreTimely m.view.cycle m.view) c.self.view_is c.self.invariant.2 in
+    cycle_timely (laws_of (g.P.Pick.key_of c.args.pick.now) (g.O.Order.key_of c.args.order.now) (g.G.Guess.may_answer c.args.guess.now) (g.D.Delay.may_answer c.args.delay.now)) c.args.self.now.view _ _
     (λ d k a l may. (g.met.D.Delay.all_within c.args.delay.now d k a l may).least) (returns-clause-lawful g c) before
 
 pub invariant_of-self : goal.invariant_of-self
-invariant_of-self g c = (ap (λ (m : Machine). m.names) c.tick.ensures.next ∙ c.fetch.ensures.idle, ap (λ (m : Machine). m.fetch_room) c.tick.ensures.next, returns-clause-due g c)
+invariant_of-self g c = (ap (λ (m : Machine). m.names) c.tick.ensures.next ∙ c.fetch.ensures.idle, ap (λ (m : Machine). m.fetch_room) c.tick.ensures.next, returns-clause-timely g c)

@@ -1,6 +1,6 @@
 use Rattle.std.proofs.Common.{arith, ap, sym, ◌∙◌}
 use Rattle.std.specs.Option.{option_copied, option_map}
-use Rattle.data_flow.proofs.Calls.{stamp_of}
+use Rattle.data_flow.proofs.LaneEvents.{stamp_of}
 use Rattle.data_flow.proofs.Places.{here, eight}
 use Rattle.data_flow.proofs.Cuts.{last_stamp}
 use Rattle.data_flow.proofs.data_flow.DataFlow.newest_stamp.Goals as goal

@@ -1,6 +1,6 @@
 use Rattle.std.proofs.Common.{ap, arith}
 use Rattle.flight.specs.declared.marks.Marks.{Marks}
-use Rattle.flight.specs.Marked.{is_open_guess}
+use Rattle.core_view.specs.Flight.{is_open_guess}
 use Rattle.flight.proofs.Words.{bit-clear, bit-set}
 use Rattle.flight.proofs.flight.Flight.first_open_guess.Goals as goal
 

@@ -1,7 +1,7 @@
 use Rattle.std.proofs.Common.{take, ap, ◌∙◌, not, nat_eq}
 use Rattle.std.specs.List.{list_any}
 use Rattle.flight.specs.declared.marks.Marks.{Marks}
-use Rattle.flight.specs.Marked.{is_open_guess}
+use Rattle.core_view.specs.Flight.{is_open_guess}
 use Rattle.flight.specs.Flights.{Flight}
 use Rattle.flight.proofs.Words.{none-set}
 use Rattle.flight.proofs.flight.Flight.has_open_guess.Goals as goal

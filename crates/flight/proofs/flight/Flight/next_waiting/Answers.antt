@@ -1,6 +1,7 @@
 use Rattle.std.proofs.Common.{ap}
 use Rattle.flight.specs.declared.marks.Marks.{Marks}
-use Rattle.flight.specs.Marked.{is_waiting, is_queued}
+use Rattle.core_view.specs.Flight.{is_queued}
+use Rattle.flight.specs.Marked.{is_waiting}
 use Rattle.flight.proofs.flight.Flight.next_waiting.Goals as goal
 
 pub returns-clause-next : goal.returns-clause-next

@@ -1,7 +1,8 @@
 use Rattle.std.proofs.Common.{ap, ◌&&◌}
 use Rattle.core_view.specs.Operations.{is_load}
 use Rattle.flight.specs.declared.marks.Marks.{Marks}
-use Rattle.flight.specs.Marked.{is_waiting_load, is_queued}
+use Rattle.core_view.specs.Flight.{is_queued}
+use Rattle.flight.specs.Marked.{is_waiting_load}
 use Rattle.flight.proofs.flight.Flight.next_waiting_load.Goals as goal
 
 pub returns-clause-next : goal.returns-clause-next

@@ -1,6 +1,7 @@
 use Rattle.std.proofs.Common.{ap}
 use Rattle.flight.specs.declared.marks.Marks.{Marks}
-use Rattle.flight.specs.Marked.{is_waiting, is_waiting_load, is_open_guess, is_missed_load}
+use Rattle.core_view.specs.Flight.{is_open_guess, is_missed_load}
+use Rattle.flight.specs.Marked.{is_waiting, is_waiting_load}
 use Rattle.flight.proofs.Words.{four, word-take}
 use Rattle.flight.proofs.marks.Marks.keep.Goals as goal
 

@@ -4,7 +4,7 @@ use Rattle.core_view.specs.Spans.{covers, shares, part_of}
 use Rattle.core_view.specs.Outcomes.{load_span}
 use Rattle.core_view.specs.Queues.{newest_in}
 use Rattle.load_store_queue.specs.Queues.{Queues}
-use Rattle.load_store_queue.proofs.Asked.{seen_in_memory, seen_in_store, not_clear}
+use Rattle.load_store_queue.proofs.SeenByNewest.{seen_in_memory, seen_in_store, not_clear}
 use Rattle.load_store_queue.proofs.load_store_queue.LoadStoreQueue.ask_load.Goals as goal
 
 pub returns-in_default-clause-seen : goal.returns-in_default-clause-seen

@@ -2,7 +2,7 @@ use Rattle.std.proofs.Common.{rules, ◌≡◌, ◌<◌, ◌++◌, ◌∷◌, []
 use Rattle.circular_buffer.specs.Buffer.{buffer}
 use Rattle.rename_file.specs.Shown.{shown}
 use Rattle.rename_file.proofs.Files.{has_room}
-use Rattle.rename_file.proofs.Calls.{found, committed_file}
+use Rattle.rename_file.proofs.FoundContext.{found, committed_file}
 use Rattle.rename_file.proofs.registers.Registers.commit.Goals as goal
 
 pub invariant_of-self : goal.invariant_of-self

@@ -1,6 +1,6 @@
 use Rattle.std.proofs.Common.{arith}
 use Rattle.rename_file.specs.Shown.{shown}
-use Rattle.rename_file.proofs.Calls.{found, committed_found}
+use Rattle.rename_file.proofs.FoundContext.{found, committed_found}
 use Rattle.rename_file.proofs.registers.Registers.committed.Goals as goal
 
 pub index-requires-3 : goal.index-requires-3

@@ -4,7 +4,7 @@ use Rattle.std.proofs.lemmas.Option.{slice_get_within}
 use Rattle.rename_file.specs.Shown.{shown}
 use Rattle.rename_file.proofs.Uses.{first_free}
 use Rattle.rename_file.proofs.Files.{first_above}
-use Rattle.rename_file.proofs.Calls.{found, renamed_file, room_found}
+use Rattle.rename_file.proofs.FoundContext.{found, renamed_file, room_found}
 use Rattle.rename_file.proofs.registers.Registers.rename.Goals as goal
 
 pub index_mut-requires : goal.index_mut-requires

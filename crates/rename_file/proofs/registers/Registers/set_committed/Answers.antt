@@ -1,7 +1,7 @@
 use Rattle.std.proofs.Common.{arith}
 use Rattle.rename_file.specs.Shown.{shown}
 use Rattle.rename_file.proofs.Files.{IsFile-written}
-use Rattle.rename_file.proofs.Calls.{found, committed_found}
+use Rattle.rename_file.proofs.FoundContext.{found, committed_found}
 use Rattle.std.proofs.lemmas.List.{length-set}
 use Rattle.rename_file.proofs.registers.Registers.set_committed.Goals as goal
 

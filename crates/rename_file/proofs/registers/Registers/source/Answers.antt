@@ -1,6 +1,6 @@
 use Rattle.std.proofs.Common.{arith}
 use Rattle.rename_file.specs.Shown.{shown}
-use Rattle.rename_file.proofs.Calls.{found, source_found}
+use Rattle.rename_file.proofs.FoundContext.{found, source_found}
 use Rattle.rename_file.proofs.registers.Registers.source.Goals as goal
 
 pub returns-clause-newest : goal.returns-clause-newest
