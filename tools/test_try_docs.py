@@ -74,9 +74,9 @@ class Documents(unittest.TestCase):
 
     def test_names_and_paths(self) -> None:
         command = block("$ ./smt-lab a", "a")
-        for known in ("echo", "examples/one.s", "one.s", "examples/", "examples/one", "echo::word", "a + b"):
+        for known in ("echo", "examples/one.s", "./examples/one.s", "one.s", "examples/", "examples/one", "echo::word", "a + b"):
             self.assertEqual(tried(command + f"\n`{known}`\n")[0], 0, known)
-        for unknown in ("ecko", "examples/two.s", "two.s", "echo::wort"):
+        for unknown in ("ecko", "examples/two.s", "./two.s", "two.s", "echo::wort"):
             status, said = tried(command + f"\n`{unknown}`\n")
             self.assertEqual(status, 1, unknown)
             self.assertTrue(said.startswith(f"README.md:7: there is no {unknown}\n"), said)

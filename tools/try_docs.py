@@ -121,7 +121,7 @@ class Names:
         if it in ELSEWHERE:
             return True
         if PATH.fullmatch(it):
-            return it.rstrip("/") in self.paths or os.path.exists(os.path.join(place, it))
+            return os.path.normpath(it) in self.paths or os.path.exists(os.path.join(place, it))
         return not NAME.fullmatch(it) or all(part in self.words for part in re.split(r"::|\.", it))
 
 
