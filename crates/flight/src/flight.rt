@@ -158,6 +158,7 @@ impl<A: Allocator> Flight<A> {
         let entry = entry.completed(execution);
         set_in(&mut self.ring, place, entry);
         self.marks.assign(place, &entry);
+        self.clear_hint(execution.due, place);
     }
 
     /// The oldest entry leaves.
