@@ -86,14 +86,7 @@ selected_place {t = t} core k h =
     let q = p.1 in
     (p.0, record { within = q.within; renamed = queued_renamed core p.0 q.within q.stage; stamp = q.stamp; stage = q.stage })
 
--- it is in the flight
-pub selected_known : {start : State} {stamp reorder c : ℕ} {f : Flow} {names : List EntryId} {t : Track} → IsCore start stamp reorder f names c t → (k : ℕ) → is_selected names c k ≡ true → list_any (λ e. e.stamp == k) t.context.flight ≡ true
-selected_known {t = t} core k h =
-    let p = selected_place core k h in
-    let q = p.1 in
-    list_any_at (λ e. e.stamp == k) t.context.flight p.0 no_entry q.within (eq-eqb (entry_at t.context p.0).stamp k q.stamp)
-
--- and at no other place than the one with its stamp
+-- there is no other place with its stamp
 pub selected_at : {start : State} {stamp reorder c : ℕ} {f : Flow} {names : List EntryId} {t : Track} → IsCore start stamp reorder f names c t → (k i : ℕ) → is_selected names c k ≡ true → i < length t.context.flight → (entry_at t.context i).stamp ≡ k
     → IsSelectedPlace t k i
 selected_at {t = t} core k i h lt is =

@@ -7,7 +7,7 @@ pub use Rattle.core_context.proofs.OtherContexts.{left_core, other_core}
 -- its data flow has its renamed entries, with the values of their sources
 pub use Rattle.core_context.proofs.SourcesSeen.{node_count, operands_at, sources_are}
 -- its queues of loads and stores answer what the flight says, and what was selected is known there
-pub use Rattle.core_context.proofs.Issues.{core_answered, core_sources, queued_renamed, selected_at, selected_known}
+pub use Rattle.core_context.proofs.Issues.{core_answered, core_sources, queued_renamed, selected_at}
 -- an entry of it issues, or of another context
 pub use Rattle.core_context.proofs.Issues.{issue_core, issue_other}
 -- the oldest entry, where it is done

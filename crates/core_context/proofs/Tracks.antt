@@ -1,10 +1,10 @@
 -- What the loops over a flight find, what its ring leaves, and what an entry squashes as it completes.
 use Rattle.std.proofs.Common.{◌≡◌, ◌≢◌, ℕ, suc, ◌+◌, ◌-◌, ◌<◌, ◌≤◌, Bool, true, false, cond, List, [], ◌∷◌, length, get_or, take, drop, slice_get, Option, Some, None, refl, sym, ap, subst, ◌∙◌, arith, add-one, length-take, length-drop, inl, inr}
-use Rattle.std.specs.Prelude.{set, nat_lt, not, min, find, option_map, if◌then◌else◌}
+use Rattle.std.specs.Prelude.{set, nat_lt, not, min, find, option_map, if◌then◌else◌, ◌==◌, ◌&&◌}
 use Rattle.std.specs.List.{list_any}
-use Rattle.std.proofs.lemmas.Bool.{cases_eq, lt-ltb, le-ltb, ltb-true, ltb-false}
-use Rattle.std.proofs.lemmas.List.{nil_from_length, take_all, length-set, get_or-drop, get_or-set_other}
-use Rattle.std.proofs.lemmas.List.Folds.{list_any_more, list_any_at}
+use Rattle.std.proofs.lemmas.Bool.{cases_eq, cases_lt, eq-eqb, lt-ltb, le-ltb, ltb-true, ltb-false}
+use Rattle.std.proofs.lemmas.List.{nil_from_length, take_all, length-set, get_or-drop, get_or-set_other, get_or_default}
+use Rattle.std.proofs.lemmas.List.Folds.{list_any_none, list_any_at}
 use Rattle.std.proofs.lemmas.Option.{get_or_from_slice_get, slice_get-get_or, slice_get_cases, slice_get_within, none-some}
 use Rattle.circular_buffer.specs.Buffer.{last_item}
 use Rattle.reorder_buffer.specs.Growing.{IsGrowing as IsRising, below}
@@ -20,7 +20,7 @@ use Rattle.core_view.specs.declared.entry.Stage.TheVariants.{Issued, Done}
 use Rattle.core_view.specs.declared.entry.Entry.{Entry}
 use Rattle.core_view.specs.Operations.{stops_at_fetch, is_store}
 use Rattle.core_view.specs.Outcomes.{Image, bytes_written}
-use Rattle.core_view.specs.Flight.{Seen, seen_past, pc_past, is_open, span_read, bytes_in, touches, clean_length, HasOutcome, IsSoundEntry, IsSound}
+use Rattle.core_view.specs.Flight.{is_queued, Seen, seen_past, pc_past, is_open, span_read, bytes_in, touches, clean_length, HasOutcome, IsSoundEntry, IsSound}
 use Rattle.core_view.specs.Events.{is_mispredicted, kept_length, completed_entry, complete_in}
 use Rattle.core_view.specs.Queues.{loads_of, conflict_in, conflict_of}
 use Rattle.core_view.specs.View.{no_entry}
@@ -29,8 +29,12 @@ use Rattle.core_view.proofs.Accesses.{store_predicted}
 use Rattle.core_view.proofs.Queues.{queue_conflict}
 use Rattle.core_view.proofs.RingForm.{complete_take}
 use Rattle.core_view.proofs.Sound.{sound_at}
+use Rattle.flight.specs.Flights.{NoneFrom, IsNext}
+use Rattle.flight.specs.Marked.{is_waiting}
+use Rattle.core_context.specs.Queued.{queued_at}
 use Rattle.core_context.specs.Track.{Track, left_by, cut_stamp, finished, cut_at, completed}
 use Rattle.core_context.proofs.QueueSlots.{growing_whole}
+use Rattle.core_context.proofs.Waiting.{and_none}
 
 -- ---- an entry at a place
 
@@ -83,20 +87,34 @@ open_some es e is =
 pub none_last : (es : List Entry) → last_item es ≡ None → es ≡ []
 none_last es is = let le : length es ≤ length es - 1 = past es (length es - 1) is in nil_from_length es (omega (arith, le))
 
--- ---- a search from the oldest entry on
+-- ---- the queued entry of a stamp
 
-module _ (test : Entry → Bool) where
-  -- the entry at i doesn't pass either
-  pub none_more : (es : List Entry) (i : ℕ) (e : Entry) → slice_get es i ≡ Some e → list_any test (take i es) ≡ false → test e ≡ false → list_any test (take (i + 1) es) ≡ false
-  none_more es i e is none not_here = rw (list_any_more test es i e (within es i e is), none, get_or_from_slice_get es i e e is, not_here) refl
+abbrev pub is_queued_of : ℕ → Entry → Bool
+is_queued_of k e = (e.stamp == k) && is_queued e.stage
 
-  -- the entry at i passes
-  pub some_at : (es : List Entry) (i : ℕ) (e : Entry) → slice_get es i ≡ Some e → test e ≡ true → list_any test es ≡ true
-  some_at es i e is here = list_any_at test es i e (within es i e is) (ap test (get_or_from_slice_get es i e e is) ∙ here)
+-- it is the one at a place
+pub queued_here : (k : ℕ) (es : List Entry) (i : ℕ) (e : Entry) → slice_get es i ≡ Some e → is_queued (get_or es i no_entry).stage ≡ true → e.stamp ≡ k → queued_at k es ≡ true
+queued_here k es i e read queued is =
+    list_any_at (is_queued_of k) es i no_entry (within es i e read) (rw (eq-eqb (get_or es i no_entry).stamp k (ap (λ (x : Entry). x.stamp) (get_or_from_slice_get es i e no_entry read) ∙ is), queued) refl)
 
-  -- none of all
-  pub none_all : (es : List Entry) (n : ℕ) → length es ≤ n → list_any test (take n es) ≡ false → list_any test es ≡ false
-  none_all es n le none = ap (list_any test) (sym (take_all n es le)) ∙ none
+-- it is none up to the next queued entry, which has another stamp
+pub none_up_to : (k : ℕ) (es : List Entry) (from place : ℕ) (e : Entry) → ((i : ℕ) → i < from → is_queued_of k (get_or es i no_entry) ≡ false) → IsNext is_waiting es from place → slice_get es place ≡ Some e → (e.stamp == k) ≡ false
+    → (i : ℕ) → i < place + 1 → is_queued_of k (get_or es i no_entry) ≡ false
+none_up_to k es from place e before next read other i lt =
+    elim (cases_lt i from) [
+      | inl below ↦ before i below
+      | inr after ↦ elim (cases_lt i place) [
+        | inl below ↦ rw (next.first i after below) (and_none ((get_or es i no_entry).stamp == k))
+        | inr past ↦ let here : i ≡ place = omega (arith, lt, past) in rw (here, get_or_from_slice_get es place e no_entry read, other) refl
+      ]
+    ]
+
+-- it is none of all
+pub none_queued : (k : ℕ) (es : List Entry) (from : ℕ) → ((i : ℕ) → i < from → is_queued_of k (get_or es i no_entry) ≡ false) → NoneFrom is_waiting es from → queued_at k es ≡ false
+none_queued k es from before after = list_any_none (is_queued_of k) es (λ i d lt. ap (is_queued_of k) (get_or_default es i d no_entry lt) ∙ none i)
+  where
+    none : (i : ℕ) → is_queued_of k (get_or es i no_entry) ≡ false
+    none i = elim (cases_lt i from) [ inl below ↦ before i below | inr past ↦ rw (after i past) (and_none ((get_or es i no_entry).stamp == k)) ]
 
 -- ---- squashes
 
