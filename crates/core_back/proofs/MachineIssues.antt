@@ -75,7 +75,7 @@ issued_clear_in f ts c t i x n lt track stage clear = by_context (n.context == c
 module _ {A : Type 0} where
   -- the first name, and what is known of the entry that it stands for
   pub record IsFirstName (m : Inside A) (now : Machine) (n : EntryId) (rest : List EntryId) (t : Track) : Type 0 where
-    pub names : m.selected.items ≡ n ∷ rest
+    pub names : m.selected ≡ n ∷ rest
     pub shown : At m now n.context t
     pub core : IsCore (start (arc_value m.origins.c0) n.context) m.stamp m.profile.reorder_buffer m.flow (n ∷ rest) n.context t
     pub selected : is_selected (n ∷ rest) n.context n.stamp ≡ true
@@ -84,11 +84,11 @@ module _ {A : Type 0} where
     pub supplied : IsSuppliedIn m.flow n
     pub clear : IsClear m.flow n.context t n.stamp
 
-  pub first_name : (m : Inside A) (now : Machine) (n : EntryId) (k : ℕ) (t : Track) → machine_of m ≡ now → IsMachine m → 0 < length m.selected.items → n ≡ get_or m.selected.items 0 n → n.context < 8 → k ≡ n.context → t ≡ get_or m.tracks.items k t
-      → IsFirstName m now n (drop 1 m.selected.items) t
+  pub first_name : (m : Inside A) (now : Machine) (n : EntryId) (k : ℕ) (t : Track) → machine_of m ≡ now → IsMachine m → 0 < length m.selected → n ≡ get_or m.selected 0 n → n.context < 8 → k ≡ n.context → t ≡ get_or m.tracks.items k t
+      → IsFirstName m now n (drop 1 m.selected) t
   first_name m now n k t shows ok some is lt same read =
-      let rest = drop 1 m.selected.items in
-      let names : m.selected.items ≡ n ∷ rest = first_and_rest m.selected.items n some is in
+      let rest = drop 1 m.selected in
+      let names : m.selected ≡ n ∷ rest = first_and_rest m.selected n some is in
       let h = at_context m now n.context k t shows ok lt same read in
       record {
         names = names;
@@ -116,7 +116,7 @@ module _ {A : Type 0} where
       issue_core h.core i x values.0 values.1 h.other lt is place.stage (sym read ∙ some) (first_clear m now n rest t h i values sources lt is read some) outcome
 
   -- after the entry of a name has issued, each context is a core
-  issued_cores : (m : Inside A) (n : EntryId) (rest : List EntryId) (u : Track) → IsMachine m → m.selected.items ≡ n ∷ rest → n.context < 8
+  issued_cores : (m : Inside A) (n : EntryId) (rest : List EntryId) (u : Track) → IsMachine m → m.selected ≡ n ∷ rest → n.context < 8
       → IsCore (start (arc_value m.origins.c0) n.context) m.stamp m.profile.reorder_buffer m.flow rest n.context u
       → (d : ℕ) → d < 8 → IsCore (start (arc_value m.origins.c0) d) m.stamp m.profile.reorder_buffer m.flow rest d (get_or (set m.tracks.items n.context u) d no_track)
   issued_cores m n rest u ok names lt core d lt-d = by_context (d == n.context) refl
@@ -137,9 +137,9 @@ module _ {A : Type 0} where
   -- the machine after the entry of the first name has issued
   pub issued_machine : (m w : Inside A) (now : Machine) (n : EntryId) (k : ℕ) (rest : List EntryId) (t : Track) (i : ℕ) (x : Execution) → IsMachine m → IsFirstName m now n rest t → n.context < 8 → i < length t.context.flight → (entry_at t.context i).stamp ≡ n.stamp
       → IsCore (start (arc_value m.origins.c0) n.context) m.stamp m.profile.reorder_buffer m.flow rest n.context (issued t i x)
-      → k ≡ n.context → w.origins ≡ m.origins → w.flow ≡ m.flow → w.tracks.items ≡ set m.tracks.items k (issued t i x) → w.selected.items ≡ rest → w.cycle ≡ m.cycle → w.stamp ≡ m.stamp → w.fetch_room ≡ m.fetch_room → w.profile ≡ m.profile → w.holds ≡ m.holds → IsMachine w
+      → k ≡ n.context → w.origins ≡ m.origins → w.flow ≡ m.flow → w.tracks.items ≡ set m.tracks.items k (issued t i x) → w.selected ≡ rest → w.cycle ≡ m.cycle → w.stamp ≡ m.stamp → w.fetch_room ≡ m.fetch_room → w.profile ≡ m.profile → w.holds ≡ m.holds → IsMachine w
   issued_machine m w now n k rest t i x ok h lt within is core same origins flow tracks_k selected cycle stamp room profile holds =
-      let names : m.selected.items ≡ n ∷ rest = h.names in
+      let names : m.selected ≡ n ∷ rest = h.names in
       let u : Track = issued t i x in
       let stage = (ready_place h.core n.stamp i h.selected h.supplied within is).stage in
       let tracks : w.tracks.items ≡ set m.tracks.items n.context u = tracks_k ∙ ap (λ i. set m.tracks.items i u) same in
@@ -306,7 +306,7 @@ module _ {A : Type 0} where
   -- the machine after a selection among what isn't held
   pub selected_machine : (m h w : Inside A) (now : Machine) (n : ℕ) {key : Waiting → ℕ} {width : ℕ} {names : List EntryId} → machine_of m ≡ now → IsMachine m → now.names ≡ [] → IsHeldTo m h n → 8 ≤ n
       → w.flow ≡ record h.flow { waiters = w.flow.waiters } → IsSelected key width (queued h.flow) (queued w.flow) names
-      → w.origins ≡ h.origins → w.tracks ≡ h.tracks → w.selected.items ≡ names → w.cycle ≡ h.cycle → w.stamp ≡ h.stamp → w.fetch_room ≡ h.fetch_room → w.profile ≡ h.profile → w.holds ≡ h.holds → IsMachine w
+      → w.origins ≡ h.origins → w.tracks ≡ h.tracks → w.selected ≡ names → w.cycle ≡ h.cycle → w.stamp ≡ h.stamp → w.fetch_room ≡ h.fetch_room → w.profile ≡ h.profile → w.holds ≡ h.holds → IsMachine w
   selected_machine m h w now n {names = names} shows ok idle so_far all same s origins tracks selected cycle stamp room profile holds =
       let origins_m : w.origins ≡ m.origins = origins ∙ so_far.origins in
       let tracks_m : w.tracks.items ≡ m.tracks.items = ap (λ v. v.items) tracks ∙ so_far.tracks in

@@ -39,7 +39,7 @@ module _ {A : Type 0} where
     pub in_lanes : c < length m.flow.lanes
     pub in_tracks : c < length m.tracks.items
     pub track : t ≡ get_or m.tracks.items c no_track
-    pub core : IsCore (start (arc_value m.origins.c0) c) m.stamp m.profile.reorder_buffer m.flow m.selected.items c t
+    pub core : IsCore (start (arc_value m.origins.c0) c) m.stamp m.profile.reorder_buffer m.flow m.selected c t
     pub context : t.context ≡ context_at now c
 
   pub at_context : (m : Inside A) (now : Machine) (c k : ℕ) (t : Track) → machine_of m ≡ now → IsMachine m → c < 8 → k ≡ c → t ≡ get_or m.tracks.items k t → At m now c t
@@ -65,7 +65,7 @@ module _ {A : Type 0} where
       (subst (λ x. IsLive (start (arc_value m.origins.c0) c) m.stamp x) at_c.context at_c.core.live))
 
   -- nothing was selected
-  pub idle_names : (m : Inside A) (now : Machine) → machine_of m ≡ now → now.names ≡ [] → m.selected.items ≡ []
+  pub idle_names : (m : Inside A) (now : Machine) → machine_of m ≡ now → now.names ≡ [] → m.selected ≡ []
   idle_names m now shows idle = ap (λ (v : Machine). v.names) shows ∙ idle
 
   pub idle_core : (m : Inside A) (now : Machine) (c : ℕ) (t : Track) → machine_of m ≡ now → now.names ≡ [] → At m now c t → IsCore (start (arc_value m.origins.c0) c) m.stamp m.profile.reorder_buffer m.flow [] c t
@@ -135,7 +135,7 @@ module _ {A : Type 0} where
       → (let v : Machine = record {
         origin = arc_value m.origins.c0;
         view = record { profile = m.profile; cycle = m.cycle; stamp = m.stamp; contexts = map (λ (t : Track). t.context) (set m.tracks.items k u) };
-        names = m.selected.items;
+        names = m.selected;
         fetch_room = m.fetch_room;
       } in v) ≡ with_context now c x
   shown_after m now c k u x shows same context = rw (same, map-set (λ (t : Track). t.context) m.tracks.items c u, context, ← shows) refl
@@ -145,7 +145,7 @@ module _ {A : Type 0} where
       → (let v : Machine = record {
         origin = arc_value m.origins.c0;
         view = record { profile = m.profile; cycle = m.cycle; stamp = m.stamp; contexts = map (λ (t : Track). t.context) (set m.tracks.items k u) };
-        names = m.selected.items;
+        names = m.selected;
         fetch_room = m.fetch_room;
       } in v) ≡ now
   shown_same m now c k u shows same context = shown_after m now c k u (context_at now c) shows same context ∙ ap (with_contexts now) (set-get_or now.view.contexts c no_context)
@@ -201,7 +201,7 @@ module _ {A : Type 0} where
       → (let v : Machine = record {
         origin = arc_value m.origins.c0;
         view = record { profile = m.profile; cycle = m.cycle; stamp = m.stamp + 1; contexts = map (λ (t : Track). t.context) (set m.tracks.items k u) };
-        names = m.selected.items;
+        names = m.selected;
         fetch_room = room;
       } in v) ≡ with_fetched now c x
   shown_fetched m now c k u x room shows same context rooms = rw (same, map-set (λ (t : Track). t.context) m.tracks.items c u, context, rooms, ← shows) refl

@@ -125,12 +125,24 @@ module _ {A : Type 0} where
       ∙ sym (renamed_first (λ e. not (destination_of e.operation == 0)) t.renamed t.context.flight core.are_renamed core.are_fetched)
       ∙ ap (λ (x : Context). count_by has_register x.flight) (track_flight m now c shows ok lt))
 
-  -- the places that there are, and those that are taken
-  pub record IsCounted (m : Inside A) (now : Machine) (c : ℕ) (t : Track) : Type 0 where
+  -- the oldest fetched entry of a context is the first that its track has not renamed
+  pub record HasOldest (m : Inside A) (now : Machine) (c : ℕ) (t : Track) : Type 0 where
     pub profile : m.profile ≡ now.view.profile
     pub cycle : m.cycle ≡ now.view.cycle
     pub context : t.context ≡ context_at now c
     pub oldest : oldest_fetched (context_at now c) ≡ slice_get t.context.flight t.renamed
+
+  pub has_oldest : (m : Inside A) (now : Machine) (c : ℕ) (t : Track) → machine_of m ≡ now → At m now c t → HasOldest m now c t
+  has_oldest m now c t shows h = record {
+    profile = ap (λ (v : Machine). v.view.profile) shows;
+    cycle = ap (λ (v : Machine). v.view.cycle) shows;
+    context = h.context;
+    oldest = ap (λ (x : Context). oldest_fetched x) (sym h.context) ∙ oldest_is t.renamed t.context.flight h.core.are_renamed h.core.are_fetched;
+  }
+
+  -- and the places that there are, and those that are taken
+  pub record IsCounted (m : Inside A) (now : Machine) (c : ℕ) (t : Track) : Type 0 where
+    pub front : HasOldest m now c t
     pub reorder : renamed_by (λ e. true) (context_at now c).flight ≡ t.renamed
     pub queue : of_all (λ e. is_queued e.stage) now.view ≡ length m.flow.waiters
     pub queue_places : m.flow.places ≡ m.profile.issue_queue
@@ -145,10 +157,7 @@ module _ {A : Type 0} where
   is_counted m now c t shows ok idle lt h =
       let core = h.core in
       record {
-        profile = ap (λ (v : Machine). v.view.profile) shows;
-        cycle = ap (λ (v : Machine). v.view.cycle) shows;
-        context = h.context;
-        oldest = ap (λ (x : Context). oldest_fetched x) (sym h.context) ∙ oldest_is t.renamed t.context.flight core.are_renamed core.are_fetched;
+        front = has_oldest m now c t shows h;
         reorder = ap (λ (x : Context). renamed_by (λ e. true) x.flight) (sym h.context) ∙ renamed_number t.renamed t.context.flight core.within core.are_renamed core.are_fetched;
         queue = sym (all_waiting m now shows ok idle);
         queue_places = ok.room.waiters;
@@ -163,12 +172,12 @@ module _ {A : Type 0} where
   -- an entry that its parts let be renamed can be
   pub can_rename : (m : Inside A) (now : Machine) (c : ℕ) (t : Track) (stamp : ℕ) → c < 8 → IsCounted m now c t → IsRenamable m.flow t m.profile m.cycle stamp → CanRename now.view c (entry_at (context_at now c) t.renamed)
   can_rename m now c t stamp lt h r =
-      let here : entry_at t.context t.renamed ≡ entry_at (context_at now c) t.renamed = ap (λ (x : Context). entry_at x t.renamed) h.context in
+      let here : entry_at t.context t.renamed ≡ entry_at (context_at now c) t.renamed = ap (λ (x : Context). entry_at x t.renamed) h.front.context in
       subst (CanRename now.view c) here (record {
         context = lt;
-        oldest = h.oldest ∙ slice_get-get_or t.context.flight t.renamed no_entry r.some;
-        age = subst (λ (p : Profile). (entry_at t.context t.renamed).fetched + p.front_delay ≤ now.view.cycle) h.profile (omega (arith, r.age, h.cycle));
-        room = subst (λ (p : Profile). HasRoom (record now.view { profile = p }) c (entry_at t.context t.renamed)) h.profile (record {
+        oldest = h.front.oldest ∙ slice_get-get_or t.context.flight t.renamed no_entry r.some;
+        age = subst (λ (p : Profile). (entry_at t.context t.renamed).fetched + p.front_delay ≤ now.view.cycle) h.front.profile (omega (arith, r.age, h.front.cycle));
+        room = subst (λ (p : Profile). HasRoom (record now.view { profile = p }) c (entry_at t.context t.renamed)) h.front.profile (record {
           reorder = omega (arith, h.reorder, r.fits);
           queue = λ stops. omega (arith, r.place stops, h.queue, h.queue_places);
           loads = λ is. omega (arith, r.load is, h.loads, h.load_places);
@@ -180,15 +189,15 @@ module _ {A : Type 0} where
   -- and the other way round
   pub is_renamable : (m : Inside A) (now : Machine) (c : ℕ) (t : Track) (e : Entry) → IsCounted m now c t → CanRename now.view c e → IsRenamable m.flow t m.profile m.cycle e.stamp
   is_renamable m now c t e h can =
-      let read : slice_get t.context.flight t.renamed ≡ Some e = sym h.oldest ∙ can.oldest in
+      let read : slice_get t.context.flight t.renamed ≡ Some e = sym h.front.oldest ∙ can.oldest in
       let here : entry_at t.context t.renamed ≡ e = get_or_from_slice_get t.context.flight t.renamed e no_entry read in
-      let age : e.fetched + m.profile.front_delay ≤ now.view.cycle = subst (λ (p : Profile). e.fetched + p.front_delay ≤ now.view.cycle) (sym h.profile) can.age in
-      let room : HasRoom (record now.view { profile = m.profile }) c e = subst (λ (p : Profile). HasRoom (record now.view { profile = p }) c e) (sym h.profile) can.room in
+      let age : e.fetched + m.profile.front_delay ≤ now.view.cycle = subst (λ (p : Profile). e.fetched + p.front_delay ≤ now.view.cycle) (sym h.front.profile) can.age in
+      let room : HasRoom (record now.view { profile = m.profile }) c e = subst (λ (p : Profile). HasRoom (record now.view { profile = p }) c e) (sym h.front.profile) can.room in
       record {
         some = slice_get_within t.context.flight t.renamed e read;
         fits = omega (arith, room.reorder, h.reorder);
         stamp_is = ap (λ (f : Entry). f.stamp) here;
-        age = rw here (omega (arith, age, h.cycle));
+        age = rw here (omega (arith, age, h.front.cycle));
         free = rw here (λ some. omega (arith, room.registers some, h.registers, h.register_places));
         place = rw here (λ stops. omega (arith, room.queue stops, h.queue, h.queue_places));
         load = rw here (λ is. omega (arith, room.loads is, h.loads, h.load_places));
@@ -196,7 +205,7 @@ module _ {A : Type 0} where
       }
 
   -- the stamp that its parts give is that of an entry past the front delay
-  pub past_front : (m : Inside A) (now : Machine) (c : ℕ) (t : Track) (answer : Option ℕ) → IsCounted m now c t → IfSome answer (IsTrackPastFront t m.profile m.cycle) → IfSome answer (IsPastFrontStamp now.view c)
+  pub past_front : (m : Inside A) (now : Machine) (c : ℕ) (t : Track) (answer : Option ℕ) → HasOldest m now c t → IfSome answer (IsTrackPastFront t m.profile m.cycle) → IfSome answer (IsPastFrontStamp now.view c)
   past_front m now c t None h is = tt
   past_front m now c t (Some stamp) h is =
       let here : entry_at t.context t.renamed ≡ entry_at (context_at now c) t.renamed = ap (λ (x : Context). entry_at x t.renamed) h.context in
@@ -210,7 +219,7 @@ module _ {A : Type 0} where
         stamp_is = ap (λ (x : Context). (entry_at x t.renamed).stamp) (sym h.context) ∙ is.stamp_is;
       }
 
-  pub not_past_front : (m : Inside A) (now : Machine) (c : ℕ) (t : Track) → IsCounted m now c t → ((stamp : ℕ) → ¬ (IsTrackPastFront t m.profile m.cycle stamp)) → (e : Entry) → ¬ (IsPastFront now.view c e)
+  pub not_past_front : (m : Inside A) (now : Machine) (c : ℕ) (t : Track) → HasOldest m now c t → ((stamp : ℕ) → ¬ (IsTrackPastFront t m.profile m.cycle stamp)) → (e : Entry) → ¬ (IsPastFront now.view c e)
   not_past_front m now c t h not_one e old =
       let read : slice_get t.context.flight t.renamed ≡ Some e = sym h.oldest ∙ old.oldest in
       let here : entry_at t.context t.renamed ≡ e = get_or_from_slice_get t.context.flight t.renamed e no_entry read in

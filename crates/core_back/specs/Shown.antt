@@ -17,7 +17,7 @@ abbrev pub machine_of : {A : Type 0} → Inside A → Machine
 machine_of m = record {
   origin = arc_value m.origins.c0;
   view = record { profile = m.profile; cycle = m.cycle; stamp = m.stamp; contexts = map (λ t. t.context) m.tracks.items };
-  names = m.selected.items;
+  names = m.selected;
   fetch_room = m.fetch_room;
 }
 
@@ -38,15 +38,15 @@ pub record HasRoom (p : Profile) (f : Flow) (ts : List Track) : Type 0 where
 
 -- eight contexts, each live and as its parts have it
 pub record IsMachine {A : Type 0} (m : Inside A) : Type 0 where
-  pub cores : (c : ℕ) → c < 8 → IsCore (start (arc_value m.origins.c0) c) m.stamp m.profile.reorder_buffer m.flow m.selected.items c (get_or m.tracks.items c no_track)
+  pub cores : (c : ℕ) → c < 8 → IsCore (start (arc_value m.origins.c0) c) m.stamp m.profile.reorder_buffer m.flow m.selected c (get_or m.tracks.items c no_track)
   pub origins : (c : ℕ) → c < 8 → arc_value (place_of m.origins c) ≡ arc_value m.origins.c0
   pub tracks : length m.tracks.items ≡ 8
   pub lanes : length m.flow.lanes ≡ 8
   pub contexts : All (λ w. w.context < 8) m.flow.waiters
   pub let_go : m.holds ≡ false → AreLetGo m.flow
-  pub apart : AllPairs AreApart m.selected.items
-  pub supplied : All (IsSuppliedIn m.flow) m.selected.items
-  pub clear : All (λ n. IsClear m.flow n.context (get_or m.tracks.items n.context no_track) n.stamp) m.selected.items
-  pub left : All (λ n. waits_in m.flow n.context n.stamp ≡ false) m.selected.items
+  pub apart : AllPairs AreApart m.selected
+  pub supplied : All (IsSuppliedIn m.flow) m.selected
+  pub clear : All (λ n. IsClear m.flow n.context (get_or m.tracks.items n.context no_track) n.stamp) m.selected
+  pub left : All (λ n. waits_in m.flow n.context n.stamp ≡ false) m.selected
   pub stamps : m.stamp + m.fetch_room ≤ 8 * (m.cycle + 1)
   pub room : HasRoom m.profile m.flow m.tracks.items

@@ -7,6 +7,7 @@ mod first;
 mod issuing;
 mod machine;
 mod retiring;
+mod selection;
 
 pub use completing::{Completion, complete};
 pub use fetching::Fetch;

@@ -23,12 +23,13 @@ ghost use Rattle.join_law.specs.Eight.{place_of};
 
 use crate::fetching::Fetch;
 use crate::first::{first_flow, first_tracks, marks_of, origins_of};
+use crate::selection::Selection;
 use arrayvec::ArrayVec;
 use branch_predict::Guess;
 use checkpoint::Mark;
 use core_context::{Track, events, fetch, lag_of};
 use core_profile::Profile;
-use core_view::{Entry, EntryId, Execution, Issue, Outcome, Status, Step};
+use core_view::{Entry, Execution, Issue, Outcome, Status, Step};
 use data_flow::DataFlow;
 use data_tags::Delay;
 use hart_step::Stop;
@@ -55,7 +56,7 @@ pub struct Machine<A: Allocator = Global> {
     origins: Eight<Arc<Origin<A>, A>>,
     flow: DataFlow<A>,
     tracks: Vec<Track<A>, A>,
-    selected: ArrayVec<EntryId, 8>,
+    selected: Selection,
     // Whether a load may be held in the issue queue.
     holds: bool,
     cycle: u64,
@@ -98,7 +99,7 @@ impl<A: Allocator + Copy> Machine<A> {
             origins,
             flow,
             tracks,
-            selected: ArrayVec::new(),
+            selected: Selection::new(ArrayVec::new()),
             holds: false,
             cycle: 0,
             stamp: 0,
@@ -293,7 +294,7 @@ impl<A: Allocator> Machine<A> {
             let held = events::hold_loads(&mut self.flow, track, context);
             self.holds = self.holds || held;
         }
-        self.selected = self.flow.select(order, width);
+        self.selected = Selection::new(self.flow.select(order, width));
     }
 
     /// The first of the selected entries issues, after the lag that a delay gives. Returns `None` once none is left.
@@ -307,7 +308,7 @@ impl<A: Allocator> Machine<A> {
         if self.selected.is_empty() {
             return None;
         }
-        let name = self.selected.remove(0);
+        let name = self.selected.take_first();
         let track = &mut self.tracks[name.context.index()];
         let place = track.place_of(name.stamp).unwrap();
         let (first, second) = self.flow.sources(name.context, place).unwrap();
@@ -329,7 +330,6 @@ impl<A: Allocator> Machine<A> {
     /// The stamp of the oldest fetched entry of a context, if it was fetched as many cycles ago as the front delay says:
     /// no other entry of the context can be renamed.
     pub fn front(&self, context: Ctx) -> Option<u64>
-        requires { self.now.names ≡ [] }
         ensures front { IfSome result (IsPastFrontStamp self.now.view context) }
         ensures none { result ≡ None → (e : Entry) → ¬ (IsPastFront self.now.view context e) }
     {

@@ -1,5 +1,6 @@
-use Rattle.std.proofs.Common.{◌||◌, get_or, sym, ap, arith, length, refl, ◌∙◌}
+use Rattle.std.proofs.Common.{◌||◌, get_or, sym, ap, subst, arith, length, refl, ◌∙◌}
 use Rattle.core_context.proofs.Laws.{core_answered}
+use Rattle.core_back.specs.Selected.{IsChosen}
 use Rattle.core_back.proofs.MachineIssues.{context_of, held_to_none, context_next, held_nodes, held_to_next, selected_machine, selected_shown, selected_choice}
 use Rattle.core_back.proofs.machine.Machine.select.Goals as goal
 use Rattle.core_back.proofs.machine.Machine.select.Goals.{then-self, else-self}
@@ -48,12 +49,13 @@ loop-context-preserved g c =
 
 pub invariant_of-self : goal.invariant_of-self
 invariant_of-self g c =
-    selected_machine c.loop-context.invariant.machine c.loop-context.self-inside _ c.args.self.now c.loop-context.context-index c.loop-context.invariant.shows c.loop-context.invariant.ok c.requires.idle c.loop-context.invariant.so_far (omega (arith, c.loop-context-test.false)) c.select-self-inside.ensures.lanes c.select-self-inside.ensures.selected refl refl refl refl refl refl refl refl
+    selected_machine c.loop-context.invariant.machine c.loop-context.self-inside _ c.args.self.now c.loop-context.context-index c.loop-context.invariant.shows c.loop-context.invariant.ok c.requires.idle c.loop-context.invariant.so_far (omega (arith, c.loop-context-test.false)) c.select.ensures.lanes c.select.ensures.selected refl refl c.new-self-inside.ensures refl refl refl refl refl
 
 pub returns-clause-selected : goal.returns-clause-selected
-returns-clause-selected g c = selected_shown c.loop-context.invariant.machine c.loop-context.self-inside c.args.self.now c.loop-context.context-index c.select-self-inside.result.items c.loop-context.invariant.shows c.loop-context.invariant.so_far
+returns-clause-selected g c = selected_shown c.loop-context.invariant.machine c.loop-context.self-inside c.args.self.now c.loop-context.context-index c.new-self-inside.result c.loop-context.invariant.shows c.loop-context.invariant.so_far
 
 pub returns-clause-choice : goal.returns-clause-choice
 returns-clause-choice g c =
-    selected_choice c.loop-context.invariant.machine c.loop-context.self-inside c.select-self-inside.new.self c.args.self.now c.loop-context.context-index (g.O.Order.key_of c.args.order.now) c.args.width c.select-self-inside.result.items
-    c.loop-context.invariant.shows c.loop-context.invariant.ok c.requires.idle c.loop-context.invariant.so_far (omega (arith, c.loop-context-test.false)) c.select-self-inside.ensures.selected
+    subst (IsChosen (g.O.Order.key_of c.args.order.now) c.args.width c.args.self.now.view) (sym c.new-self-inside.ensures)
+    (selected_choice c.loop-context.invariant.machine c.loop-context.self-inside c.select.new.self c.args.self.now c.loop-context.context-index (g.O.Order.key_of c.args.order.now) c.args.width c.select.result.items
+    c.loop-context.invariant.shows c.loop-context.invariant.ok c.requires.idle c.loop-context.invariant.so_far (omega (arith, c.loop-context-test.false)) c.select.ensures.selected)
