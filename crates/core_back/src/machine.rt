@@ -310,7 +310,7 @@ impl<A: Allocator> Machine<A> {
         }
         let name = self.selected.take_first();
         let track = &mut self.tracks[name.context.index()];
-        let place = track.place_of(name.stamp).unwrap();
+        let place = track.queued_place(name.stamp).unwrap();
         let (first, second) = self.flow.sources(name.context, place).unwrap();
         let performed = track.perform(place, first, second);
         let lag = lag_of(delay, name.context, &performed);
