@@ -3,6 +3,7 @@ pub mod Lists
 pub mod Walks
 pub mod Masks
 pub mod Kept
+pub mod Arrived
 pub mod Best
 pub mod Chosen
 pub mod Oldest

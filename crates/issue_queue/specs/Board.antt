@@ -1,10 +1,12 @@
 -- Sixty-four places, and words with a bit for each.
-use Rattle.std.specs.Prelude.{◌≡◌, ℕ, ◌<◌, ◌≤◌, Bool, false, List, map, None, length, ◌&&◌, ◌==◌, slice_index, slice_index_or, All, AllPairs}
+use Rattle.std.specs.Prelude.{◌≡◌, ℕ, ◌<◌, ◌≤◌, Bool, true, false, List, map, filter, None, length, ◌&&◌, ◌==◌, slice_index, slice_index_or, AllPairs}
 use Rattle.std.specs.List.{list_any}
 use Rattle.issue_queue.specs.declared.places.Places.{Places}
+use Rattle.issue_queue.specs.declared.arrivals.Arrivals.{Arrivals}
 use Rattle.issue_queue.specs.declared.entry.Queued.{Queued}
 use Rattle.issue_queue.specs.declared.slots.Slots.{Slots}
-use Rattle.word_mask.specs.Mask.{has, is_listed}
+use Rattle.word_mask.specs.Mask.{has}
+use Rattle.issue_queue.specs.Arrivals.{IsListing}
 use Rattle.issue_queue.specs.Views.{as_entry}
 use Rattle.issue_queue.specs.Entry.{Entry, AreDistinct, is_supplied}
 
@@ -40,12 +42,19 @@ pub record InStep (b : Places) : Type 0 where
 abbrev pub listed : Slots → List ℕ → List Entry
 listed slots order = map (slot slots) order
 
--- the places that are taken are listed, each once, in the order in which entries were put there; entries have different names
-pub record IsKept (capacity : ℕ) (b : Places) (order : List ℕ) : Type 0 where
+-- those that are taken of the places at which entries arrived, in that order
+abbrev pub order_of : Places → Arrivals → List ℕ
+order_of b a = filter (λ p. has b.valid p) a.places.items
+
+-- the entries in the order in which they were put
+abbrev pub entries_of : Places → Arrivals → List Entry
+entries_of b a = listed b.slots (order_of b a)
+
+-- the places that are taken are listed; entries have different names
+pub record IsKept (capacity : ℕ) (b : Places) (a : Arrivals) : Type 0 where
   pub bounded : capacity ≤ 64
-  pub within : length order ≤ capacity
+  pub within : length (order_of b a) ≤ capacity
   pub in_step : InStep b
-  pub taken : (p : ℕ) → has b.valid p ≡ is_listed order p
-  pub below : All (λ p. p < 64) order
-  pub once : AllPairs (λ p q. (p == q) ≡ false) order
-  pub distinct : AllPairs AreDistinct (listed b.slots order)
+  pub listing : IsListing a
+  pub taken : (p : ℕ) → has b.valid p ≡ true → has a.listed p ≡ true
+  pub distinct : AllPairs AreDistinct (entries_of b a)

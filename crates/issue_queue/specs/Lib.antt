@@ -5,4 +5,5 @@ pub mod IssueQueue
 pub mod IsSelected
 pub mod Candidates
 pub mod Stamps
+pub mod Arrivals
 pub mod Board

@@ -2,6 +2,7 @@
 //! ones are issued.
 #![tactic(auto)]
 
+mod arrivals;
 mod entry;
 mod order;
 mod places;

@@ -115,17 +115,23 @@ impl Places {
         }
     }
 
-    /// Puts an entry into a free place, which it gives.
-    pub(crate) fn put(&mut self, waiting: Waiting) -> usize
-        requires step { InStep self.old }
-        requires room { count_ones self.old.valid < 64 }
-        ensures step { InStep self.new }
-        ensures free { has self.old.valid result ≡ false }
-        ensures bound { result < 64 }
-        ensures valid { (p : ℕ) → has self.new.valid p ≡ (has self.old.valid p || (p == result)) }
-        ensures slots { (p : ℕ) → slot self.new.slots p ≡ (if p == result then entry_of waiting else slot self.old.slots p) }
+    /// How many places are taken.
+    pub(crate) fn len(&self) -> usize
+        ensures value { result ≡ count_ones self.now.valid }
+        ensures fits { self.now.valid < 2 ^ 64 }
     {
-        let place = word_mask::lowest_clear(self.valid);
+        self.valid.count_ones() as usize
+    }
+
+    /// Puts an entry into a free place.
+    pub(crate) fn put(&mut self, place: usize, waiting: Waiting)
+        requires step { InStep self.old }
+        requires bound { place < 64 }
+        requires free { has self.old.valid place ≡ false }
+        ensures step { InStep self.new }
+        ensures valid { (p : ℕ) → has self.new.valid p ≡ (has self.old.valid p || (p == place)) }
+        ensures slots { (p : ℕ) → slot self.new.slots p ≡ (if p == place then entry_of waiting else slot self.old.slots p) }
+    {
         self.slots.put(place, waiting);
         let entry = self.slots.at(place);
         self.valid = word_mask::assigned(self.valid, place, true);
@@ -133,7 +139,6 @@ impl Places {
         self.guesses = word_mask::assigned(self.guesses, place, entry.is_guessed());
         mark(&mut self.contexts, entry.context().index(), place, true);
         mark_sources(&mut self.waiters, entry, place, true);
-        place
     }
 
     /// Frees a place. It leaves every word.

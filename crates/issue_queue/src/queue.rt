@@ -2,7 +2,6 @@
 
 ghost use Rattle.std.specs.Prelude.{◌≡◌, ◌↔◌, ◌<◌, ◌≤◌, ◌==◌, ◌&&◌, false, [], ◌∷◌, ◌++◌, length, map, filter, not, count_by, IsTrue, IfSome, IsOk, OnOk, OnErr, IfErr};
 ghost use Rattle.std.specs.List.{list_any};
-ghost use Rattle.word_mask.specs.Mask.{has};
 ghost use Rattle.issue_queue.specs.Entry.{is_named};
 ghost use Rattle.issue_queue.specs.Board.{waits_for};
 ghost use Rattle.issue_queue.specs.IssueQueue.{awake, with_speculative, with_held, released, is_from};
@@ -10,6 +9,7 @@ ghost use Rattle.issue_queue.specs.IsSelected.{IsSelected};
 ghost use Rattle.issue_queue.specs.Stamps.{place_of_oldest};
 ghost use Rattle.issue_queue.specs.Views.{entry_of, view_of};
 
+use crate::arrivals::Arrivals;
 use crate::places::Places;
 use crate::{Order, Waiting, selecting};
 use arrayvec::ArrayVec;
@@ -30,18 +30,18 @@ pub enum QueueFault {
 pub struct Queue {
     capacity: usize,
     places: Places,
-    order: ArrayVec<u8, 64>,
+    arrivals: Arrivals,
 }
 
 impl Model for Queue {
     ghost use Rattle.issue_queue.specs.IssueQueue.{IssueQueue};
-    ghost use Rattle.issue_queue.specs.Board.{IsKept, listed};
+    ghost use Rattle.issue_queue.specs.Board.{IsKept, entries_of};
 
     ghost Value = { IssueQueue };
 
-    ghost view = { λ q. record { capacity = q.capacity; entries = listed q.places.slots q.order.items } };
+    ghost view = { λ q. record { capacity = q.capacity; entries = entries_of q.places q.arrivals } };
 
-    ghost invariant = { λ q. IsKept q.capacity q.places q.order.items };
+    ghost invariant = { λ q. IsKept q.capacity q.places q.arrivals };
 }
 
 impl Queue {
@@ -53,7 +53,7 @@ impl Queue {
         Queue {
             capacity,
             places: Places::new(),
-            order: ArrayVec::new(),
+            arrivals: Arrivals::new(),
         }
     }
 
@@ -62,14 +62,14 @@ impl Queue {
         ensures value { result ≡ length self.now.entries }
         ensures fits { result ≤ self.now.capacity }
     {
-        self.order.len()
+        self.places.len()
     }
 
     /// Whether it holds no entry.
     pub fn is_empty(&self) -> bool
         ensures { IsTrue result ↔ (self.now.entries ≡ []) }
     {
-        self.order.is_empty()
+        self.len() == 0
     }
 
     /// How many entries it can hold.
@@ -109,8 +109,8 @@ impl Queue {
         if self.is_full() {
             return Err((waiting, QueueFault::Full));
         }
-        let place = self.places.put(waiting);
-        self.order.push(place as u8);
+        let place = self.arrivals.push(self.places.valid);
+        self.places.put(place, waiting);
         Ok(())
     }
 
@@ -158,9 +158,7 @@ impl Queue {
     {
         let ready = self.places.ready();
         let best = selecting::best_of(&self.places.slots, ready, order, width);
-        let selected = self.places.take(best.as_slice());
-        retain_taken(&mut self.order, self.places.valid);
-        selected
+        self.places.take(best.as_slice())
     }
 
     /// Drops the entries of a context that have at least this stamp.
@@ -168,7 +166,6 @@ impl Queue {
         ensures { self.new ≡ record self.old { entries = filter (λ e. not (is_from context stamp e)) self.old.entries } }
     {
         self.places.free_from(context, stamp);
-        retain_taken(&mut self.order, self.places.valid);
     }
 
     /// How many entries of a context it holds.
@@ -192,11 +189,4 @@ impl Queue {
     {
         self.places.oldest_place(context)
     }
-}
-
-/// Keeps the places that are taken, in their order.
-fn retain_taken(order: &mut ArrayVec<u8, 64>, taken: u64)
-    ensures { order.new.items ≡ filter (λ p. has taken p) order.old.items }
-{
-    order.retain(|place| word_mask::has(taken, *place as usize));
 }

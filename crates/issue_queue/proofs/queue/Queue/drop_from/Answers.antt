@@ -1,23 +1,29 @@
-use Rattle.std.proofs.Common.{◌≡◌, ◌∙◌, ◌&&◌, ℕ, Bool, true, not, ap}
+use Rattle.std.proofs.Common.{◌≡◌, ◌∙◌, ◌&&◌, ℕ, Bool, not, ap}
 use Rattle.word_mask.specs.Mask.{has}
-use Rattle.issue_queue.specs.Board.{slot, listed}
+use Rattle.issue_queue.specs.Board.{slot, order_of}
 use Rattle.issue_queue.specs.Entry.{Entry}
 use Rattle.issue_queue.specs.IssueQueue.{is_from}
+use Rattle.issue_queue.proofs.Arrived.{lists_taken, kept_less, entries_less}
 use Rattle.issue_queue.proofs.Kept.{entries_left, kept_left, kept_of}
 use Rattle.issue_queue.proofs.queue.Queue.drop_from.Goals as goal
 
 pub invariant_of-self : goal.invariant_of-self
 invariant_of-self c =
-    let f : Entry → Bool = λ e. not (is_from c.args.context c.args.stamp e) in
-    let b = c.self.inside.places in
-    let left : (p : ℕ) → has b.valid p ≡ true → has c.free_from.new.self.valid p ≡ f (slot b.slots p) = λ p t. c.free_from.ensures.valid p ∙ ap (λ x. x && f (slot b.slots p)) t in
-    rw c.retain_taken.ensures (kept_left f c.self.inside.capacity b c.free_from.new.self c.self.inside.order.items c.self.invariant c.free_from.ensures.slots c.free_from.ensures.step left
-    (λ p. kept_of (has b.valid p) (f (slot b.slots p)) (has c.free_from.new.self.valid p) (c.free_from.ensures.valid p)))
+    let q = c.self.inside in
+    let d = c.free_from.new.self in
+    let stays : Entry → Bool = λ e. not (is_from c.args.context c.args.stamp e) in
+    let fewer : (p : ℕ) → has d.valid p ≡ (has q.places.valid p && has d.valid p) = λ p. kept_of (has q.places.valid p) (stays (slot q.places.slots p)) (has d.valid p) (c.free_from.ensures.valid p) in
+    kept_less q.capacity q.places d q.arrivals c.self.invariant fewer
+    (kept_left stays q.capacity q.places d (order_of q.places q.arrivals) (lists_taken q.capacity q.places q.arrivals c.self.invariant) c.free_from.ensures.slots c.free_from.ensures.step
+    (λ p t. c.free_from.ensures.valid p ∙ ap (λ x. x && stays (slot q.places.slots p)) t) fewer)
 
 pub returns : goal.returns
 returns c =
-    let f : Entry → Bool = λ e. not (is_from c.args.context c.args.stamp e) in
-    let b = c.self.inside.places in
-    rw (← c.self.view_is) (ap (λ es. record { capacity = c.self.inside.capacity; entries = es })
-    (ap (listed c.free_from.new.self.slots) c.retain_taken.ensures ∙ entries_left f c.self.inside.capacity b c.free_from.new.self c.self.inside.order.items c.self.invariant c.free_from.ensures.slots
-    (λ p t. c.free_from.ensures.valid p ∙ ap (λ x. x && f (slot b.slots p)) t)))
+    let q = c.self.inside in
+    let d = c.free_from.new.self in
+    let stays : Entry → Bool = λ e. not (is_from c.args.context c.args.stamp e) in
+    let fewer : (p : ℕ) → has d.valid p ≡ (has q.places.valid p && has d.valid p) = λ p. kept_of (has q.places.valid p) (stays (slot q.places.slots p)) (has d.valid p) (c.free_from.ensures.valid p) in
+    rw (← c.self.view_is) (ap (λ es. record { capacity = q.capacity; entries = es })
+    (entries_less q.places d q.arrivals fewer
+    ∙ entries_left stays q.capacity q.places d (order_of q.places q.arrivals) (lists_taken q.capacity q.places q.arrivals c.self.invariant) c.free_from.ensures.slots
+    (λ p t. c.free_from.ensures.valid p ∙ ap (λ x. x && stays (slot q.places.slots p)) t)))
