@@ -1,10 +1,10 @@
 -- The queue's entries in the order of their arrival, as events keep them.
-use Rattle.std.proofs.Common.{◌≡◌, ℕ, ◌<◌, ◌≤◌, ◌^◌, inl, inr, Bool, true, false, ◌&&◌, ◌||◌, eqb, List, [], ◌∷◌, ◌++◌, length, get_or, cond, refl, ap, ap₂, sym, subst, ◌∙◌, arith}
+use Rattle.std.proofs.Common.{◌≡◌, ℕ, ◌<◌, ◌≤◌, ◌^◌, inl, inr, Bool, true, false, ◌&&◌, ◌||◌, eqb, List, [], ◌∷◌, ◌++◌, ◌%◌, length, get_or, cond, refl, ap, ap₂, sym, subst, ◌∙◌, arith}
 use Rattle.std.specs.Prelude.{count_ones}
 use Rattle.std.specs.List.{All, AllPairs, filter}
 use Rattle.std.proofs.lemmas.Bool.{cases_Bool, true≢false, and_parts, or_right, eq-eqb}
 use Rattle.std.proofs.lemmas.List.{length-map}
-use Rattle.std.proofs.lemmas.List.Elements.{filter-append}
+use Rattle.std.proofs.lemmas.List.Elements.{All-nil, All-push, All-filter, filter-append}
 use Rattle.std.proofs.lemmas.List.Folds.{list_any-append}
 use Rattle.std.proofs.lemmas.List.Kept.{AllPairs-filter}
 use Rattle.std.proofs.lemmas.List.Quantifiers.{all_pairs_push}
@@ -24,6 +24,7 @@ use Rattle.issue_queue.proofs.Kept.{ListsTaken, any_false, listed-filter}
 pub listing_none : (a : Arrivals) → a.listed ≡ 0 → a.places.items ≡ [] → IsListing a
 listing_none a word items = record {
   bits = λ p. ap (λ w. has w p) word ∙ has_zero p ∙ ap (λ xs. is_listed xs p) (sym items);
+  below = subst (All (λ p. p < 64)) (sym items) (All-nil (λ p. p < 64));
   once = subst (AllPairs (λ p q. eqb p q ≡ false)) (sym items) (λ i j d below within. absurd (omega arith));
 }
 
@@ -32,6 +33,9 @@ pub listed_below : (a : Arrivals) → a.listed < 2 ^ 64 → IsListing a → leng
 listed_below a fits h few =
     let bits : count_ones a.listed ≡ length (filter (has a.listed) a.places.items) = count_listed a.listed a.places.items fits h.once (λ p t. sym (h.bits p) ∙ t) in
     omega (arith, bits, length-filter (has a.listed) a.places.items, count_by-le-length (has a.listed) a.places.items)
+
+pub filter-below : (word : ℕ) (ps : List ℕ) → All (λ p. p < 64) ps → filter (λ p. has word (p % 64)) ps ≡ filter (has word) ps
+filter-below word ps below = filter_agree_on (λ p. has word (p % 64)) (has word) ps (λ i d lt. ap (has word) (omega (arith, below i d lt)))
 
 -- as many are taken as there are listed ones that are taken
 pub count-taken : (a : Arrivals) (taken : ℕ) → taken < 2 ^ 64 → IsListing a → ((p : ℕ) → has taken p ≡ true → has a.listed p ≡ true) → count_ones taken ≡ length (filter (has taken) a.places.items)
@@ -50,6 +54,7 @@ listed_taken a taken h within p =
 pub listing_left : (a b : Arrivals) (taken : ℕ) → IsListing a → ((p : ℕ) → has taken p ≡ true → has a.listed p ≡ true) → b.listed ≡ taken → b.places.items ≡ filter (has taken) a.places.items → IsListing b
 listing_left a b taken h within word items = record {
   bits = λ p. ap (λ w. has w p) word ∙ listed_taken a taken h within p ∙ ap (λ xs. is_listed xs p) (sym items);
+  below = subst (All (λ p. p < 64)) (sym items) (All-filter (has taken) (λ p. p < 64) a.places.items h.below);
   once = subst (AllPairs (λ p q. eqb p q ≡ false)) (sym items) (AllPairs-filter (λ p q. eqb p q ≡ false) (has taken) a.places.items h.once);
 }
 
@@ -60,13 +65,14 @@ or_cond false true = refl
 or_cond false false = refl
 
 -- a place that was not listed comes behind the others
-pub listing_more : (a b : Arrivals) (place : ℕ) → IsListing a → has a.listed place ≡ false → ((p : ℕ) → has b.listed p ≡ cond (eqb p place) true (has a.listed p)) → b.places.items ≡ a.places.items ++ place ∷ [] → IsListing b
-listing_more a b place h free word items =
+pub listing_more : (a b : Arrivals) (place : ℕ) → place < 64 → IsListing a → has a.listed place ≡ false → ((p : ℕ) → has b.listed p ≡ cond (eqb p place) true (has a.listed p)) → b.places.items ≡ a.places.items ++ place ∷ [] → IsListing b
+listing_more a b place small h free word items =
     let absent : All (λ q. eqb q place ≡ false) a.places.items = any_false (λ q. eqb q place) a.places.items (sym (h.bits place) ∙ free) in
     record {
       bits = λ p.
           word p ∙ or_cond (eqb p place) (has a.listed p) ∙ ap (λ x. has a.listed p || (x || false)) (eqb_swap p place) ∙ ap (λ x. x || (eqb place p || false)) (h.bits p)
           ∙ sym (list_any-append (λ q. eqb q p) a.places.items (place ∷ [])) ∙ ap (λ xs. is_listed xs p) (sym items);
+      below = subst (All (λ p. p < 64)) (sym items) (All-push (λ p. p < 64) a.places.items place h.below small);
       once = subst (AllPairs (λ p q. eqb p q ≡ false)) (sym items) (all_pairs_push (λ p q. eqb p q ≡ false) a.places.items place h.once (λ i d lt. absent i d lt));
     }
 

@@ -1,12 +1,13 @@
 -- Masks in step with the places.
-use Rattle.std.proofs.Common.{◌≡◌, ℕ, ◌<◌, inl, inr, Bool, true, false, cond, not, ◌&&◌, ◌||◌, eqb, List, [], ◌∷◌, length, get_or, set, replicate, take, refl, ap, ap₂, sym, ◌∙◌, arith}
+use Rattle.std.proofs.Common.{◌≡◌, ℕ, ◌<◌, ◌≤◌, inl, inr, Bool, true, false, cond, not, ◌&&◌, ◌||◌, eqb, List, [], ◌∷◌, length, get_or, set, replicate, refl, ap, ap₂, sym, subst, ◌∙◌, arith, take_all}
 use Rattle.std.specs.Prelude.{slice_index, nat_le}
-use Rattle.std.specs.List.{AllPairs, filter, list_any}
-use Rattle.std.proofs.lemmas.Bool.{cases_eq, cases_Bool, eqb-true, true≢false, and_parts, and_from, and_right, ne_eqb}
+use Rattle.std.specs.List.{All, filter, list_any}
+use Rattle.std.proofs.lemmas.Bool.{cases_eq, cases_Bool, eqb-true, true≢false, or_cases, and_parts, and_from, and_right, ne_eqb}
 use Rattle.std.proofs.lemmas.Bool.Decides.{eqb_tells}
-use Rattle.std.proofs.lemmas.List.{get_or-set_same, get_or-set_other, get_or-replicate, get_or_default, get_or-take, length-take}
-use Rattle.std.proofs.lemmas.List.Folds.{list_any_none}
+use Rattle.std.proofs.lemmas.List.{get_or-set_same, get_or-set_other, get_or-replicate}
+use Rattle.std.proofs.lemmas.List.Elements.{All-head, All-tail}
 use Rattle.std.proofs.Math.Bool.{and-true, and_assoc}
+use Rattle.core_view.specs.declared.note.EntryId.{EntryId}
 use Rattle.issue_queue.specs.declared.entry.Queued.{Queued}
 use Rattle.issue_queue.specs.declared.places.Places.{Places}
 use Rattle.issue_queue.specs.declared.slots.Slots.{Slots}
@@ -18,7 +19,7 @@ use Rattle.issue_queue.specs.Entry.{Entry, is_ready, is_supplied, is_named}
 use Rattle.issue_queue.specs.IssueQueue.{awake, is_from}
 use Rattle.issue_queue.specs.Views.{as_entry}
 use Rattle.word_mask.proofs.Laws.{has_zero}
-use Rattle.issue_queue.proofs.Walks.{IsSought, IsCut, IsWoken}
+use Rattle.issue_queue.proofs.Walks.{IsSought, IsCut, IsWoken, IsTaken}
 
 -- what stands at the places after one changes
 pub slot-changed : (g : Entry → Entry) (s t : Slots) (place : ℕ) (q old : Queued) → place < length s.entries → t.entries ≡ set s.entries place q → t.held ≡ s.held
@@ -179,10 +180,61 @@ settled_all slots0 slots supplied woken word left looked register none h p =
     let empty : has left p ≡ false = ap (λ k. has k p) none ∙ has_zero p in
     h.settled p ∙ rw empty (rw (and-true (has word p)) refl)
 
--- a candidate's place is not among those before it
-pub not_yet : (best : List Candidate) (i : ℕ) (d : Candidate) → i < length best → AllPairs (λ c e. eqb c.place e.place ≡ false) best → is_at (take i best) (get_or best i d).place ≡ false
-not_yet best i d lt once =
-    list_any_none (λ c. eqb c.place (get_or best i d).place) (take i best)
-    (λ k e within.
-    let below : k < i = omega (arith, length-take i best) in
-    rw (get_or-take i best k e below, get_or_default best i d e lt) (once k i e below lt))
+-- ---- places of a word that are freed
+
+and_not_kept : (v t n : Bool) → ((v && t) && n) ≡ ((v && n) && t)
+and_not_kept true true n = sym (and-true n)
+and_not_kept true false true = refl
+and_not_kept true false false = refl
+and_not_kept false t n = refl
+
+-- the mask without the places of a word, where they are no longer taken
+mask_without : (test : Entry → Bool) (valid less : ℕ) (slots : Slots) (word mask new : ℕ) → ((p : ℕ) → has less p ≡ (has valid p && not (has word p))) → ((p : ℕ) → has new p ≡ (has mask p && not (has word p)))
+    → IsMask test valid slots mask → IsMask test less slots new
+mask_without test valid less slots word mask new fewer bits m p =
+    bits p ∙ ap (λ x. x && not (has word p)) (m p) ∙ and_not_kept (has valid p) (test (slot slots p)) (not (has word p)) ∙ ap (λ x. x && test (slot slots p)) (sym (fewer p))
+
+and_unset : (v t w : Bool) → (w ≡ true → t ≡ false) → (v && t) ≡ ((v && not w) && t)
+and_unset true t true h = h refl
+and_unset true t false h = refl
+and_unset false t w h = refl
+
+none_waits : (r : ℕ) (ws : List ℕ) → eqb (length ws) 0 ≡ true → list_any (λ w. eqb w r) ws ≡ false
+none_waits r [] h = refl
+none_waits r (w ∷ ws) h = absurd (omega (arith, eqb-true (length (w ∷ ws)) 0 h))
+
+-- places that wait for nothing are freed: no register's word has their bits
+pub freed_in_step : (b c : Places) (word : ℕ) → c.slots ≡ b.slots → ((p : ℕ) → has word p ≡ true → is_supplied (slot b.slots p) ≡ true) → ((p : ℕ) → has c.valid p ≡ (has b.valid p && not (has word p)))
+    → ((p : ℕ) → has c.supplied p ≡ (has b.supplied p && not (has word p))) → ((p : ℕ) → has c.guesses p ≡ (has b.guesses p && not (has word p)))
+    → ((i p : ℕ) → i < 8 → has (slice_index c.contexts i) p ≡ (has (slice_index b.contexts i) p && not (has word p))) → c.waiters ≡ b.waiters → InStep b → InStep c
+freed_in_step b c word slots free valid supplied guesses contexts waiters h = record {
+  supplied = rw slots (mask_without is_supplied b.valid c.valid b.slots word b.supplied c.supplied valid supplied h.supplied);
+  guesses = rw slots (mask_without is_guessed b.valid c.valid b.slots word b.guesses c.guesses valid guesses h.guesses);
+  contexts = λ k below. rw slots (mask_without (is_of k) b.valid c.valid b.slots word (slice_index b.contexts k) (slice_index c.contexts k) valid (λ p. contexts k p below) (h.contexts k below));
+  waiters = λ r below. rw (slots, waiters) (λ p.
+      h.waiters r below p
+      ∙ and_unset (has b.valid p) (waits_for r (slot b.slots p)) (has word p) (λ t. none_waits r (slot b.slots p).waits (free p t))
+      ∙ ap (λ x. x && waits_for r (slot b.slots p)) (sym (valid p)));
+}
+
+-- what is true of each candidate's place is true of each place among them
+pub at_candidates : (P : ℕ → Type 0) (best : List Candidate) (p : ℕ) → All (λ c. P c.place) best → is_at best p ≡ true → P p
+at_candidates P [] p h t = absurd (true≢false (sym t))
+at_candidates P (c ∷ cs) p h t = elim (or_cases (eqb c.place p) (is_at cs p) t) [
+  | inl here ↦ subst P (eqb-true c.place p here) (All-head (λ d. P d.place) c cs h)
+  | inr later ↦ at_candidates P cs p (All-tail (λ d. P d.place) c cs h) later
+]
+
+pub none_taken : (slots : Slots) (best : List Candidate) (names : List EntryId) → names ≡ [] → IsTaken slots best 0 0 names
+none_taken slots best names none = record {
+  bits = λ p. has_zero p;
+  names_are = none;
+  count = ap length none;
+}
+
+-- all candidates are taken
+pub supplied_all : (slots : Slots) (best : List Candidate) (i chosen : ℕ) (names : List EntryId) → length best ≤ i → All (λ c. (c.place < 64) × (is_supplied (slot slots c.place) ≡ true)) best → IsTaken slots best i chosen names
+    → (p : ℕ) → has chosen p ≡ true → is_supplied (slot slots p) ≡ true
+supplied_all slots best i chosen names whole supplied h p t =
+    at_candidates (λ q. is_supplied (slot slots q) ≡ true) best p (λ k d lt. (supplied k d lt).1)
+    (ap (λ cs. is_at cs p) (sym (take_all i best whole)) ∙ sym (h.bits p) ∙ t)

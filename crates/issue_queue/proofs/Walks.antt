@@ -1,5 +1,5 @@
 -- What walks over the places of a word keep.
-use Rattle.std.proofs.Common.{◌≡◌, ℕ, ◌+◌, ◌≤◌, true, false, cond, not, ◌&&◌, List, map, take, length, ◌⊎◌}
+use Rattle.std.proofs.Common.{◌≡◌, ℕ, ◌+◌, ◌<◌, ◌≤◌, true, false, cond, not, ◌&&◌, List, map, take, length, ◌⊎◌}
 use Rattle.std.specs.Prelude.{count_ones, nat_lt, slice_index}
 use Rattle.core_view.specs.declared.note.EntryId.{EntryId}
 use Rattle.issue_queue.specs.declared.places.Places.{Places}
@@ -32,13 +32,16 @@ pub record IsCut (a b : Places) (context stamp left : ℕ) : Type 0 where
   pub valid : (p : ℕ) → has b.valid p ≡ (has a.valid p && not ((has (slice_index a.contexts context) p && not (has left p)) && is_from context stamp (slot a.slots p)))
   pub within : (p : ℕ) → has left p ≡ true → has (slice_index a.contexts context) p ≡ true
 
--- the first i candidates are gone
-pub record IsTaken (a b : Places) (best : List Candidate) (i : ℕ) (selected : List EntryId) : Type 0 where
-  pub step : InStep b
-  pub slots : b.slots ≡ a.slots
-  pub valid : (p : ℕ) → has b.valid p ≡ (has a.valid p && not (is_at (take i best) p))
-  pub names : selected ≡ map (λ c. name_of (slot a.slots c.place)) (take i best)
-  pub count : length selected ≡ i
+-- the word has the places of the first i candidates, whose names are listed
+pub record IsTaken (slots : Slots) (best : List Candidate) (i chosen : ℕ) (names : List EntryId) : Type 0 where
+  pub bits : (p : ℕ) → has chosen p ≡ is_at (take i best) p
+  pub names_are : names ≡ map (λ c. name_of (slot slots c.place)) (take i best)
+  pub count : length names ≡ i
+
+-- the words below i have lost the bits of another
+pub record IsUnmarked (old words : List ℕ) (word i : ℕ) : Type 0 where
+  pub done : (k p : ℕ) → k < i → has (slice_index words k) p ≡ (has (slice_index old k) p && not (has word p))
+  pub left : (k : ℕ) → i ≤ k → slice_index words k ≡ slice_index old k
 
 -- the least stamp of the places of the word that are not left
 pub record IsLeast (slots : Slots) (word left least : ℕ) : Type 0 where

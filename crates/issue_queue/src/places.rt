@@ -1,6 +1,6 @@
 //! The 64 places of the queue, and words with a bit for each.
 
-ghost use Rattle.std.specs.Prelude.{◌≡◌, ℕ, ◌<◌, ◌≤◌, true, false, not, ◌&&◌, ◌||◌, ◌==◌, ◌^◌, slice_index, length, map, All, AllPairs, count_ones, if◌then◌else◌, IfSome, IfNone};
+ghost use Rattle.std.specs.Prelude.{◌≡◌, ℕ, ◌<◌, ◌≤◌, true, false, [], not, ◌&&◌, ◌||◌, ◌==◌, ◌^◌, slice_index, length, map, All, count_ones, if◌then◌else◌, IfSome, IfNone};
 ghost use Rattle.std.specs.List.{list_any};
 ghost use Rattle.std.specs.Option.{option_to_list};
 ghost use Rattle.word_mask.specs.Mask.{has};
@@ -54,7 +54,16 @@ fn mark(words: &mut [u64], index: usize, place: usize, flag: bool)
     words[index] = word_mask::assigned(words[index], place, flag);
 }
 
-/// The same in the word of a source, if there is one.
+/// Clears the bits of a word in each of eight others.
+fn unmark(words: &mut [u64; 8], word: u64)
+    ensures { (i p : ℕ) → i < 8 → has (slice_index words.new i) p ≡ (has (slice_index words.old i) p && not (has word p)) }
+{
+    for index in 0..8usize {
+        words[index] = word_mask::without(words[index], word);
+    }
+}
+
+/// Sets the bit of a place in the word of a source, if there is one, or clears it.
 fn mark_source(words: &mut [u64], source: Option<PhysicalRegister>, place: usize, flag: bool)
     requires length { length words.old ≡ 480 }
     requires place { place < 64 }
@@ -280,22 +289,36 @@ impl Places {
         Some(older.count_ones() as usize)
     }
 
-    /// Frees the places of candidates, and gives the names of what stood there.
-    pub(crate) fn take(&mut self, best: &[Candidate]) -> ArrayVec<EntryId, 8>
+    /// Frees the places of candidates that wait for nothing, and puts the names of what stood there into a list.
+    pub(crate) fn take(&mut self, best: &[Candidate], names: &mut ArrayVec<EntryId, 8>)
         requires step { InStep self.old }
+        requires empty { names.old.items ≡ [] }
         requires short { length best.now ≤ 8 }
-        requires taken { All (λ c. (c.place < 64) × (has self.old.valid c.place ≡ true)) best.now }
-        requires once { AllPairs (λ c d. (c.place == d.place) ≡ false) best.now }
+        requires supplied { All (λ c. (c.place < 64) × (is_supplied (slot self.old.slots c.place) ≡ true)) best.now }
         ensures step { InStep self.new }
         ensures valid { (p : ℕ) → has self.new.valid p ≡ (has self.old.valid p && not (is_at best.now p)) }
         ensures slots { self.new.slots ≡ self.old.slots }
-        ensures names { result.items ≡ map (λ c. name_of (slot self.old.slots c.place)) best.now }
+        ensures names { names.new.items ≡ map (λ c. name_of (slot self.old.slots c.place)) best.now }
     {
-        let mut selected = ArrayVec::new();
+        let mut chosen = 0u64;
         for candidate in best {
-            selected.push(self.slots.at(candidate.place).name());
-            self.free(candidate.place);
+            names.push(self.slots.at(candidate.place).name());
+            chosen = word_mask::assigned(chosen, candidate.place, true);
         }
-        selected
+        self.free_supplied(chosen);
+    }
+
+    /// Frees the places of a word, whose entries wait for nothing.
+    fn free_supplied(&mut self, word: u64)
+        requires step { InStep self.old }
+        requires supplied { (p : ℕ) → has word p ≡ true → is_supplied (slot self.old.slots p) ≡ true }
+        ensures step { InStep self.new }
+        ensures valid { (p : ℕ) → has self.new.valid p ≡ (has self.old.valid p && not (has word p)) }
+        ensures slots { self.new.slots ≡ self.old.slots }
+    {
+        self.valid = word_mask::without(self.valid, word);
+        self.supplied = word_mask::without(self.supplied, word);
+        self.guesses = word_mask::without(self.guesses, word);
+        unmark(&mut self.contexts, word);
     }
 }

@@ -157,8 +157,11 @@ impl Queue {
         ensures selected { IsSelected (λ e. O.key_of order.now (view_of e)) width self.old.entries self.new.entries result.items }
     {
         let ready = self.places.ready();
-        let best = selecting::best_of(&self.places.slots, ready, order, width);
-        self.places.take(best.as_slice())
+        let mut best = ArrayVec::new();
+        selecting::choose(&mut best, &self.places.slots, ready, order, width);
+        let mut selected = ArrayVec::new();
+        self.places.take(best.as_slice(), &mut selected);
+        selected
     }
 
     /// Drops the entries of a context that have at least this stamp.
