@@ -152,7 +152,7 @@ fn hart_at_start(alloc: Global, words: &[u32], bytes: &[u8]) -> Result<Hart, Fai
 }
 
 /// Where a hart stands.
-#[derive(Clone, Copy, Debug, PartialEq, Eq)]
+#[derive(Clone, Copy)]
 struct Standing {
     pc: u64,
     registers: [u64; 32],

@@ -1,21 +1,12 @@
 //! Worked joins at concrete types, through the bound.
 
+use crate::trees::{join_of, merge};
 use join_law::{Ctx, Eight, Join, Tree, fold_eights, fold_tree, join_all, join_eights};
-use std::alloc::{AllocError, Global};
+use std::alloc::Global;
 use std::test::Fail;
 
-// The join of two values where they are kin, as a caller with a bound alone asks for it.
-fn try_join<J: Join>(left: J, right: J) -> Option<J> {
-    if left.kin(&right) {
-        Some(left.join(right))
-    } else {
-        None
-    }
-}
-
-fn merge<J: Drop>(alloc: Global, left: Tree<J>, right: Tree<J>) -> Result<Tree<J>, AllocError> {
-    Ok(Tree::Merge(Box::new(alloc, left)?, Box::new(alloc, right)?))
-}
+/// The greater counts of both.
+const FURTHEST: [u64; 8] = [5, 9, 0, 0, 0, 0, 0, 1];
 
 // Counts 5 and 3 at contexts 0 and 1.
 fn ahead_at_0() -> Eight<u64> {
@@ -30,39 +21,43 @@ fn ahead_at_1() -> Eight<u64> {
 #[test]
 fn numbers_join_to_the_greater(rt: HostRuntime) {
     for (left, right, want) in [(3, 5, 5), (5, 3, 5), (7, 7, 7), (0, u64::MAX, u64::MAX)] {
-        assert_eq!(rt; try_join(left, right), Some(want), "{left} and {right}");
+        assert_eq!(rt;
+            join_of(Some(left), Some(right)),
+            Some(want),
+            "{left} and {right}"
+        );
     }
 }
 
 #[test]
 fn none_is_neutral(rt: HostRuntime) {
-    let none: Option<u64> = None;
-    assert_eq!(rt; try_join(none, none), Some(None));
-    assert_eq!(rt; try_join(none, Some(4)), Some(Some(4)));
-    assert_eq!(rt; try_join(Some(4), none), Some(Some(4)));
-    assert_eq!(rt; try_join(Some(0), none), Some(Some(0)));
-    assert_eq!(rt; try_join(Some(9), Some(4)), Some(Some(9)));
+    let pairs = [
+        (None, None, None),
+        (None, Some(4), Some(4)),
+        (Some(4), None, Some(4)),
+        (Some(0), None, Some(0)),
+        (Some(9), Some(4), Some(9)),
+    ];
+    for (left, right, want) in pairs {
+        let left: Option<u64> = left;
+        assert_eq!(rt; join_of(Some(left), Some(right)), Some(want));
+    }
 }
 
 #[test]
 fn pairs_join_part_by_part(rt: HostRuntime) {
     let left: (u64, Option<u64>) = (1, Some(5));
     let right: (u64, Option<u64>) = (2, None);
-    assert_eq!(rt; try_join(left, right), Some((2, Some(5))));
+    assert_eq!(rt; join_of(Some(left), Some(right)), Some((2, Some(5))));
 }
 
 #[test]
 fn eights_join_place_by_place(rt: HostRuntime) {
-    let want = [5, 9, 0, 0, 0, 0, 0, 1];
-    assert_eq!(rt;
-        try_join(ahead_at_0(), ahead_at_1()),
-        Some(Eight::from_array(want))
-    );
-    assert_eq!(rt;
-        try_join(ahead_at_1(), ahead_at_0()),
-        Some(Eight::from_array(want))
-    );
-    assert_eq!(rt; ahead_at_0().join(ahead_at_1()).into_array(), want);
+    let there = join_of(Some(ahead_at_0()), Some(ahead_at_1()));
+    assert_eq!(rt; there.map(Eight::into_array), Some(FURTHEST));
+    let back = join_of(Some(ahead_at_1()), Some(ahead_at_0()));
+    assert_eq!(rt; back.map(Eight::into_array), Some(FURTHEST));
+    assert_eq!(rt; ahead_at_0().join(ahead_at_1()).into_array(), FURTHEST);
 }
 
 #[test]
@@ -89,52 +84,71 @@ fn each_context_has_its_place(rt: HostRuntime) {
     assert_eq!(rt; eight.into_array(), [20, 21, 22, 23, 24, 25, 26, 27]);
 }
 
+fn leaf_0() -> Option<Tree<Eight<u64>>> {
+    Some(Tree::Leaf(ahead_at_0()))
+}
+
+fn leaf_1() -> Option<Tree<Eight<u64>>> {
+    Some(Tree::Leaf(ahead_at_1()))
+}
+
+// What a tree folds to, if it is there.
+fn folded(tree: Option<Tree<Eight<u64>>>) -> Option<[u64; 8]> {
+    Some(fold_tree(tree?).into_array())
+}
+
 #[test]
-fn leaves_alone_decide_a_tree(rt: HostRuntime) -> Result<(), Fail> {
+fn leaves_alone_decide_a_tree(rt: HostRuntime) {
     let alloc = rt.alloc();
-    let want = Eight::from_array([5, 9, 0, 0, 0, 0, 0, 1]);
+    let tree = merge(alloc, leaf_0(), leaf_1());
+    assert_eq!(rt; folded(tree), Some(FURTHEST));
+    let mirror = merge(alloc, leaf_1(), leaf_0());
+    assert_eq!(rt; folded(mirror), Some(FURTHEST));
+    let left = merge(alloc, leaf_0(), leaf_0());
+    let repeated = merge(alloc, left, merge(alloc, leaf_0(), leaf_1()));
+    assert_eq!(rt; folded(repeated), Some(FURTHEST));
+    let regrouped = merge(alloc, merge(alloc, leaf_0(), leaf_1()), leaf_0());
+    assert_eq!(rt; folded(regrouped), Some(FURTHEST));
+}
 
-    let tree = merge(alloc, Tree::Leaf(ahead_at_0()), Tree::Leaf(ahead_at_1()))?;
-    let mirror = merge(alloc, Tree::Leaf(ahead_at_1()), Tree::Leaf(ahead_at_0()))?;
-    assert_eq!(rt; fold_tree(tree), want);
-    assert_eq!(rt; fold_tree(mirror), want);
-
-    let left = merge(alloc, Tree::Leaf(ahead_at_0()), Tree::Leaf(ahead_at_0()))?;
-    let right = merge(alloc, Tree::Leaf(ahead_at_0()), Tree::Leaf(ahead_at_1()))?;
-    let repeated = merge(alloc, left, right)?;
-    assert_eq!(rt; fold_tree(repeated), want);
-
-    let left = merge(alloc, Tree::Leaf(ahead_at_0()), Tree::Leaf(ahead_at_1()))?;
-    let regrouped = merge(alloc, left, Tree::Leaf(ahead_at_0()))?;
-    assert_eq!(rt; fold_tree(regrouped), want);
-    Ok(())
+// The trees of depth 1000 that the numbers below 1001 make, each merged on the right and on the left.
+fn deep(alloc: Global) -> Option<(Tree<u64>, Tree<u64>)> {
+    let mut tree = Some(Tree::Leaf(0));
+    let mut dropped = Some(Tree::Leaf(0));
+    for count in 1..1001 {
+        tree = merge(alloc, tree, Some(Tree::Leaf(count)));
+        dropped = merge(alloc, Some(Tree::Leaf(count)), dropped);
+    }
+    Some((tree?, dropped?))
 }
 
 #[test]
 fn folds_a_tree_of_depth_1000(rt: HostRuntime) -> Result<(), Fail> {
-    let mut tree: Tree<u64> = Tree::Leaf(0);
-    let mut dropped: Tree<u64> = Tree::Leaf(0);
-    for count in 1..1001 {
-        tree = merge(rt.alloc(), tree, Tree::Leaf(count))?;
-        dropped = merge(rt.alloc(), Tree::Leaf(count), dropped)?;
-    }
+    let (tree, dropped) = deep(rt.alloc()).ok_or("a tree")?;
     assert_eq!(rt; fold_tree(tree), 1000);
     drop(dropped);
     Ok(())
 }
 
+// The join of a number and others.
+fn joined(alloc: Global, first: u64, others: &[u64]) -> Result<u64, Fail> {
+    Ok(join_all(first, Vec::from_slice(alloc, others)?))
+}
+
+// The join of eights as a list, and as a tree's leaves.
+fn joined_eights(alloc: Global) -> Result<[u64; 8], Fail> {
+    let others = vec![in alloc; ahead_at_1(), ahead_at_0(), ahead_at_1()]?;
+    Ok(join_eights(ahead_at_0(), others).into_array())
+}
+
 #[test]
 fn joins_a_list(rt: HostRuntime) -> Result<(), Fail> {
     let alloc = rt.alloc();
-    assert_eq!(rt; join_all(4, vec![in alloc; 9, 2, 9]?), 9);
-    assert_eq!(rt; join_all(9, vec![in alloc; 2, 4]?), 9);
-    assert_eq!(rt; join_all(4, Vec::new(alloc)), 4);
-    let marks = vec![in alloc; ahead_at_1(), ahead_at_0(), ahead_at_1()]?;
-    assert_eq!(rt;
-        join_eights(ahead_at_0(), marks).into_array(),
-        [5, 9, 0, 0, 0, 0, 0, 1]
-    );
-    let tree = merge(alloc, Tree::Leaf(ahead_at_1()), Tree::Leaf(ahead_at_0()))?;
-    assert_eq!(rt; fold_eights(tree).into_array(), [5, 9, 0, 0, 0, 0, 0, 1]);
+    assert_eq!(rt; joined(alloc, 4, &[9, 2, 9])?, 9);
+    assert_eq!(rt; joined(alloc, 9, &[2, 4])?, 9);
+    assert_eq!(rt; joined(alloc, 4, &[])?, 4);
+    assert_eq!(rt; joined_eights(alloc)?, FURTHEST);
+    let tree = merge(alloc, leaf_1(), leaf_0()).ok_or("a tree")?;
+    assert_eq!(rt; fold_eights(tree).into_array(), FURTHEST);
     Ok(())
 }

@@ -10,3 +10,7 @@ mod joins;
 mod marks;
 #[cfg(test)]
 mod origins;
+#[cfg(test)]
+mod programs;
+#[cfg(test)]
+mod trees;

@@ -1,34 +1,26 @@
 //! A countdown's marks: their counts, their stop and their copies, joins and what they refuse, trees and lists.
 
-ghost use Rattle.std.specs.Prelude.{◌≡◌, ◌≤◌, All, IfOk};
+ghost use Rattle.std.specs.Prelude.{◌≡◌, All, IfSome};
 ghost use Rattle.std.specs.Arc.{arc_value};
 ghost use Rattle.checkpoint.specs.Aligned.{AreMarksOf};
-ghost use Rattle.join_law.specs.Tree.{leaves};
+ghost use Rattle.mark_tests.specs.Leaves.{leaves_of};
 
+use crate::programs::{COUNTDOWN, program};
+use crate::trees::{join_of, listed, merge, with_place_1};
 use checkpoint::{
     Mark, MarkFault, aligned, furthest, furthest_each, furthest_leaf, furthest_leaf_each, starts,
 };
 use hart_step::{Environment, Stop};
-use join_law::{Ctx, Eight, Join, Tree};
+use join_law::{Ctx, Eight, Tree};
 use origin_set::Origin;
-use rv64_asm::Program;
 use std::alloc::Global;
 use std::sync::Arc;
 use std::test::Fail;
 
-/// Counts x5 from 10 down to 0: 21 instructions and an ECALL.
-const COUNTDOWN: [u32; 4] = [0x00A0_0293, 0xFFF2_8293, 0xFE02_9EE3, 0x0000_0073];
-
 /// The origin with the countdown at contexts 0 and 1, and a data byte at context 1.
 fn origin_of(alloc: Global, byte: u8) -> Result<Arc<Origin>, Fail> {
-    let first = Program::new(
-        Vec::from_slice(alloc, &COUNTDOWN)?,
-        Vec::from_slice(alloc, &[])?,
-    );
-    let second = Program::new(
-        Vec::from_slice(alloc, &COUNTDOWN)?,
-        Vec::from_slice(alloc, &[byte])?,
-    );
+    let first = program(alloc, &COUNTDOWN, &[])?;
+    let second = program(alloc, &COUNTDOWN, &[byte])?;
     let programs = [
         Some(first),
         Some(second),
@@ -43,17 +35,25 @@ fn origin_of(alloc: Global, byte: u8) -> Result<Arc<Origin>, Fail> {
     Ok(Arc::new(alloc, origin)?)
 }
 
-/// The mark of a context after so many instructions.
-fn mark_at(alloc: Global, origin: &Arc<Origin>, context: Ctx, count: u64) -> Result<Mark, MarkFault>
-    requires { count ≤ 1000 }
-    ensures origin { IfOk result (λ mark. mark.origin ≡ arc_value origin.now) }
-    ensures context { IfOk result (λ mark. mark.context ≡ context) }
+/// Takes a mark from its start so many instructions further, at most 1000.
+fn go_on(mark: &mut Mark, count: u64)
+    requires { mark.old.count ≡ 0 }
+    ensures origin { mark.new.origin ≡ mark.old.origin }
+    ensures context { mark.new.context ≡ mark.old.context }
 {
-    let mut mark = Mark::start(alloc, origin, context)?;
-    let Ok(_) = mark.advance(count) else {
-        return Err(MarkFault::OutOfMemory);
+    let Ok(_) = mark.advance(count.min(1000)) else {
+        return;
     };
-    Ok(mark)
+}
+
+/// The mark of a context after so many instructions, at most 1000.
+fn mark_at(alloc: Global, origin: &Arc<Origin>, context: Ctx, count: u64) -> Option<Mark>
+    ensures origin { IfSome result (λ mark. mark.origin ≡ arc_value origin.now) }
+    ensures context { IfSome result (λ mark. mark.context ≡ context) }
+{
+    let mut mark = Mark::start(alloc, origin, context).ok()?;
+    go_on(&mut mark, count);
+    Some(mark)
 }
 
 /// The count, the pc and x5 of a mark.
@@ -62,71 +62,61 @@ fn shown(mark: &Mark) -> (u64, u64, u64) {
     (mark.count(), state.pc(), state.regs()[5])
 }
 
-/// What a mark that went on from 7 to the stop shows, and what a copy of it from before does.
-fn to_the_stop(alloc: Global, mut mark: Mark) -> Result<[(u64, u64, u64); 2], MarkFault>
-    requires { mark.count ≤ 1000 }
-{
-    let copy = mark.try_clone(alloc)?;
-    let _ = mark.advance(100)?;
-    Ok([shown(&mark), shown(&copy)])
+/// What a mark that went on to the stop shows, and what a copy of it from before does.
+fn to_the_stop(alloc: Global, mark: &mut Mark) -> Option<[(u64, u64, u64); 2]> {
+    if mark.count() > 1000 {
+        return None;
+    }
+    let copy = mark.try_clone(alloc).ok()?;
+    let _ = mark.advance(100);
+    Some([shown(mark), shown(&copy)])
 }
 
-#[test]
-fn counts_down(rt: HostRuntime) -> Result<(), Fail> {
-    let alloc = rt.alloc();
-    let origin = origin_of(alloc, 1)?;
-    let [first, ..] = Ctx::all();
-    let mut mark = Mark::start(alloc, &origin, first)?;
-    assert_eq!(rt; shown(&mark), (0, 0x10000, 0));
-    assert_eq!(rt; mark.advance(7)?, (7, None));
-    assert_eq!(rt; shown(&mark), (7, 0x10004, 7));
-    assert!(rt; mark.context() == first && mark.origin().same(&origin) && mark.count() <= 1000);
-    let ends = to_the_stop(alloc, mark)?;
-    assert_eq!(rt; ends, [(21, 0x1000c, 0), (7, 0x10004, 7)]);
-    Ok(())
+/// What a mark shows at its start and after 7 instructions, what that advance returns, whether origin and context are
+/// kept, and what the mark and its copy show at the stop.
+#[derive(Clone, Copy)]
+struct CountingDown {
+    start: (u64, u64, u64),
+    answer: Result<(u64, Option<Stop>), MarkFault>,
+    later: (u64, u64, u64),
+    is_kept: bool,
+    ends: Option<[(u64, u64, u64); 2]>,
+}
+
+fn countdown(alloc: Global, origin: &Arc<Origin>, context: Ctx) -> Option<CountingDown> {
+    let mut mark = Mark::start(alloc, origin, context).ok()?;
+    let start = shown(&mark);
+    let answer = mark.advance(7);
+    let later = shown(&mark);
+    let is_kept = mark.context() == context && mark.origin().same(origin);
+    let ends = to_the_stop(alloc, &mut mark);
+    Some(CountingDown {
+        start,
+        answer,
+        later,
+        is_kept,
+        ends,
+    })
+}
+
+/// The registers and pc of a mark's hart.
+fn hart_of(alloc: Global, mark: &Mark) -> Option<([u64; 32], u64)> {
+    let hart = mark.hart(alloc).ok()?;
+    Some((*hart.regs(), hart.pc()))
 }
 
 /// What a run of 30 instructions of a context returns, and the registers and pc of the hart then.
-fn at_the_stop(
-    alloc: Global,
-    origin: &Arc<Origin>,
-    context: Ctx,
-) -> Result<((u64, Option<Stop>), [u64; 32], u64), MarkFault> {
-    let mut mark = Mark::start(alloc, origin, context)?;
-    let answer = mark.advance(30)?;
-    let hart = mark.hart(alloc)?;
-    Ok((answer, *hart.regs(), hart.pc()))
+#[derive(Clone, Copy)]
+struct AtTheStop {
+    answer: Result<(u64, Option<Stop>), MarkFault>,
+    hart: Option<([u64; 32], u64)>,
 }
 
-#[test]
-fn stops(rt: HostRuntime) -> Result<(), Fail> {
-    let alloc = rt.alloc();
-    let origin = &origin_of(alloc, 1)?;
-    let [first, ..] = Ctx::all();
-    let (answer, registers, pc) = at_the_stop(alloc, origin, first)?;
-    assert_eq!(rt; answer, (21, Some(Stop::Ecall)));
-    assert_eq!(rt; registers, [0; 32]);
-    assert_eq!(rt; pc, 0x1000c);
-    Ok(())
-}
-
-/// Also run with `rt try --test --fail-alloc N`, which refuses the Nth growth: C3 is returned, and the mark stays.
-#[test]
-fn returns_c3_for_refused_growths(rt: HostRuntime) -> Result<(), Fail> {
-    let alloc = rt.alloc();
-    let origin = origin_of(alloc, 1)?;
-    let [first, ..] = Ctx::all();
-    let Ok(mark) = Mark::start(alloc, &origin, first) else {
-        return Ok(());
-    };
-    if let Err(fault) = mark.try_clone(alloc) {
-        assert_eq!(rt; fault, MarkFault::OutOfMemory);
-    }
-    if let Err(fault) = mark.hart(alloc) {
-        assert_eq!(rt; fault, MarkFault::OutOfMemory);
-    }
-    assert_eq!(rt; shown(&mark), (0, 0x10000, 0));
-    Ok(())
+fn at_the_stop(alloc: Global, origin: &Arc<Origin>, context: Ctx) -> Option<AtTheStop> {
+    let mut mark = Mark::start(alloc, origin, context).ok()?;
+    let answer = mark.advance(30);
+    let hart = hart_of(alloc, &mark);
+    Some(AtTheStop { answer, hart })
 }
 
 /// What the join of two marks of a context shows, where they are kin.
@@ -135,40 +125,249 @@ fn joined(
     origin: &Arc<Origin>,
     context: Ctx,
     counts: (u64, u64),
-) -> Result<Option<(u64, u64, u64)>, MarkFault>
-    requires left { counts.0 ≤ 1000 }
-    requires right { counts.1 ≤ 1000 }
+) -> Option<(u64, u64, u64)> {
+    let left = mark_at(alloc, origin, context, counts.0);
+    let right = mark_at(alloc, origin, context, counts.1);
+    let mark = join_of(left, right)?;
+    Some(shown(&mark))
+}
+
+/// The marks with those counts, at most 1000, at contexts 0 and 1, and 0 at the others.
+fn grid(alloc: Global, origin: &Arc<Origin>, counts: (u64, u64)) -> Option<Eight<Mark>>
+    ensures { IfSome result (AreMarksOf (arc_value origin.now)) }
 {
-    let left = mark_at(alloc, origin, context, counts.0)?;
-    let right = mark_at(alloc, origin, context, counts.1)?;
-    if left.kin(&right) {
-        Ok(Some(shown(&left.join(right))))
-    } else {
-        Ok(None)
-    }
+    let mut marks = starts(alloc, origin).ok()?;
+    go_on(&mut marks.c0, counts.0);
+    go_on(&mut marks.c1, counts.1);
+    Some(marks)
+}
+
+/// The leaf of the grid with these counts.
+fn leaf(alloc: Global, origin: &Arc<Origin>, counts: (u64, u64)) -> Option<Tree<Eight<Mark>>>
+    ensures { All (AreMarksOf (arc_value origin.now)) (leaves_of result) }
+{
+    Some(Tree::Leaf(grid(alloc, origin, counts)?))
+}
+
+/// The tree of two grids.
+#[tactic(auto, using(crate::proofs::Merged::all_merged))]
+fn two(
+    alloc: Global,
+    origin: &Arc<Origin>,
+    left: (u64, u64),
+    right: (u64, u64),
+) -> Option<Tree<Eight<Mark>>>
+    ensures { All (AreMarksOf (arc_value origin.now)) (leaves_of result) }
+{
+    let left = leaf(alloc, origin, left);
+    merge(alloc, left, leaf(alloc, origin, right))
+}
+
+/// The counts at contexts 0 and 1 of a folded tree of grids of the origin.
+fn folded(origin: &Arc<Origin>, tree: Option<Tree<Eight<Mark>>>) -> Option<(u64, u64)>
+    requires { All (AreMarksOf (arc_value origin.now)) (leaves_of tree) }
+{
+    let _ = origin;
+    let Some(tree) = tree else {
+        return None;
+    };
+    let best = furthest_leaf_each(tree);
+    Some((best.c0.count(), best.c1.count()))
+}
+
+const FIVE_THREE: (u64, u64) = (5, 3);
+
+const TWO_NINE: (u64, u64) = (2, 9);
+
+/// The counts of two grids merged.
+fn folded_two(
+    alloc: Global,
+    origin: &Arc<Origin>,
+    left: (u64, u64),
+    right: (u64, u64),
+) -> Option<(u64, u64)> {
+    folded(origin, two(alloc, origin, left, right))
+}
+
+/// The counts of three grids, grouped to the left.
+#[tactic(auto, using(crate::proofs::Merged::all_merged))]
+fn folded_to_the_left(
+    alloc: Global,
+    origin: &Arc<Origin>,
+    counts: [(u64, u64); 3],
+) -> Option<(u64, u64)> {
+    let both = two(alloc, origin, counts[0], counts[1]);
+    let last = leaf(alloc, origin, counts[2]);
+    folded(origin, merge(alloc, both, last))
+}
+
+/// The counts of three grids, grouped to the right.
+#[tactic(auto, using(crate::proofs::Merged::all_merged))]
+fn folded_to_the_right(
+    alloc: Global,
+    origin: &Arc<Origin>,
+    counts: [(u64, u64); 3],
+) -> Option<(u64, u64)> {
+    let first = leaf(alloc, origin, counts[0]);
+    let both = two(alloc, origin, counts[1], counts[2]);
+    folded(origin, merge(alloc, first, both))
+}
+
+/// The counts of the merges of two grids in both ways.
+#[tactic(auto, using(crate::proofs::Merged::all_merged))]
+fn folded_both_ways(
+    alloc: Global,
+    origin: &Arc<Origin>,
+    one: (u64, u64),
+    other: (u64, u64),
+) -> Option<(u64, u64)> {
+    let left = two(alloc, origin, one, other);
+    let right = two(alloc, origin, other, one);
+    folded(origin, merge(alloc, left, right))
+}
+
+/// The furthest of both grids, merged both ways, doubled and regrouped.
+fn folded_counts(alloc: Global, origin: &Arc<Origin>) -> Option<[(u64, u64); 5]> {
+    Some([
+        folded_two(alloc, origin, FIVE_THREE, TWO_NINE)?,
+        folded_two(alloc, origin, TWO_NINE, FIVE_THREE)?,
+        folded_to_the_left(alloc, origin, [FIVE_THREE, TWO_NINE, FIVE_THREE])?,
+        folded_to_the_right(alloc, origin, [TWO_NINE, TWO_NINE, FIVE_THREE])?,
+        folded_both_ways(alloc, origin, TWO_NINE, FIVE_THREE)?,
+    ])
+}
+
+/// The furthest of the marks of a context after 2 and 9 instructions, as a list and then as a leaf.
+fn furthest_of_list(alloc: Global, origin: &Arc<Origin>, context: Ctx) -> Option<u64> {
+    let first = mark_at(alloc, origin, context, 2)?;
+    let second = mark_at(alloc, origin, context, 9)?;
+    let (first, others) = listed(alloc, first, second)?;
+    Some(furthest_leaf(Tree::<Mark>::Leaf(furthest(first, others))).count())
+}
+
+/// The counts at contexts 0 and 1 of the furthest of two grids.
+fn furthest_counts(alloc: Global, origin: &Arc<Origin>) -> Option<(u64, u64)> {
+    let first = grid(alloc, origin, FIVE_THREE)?;
+    let second = grid(alloc, origin, TWO_NINE)?;
+    let (first, others) = listed(alloc, first, second)?;
+    let best = furthest_each(first, others);
+    Some((best.c0.count(), best.c1.count()))
+}
+
+/// What marks of the countdown show.
+#[derive(Clone, Copy)]
+struct ShownMarks {
+    countdown: CountingDown,
+    at_the_stop: AtTheStop,
+    joined: [(u64, u64, u64); 4],
+    folded: [(u64, u64); 5],
+    of_list: u64,
+    of_eights: (u64, u64),
+}
+
+fn shown_by(alloc: Global, origin: &Arc<Origin>) -> Option<ShownMarks> {
+    let [first, ..] = Ctx::all();
+    Some(ShownMarks {
+        countdown: countdown(alloc, origin, first)?,
+        at_the_stop: at_the_stop(alloc, origin, first)?,
+        joined: [
+            joined(alloc, origin, first, (4, 7))?,
+            joined(alloc, origin, first, (7, 4))?,
+            joined(alloc, origin, first, (7, 7))?,
+            joined(alloc, origin, first, (30, 0))?,
+        ],
+        folded: folded_counts(alloc, origin)?,
+        of_list: furthest_of_list(alloc, origin, first)?,
+        of_eights: furthest_counts(alloc, origin)?,
+    })
+}
+
+/// What marks of the countdown show, where memory suffices. Here alone the origin is held.
+fn marks_shown(alloc: Global) -> Result<ShownMarks, Fail> {
+    let origin = origin_of(alloc, 1)?;
+    let shown = shown_by(alloc, &origin);
+    drop(origin);
+    Ok(shown.ok_or("a mark")?)
+}
+
+#[test]
+fn counts_down(rt: HostRuntime) -> Result<(), Fail> {
+    let shown = marks_shown(rt.alloc())?.countdown;
+    assert_eq!(rt; shown.start, (0, 0x10000, 0));
+    assert_eq!(rt; shown.answer, Ok((7, None)));
+    assert_eq!(rt; shown.later, (7, 0x10004, 7));
+    assert!(rt; shown.is_kept);
+    assert_eq!(rt; shown.ends, Some([(21, 0x1000c, 0), (7, 0x10004, 7)]));
+    Ok(())
+}
+
+#[test]
+fn stops(rt: HostRuntime) -> Result<(), Fail> {
+    let shown = marks_shown(rt.alloc())?.at_the_stop;
+    let (registers, pc) = shown.hart.ok_or("a hart")?;
+    assert_eq!(rt; shown.answer, Ok((21, Some(Stop::Ecall))));
+    assert_eq!(rt; registers, [0; 32]);
+    assert_eq!(rt; pc, 0x1000c);
+    Ok(())
 }
 
 #[test]
 fn joins_to_the_further(rt: HostRuntime) -> Result<(), Fail> {
-    let alloc = rt.alloc();
-    let origin = &origin_of(alloc, 1)?;
+    let [of_4_and_7, of_7_and_4, of_7_and_7, of_30_and_0] = marks_shown(rt.alloc())?.joined;
+    assert_eq!(rt; of_4_and_7, (7, 0x10004, 7));
+    assert_eq!(rt; of_7_and_4, (7, 0x10004, 7));
+    assert_eq!(rt; of_7_and_7, (7, 0x10004, 7));
+    assert_eq!(rt; of_30_and_0, (21, 0x1000c, 0));
+    Ok(())
+}
+
+#[test]
+fn grid_of_merges(rt: HostRuntime) -> Result<(), Fail> {
+    assert_eq!(rt; marks_shown(rt.alloc())?.folded, [(5, 9); 5]);
+    Ok(())
+}
+
+#[test]
+fn furthest_of_lists(rt: HostRuntime) -> Result<(), Fail> {
+    assert_eq!(rt; marks_shown(rt.alloc())?.of_list, 9);
+    Ok(())
+}
+
+#[test]
+fn furthest_of_eights(rt: HostRuntime) -> Result<(), Fail> {
+    assert_eq!(rt; marks_shown(rt.alloc())?.of_eights, (5, 9));
+    Ok(())
+}
+
+/// What a mark's refused copy and hart give, and what the mark shows then; none where the mark itself is refused.
+#[derive(Clone, Copy)]
+struct RefusedGrowths {
+    copy: Option<MarkFault>,
+    hart: Option<MarkFault>,
+    mark: (u64, u64, u64),
+}
+
+fn refused_growths(alloc: Global, origin: &Arc<Origin>) -> Option<RefusedGrowths> {
     let [first, ..] = Ctx::all();
-    assert_eq!(rt;
-        joined(alloc, origin, first, (4, 7))?,
-        Some((7, 0x10004, 7))
-    );
-    assert_eq!(rt;
-        joined(alloc, origin, first, (7, 4))?,
-        Some((7, 0x10004, 7))
-    );
-    assert_eq!(rt;
-        joined(alloc, origin, first, (7, 7))?,
-        Some((7, 0x10004, 7))
-    );
-    assert_eq!(rt;
-        joined(alloc, origin, first, (30, 0))?,
-        Some((21, 0x1000c, 0))
-    );
+    let mark = Mark::start(alloc, origin, first).ok()?;
+    let copy = mark.try_clone(alloc).err();
+    let hart = mark.hart(alloc).err();
+    let mark = shown(&mark);
+    Some(RefusedGrowths { copy, hart, mark })
+}
+
+/// Also run with `rt try --test --fail-alloc N`, which refuses the Nth growth: C3 is returned, and the mark stays.
+#[test]
+fn returns_c3_for_refused_growths(rt: HostRuntime) -> Result<(), Fail> {
+    let origin = origin_of(rt.alloc(), 1)?;
+    let refused = refused_growths(rt.alloc(), &origin);
+    drop(origin);
+    let Some(refused) = refused else {
+        return Ok(());
+    };
+    assert!(rt; matches!(&refused.copy, None | Some(MarkFault::OutOfMemory)));
+    assert!(rt; matches!(&refused.hart, None | Some(MarkFault::OutOfMemory)));
+    assert_eq!(rt; refused.mark, (0, 0x10000, 0));
     Ok(())
 }
 
@@ -185,49 +384,10 @@ fn refused_at(
     alloc: Global,
     origins: (&Arc<Origin>, &Arc<Origin>),
     contexts: (Ctx, Ctx),
-) -> Result<Option<(u64, u64, MarkFault)>, MarkFault> {
+) -> Option<Option<(u64, u64, MarkFault)>> {
     let left = mark_at(alloc, origins.0, contexts.0, 5)?;
     let right = mark_at(alloc, origins.1, contexts.1, 8)?;
-    Ok(refused(left, right))
-}
-
-#[test]
-fn hands_back_what_it_refuses(rt: HostRuntime) -> Result<(), Fail> {
-    let alloc = rt.alloc();
-    let origin = &origin_of(alloc, 1)?;
-    let foreign = &origin_of(alloc, 2)?;
-    let [first, second, ..] = Ctx::all();
-    let of_foreign = refused_at(alloc, (origin, foreign), (first, first))?;
-    assert_eq!(rt; of_foreign, Some((5, 8, MarkFault::ForeignOrigin)));
-    let of_other = refused_at(alloc, (origin, origin), (first, second))?;
-    assert_eq!(rt; of_other, Some((5, 8, MarkFault::OtherContext)));
-    let of_both = refused_at(alloc, (origin, foreign), (first, second))?;
-    assert_eq!(rt; of_both, Some((5, 8, MarkFault::ForeignOrigin)));
-    assert_eq!(rt; refused_at(alloc, (origin, origin), (first, first))?, None);
-    Ok(())
-}
-
-#[test]
-fn codes(rt: HostRuntime) -> Result<(), Fail> {
-    let alloc = rt.alloc();
-    let foreign = MarkFault::ForeignOrigin.to_string(alloc)?;
-    let other = MarkFault::OtherContext.to_string(alloc)?;
-    let memory = MarkFault::OutOfMemory.to_string(alloc)?;
-    assert_eq!(rt;
-        (foreign.as_str(), other.as_str(), memory.as_str()),
-        ("C1", "C2", "C3")
-    );
-    Ok(())
-}
-
-/// The marks with those counts, at most 1000, at contexts 0 and 1, and 0 at the others.
-fn grid(alloc: Global, origin: &Arc<Origin>, counts: (u64, u64)) -> Result<Eight<Mark>, MarkFault>
-    ensures { IfOk result (AreMarksOf (arc_value origin.now)) }
-{
-    let mut marks = starts(alloc, origin)?;
-    let _ = marks.c0.advance(counts.0.min(1000))?;
-    let _ = marks.c1.advance(counts.1.min(1000))?;
-    Ok(marks)
+    Some(refused(left, right))
 }
 
 /// Whether eight marks at the starts of an origin are aligned once that at place 1 is replaced by the start of a context
@@ -237,198 +397,72 @@ fn aligned_with(
     origin: &Arc<Origin>,
     other: &Arc<Origin>,
     context: Ctx,
-) -> Result<bool, MarkFault> {
-    let at_1 = Mark::start(alloc, other, context)?;
-    let mut marks = starts(alloc, origin)?;
-    marks.c1 = at_1;
-    Ok(aligned(&marks))
+) -> Option<bool> {
+    let at_1 = Mark::start(alloc, other, context).ok();
+    let marks = with_place_1(starts(alloc, origin).ok(), at_1)?;
+    Some(aligned(&marks))
 }
 
-/// The same for origins that differ in a data byte.
-fn aligned_at(alloc: Global, bytes: (u8, u8), context: Ctx) -> Result<bool, Fail> {
+/// What marks of two origins show.
+#[derive(Clone, Copy)]
+struct OfTwo {
+    of_foreign: Option<(u64, u64, MarkFault)>,
+    of_other: Option<(u64, u64, MarkFault)>,
+    of_both: Option<(u64, u64, MarkFault)>,
+    of_kin: Option<(u64, u64, MarkFault)>,
+    is_aligned: bool,
+    is_aligned_at_first: bool,
+}
+
+fn shown_by_two(alloc: Global, origin: &Arc<Origin>, other: &Arc<Origin>) -> Option<OfTwo> {
+    let [first, second, ..] = Ctx::all();
+    Some(OfTwo {
+        of_foreign: refused_at(alloc, (origin, other), (first, first))?,
+        of_other: refused_at(alloc, (origin, origin), (first, second))?,
+        of_both: refused_at(alloc, (origin, other), (first, second))?,
+        of_kin: refused_at(alloc, (origin, origin), (first, first))?,
+        is_aligned: aligned_with(alloc, origin, other, second)?,
+        is_aligned_at_first: aligned_with(alloc, origin, other, first)?,
+    })
+}
+
+/// What marks of two origins with these data bytes show, where memory suffices.
+fn marks_shown_of_two(alloc: Global, bytes: (u8, u8)) -> Result<OfTwo, Fail> {
     let origin = origin_of(alloc, bytes.0)?;
     let other = origin_of(alloc, bytes.1)?;
-    Ok(aligned_with(alloc, &origin, &other, context)?)
+    let shown = shown_by_two(alloc, &origin, &other);
+    drop(origin);
+    drop(other);
+    Ok(shown.ok_or("a mark")?)
+}
+
+#[test]
+fn hands_back_what_it_refuses(rt: HostRuntime) -> Result<(), Fail> {
+    let shown = marks_shown_of_two(rt.alloc(), (1, 2))?;
+    assert_eq!(rt; shown.of_foreign, Some((5, 8, MarkFault::ForeignOrigin)));
+    assert_eq!(rt; shown.of_other, Some((5, 8, MarkFault::OtherContext)));
+    assert_eq!(rt; shown.of_both, Some((5, 8, MarkFault::ForeignOrigin)));
+    assert_eq!(rt; shown.of_kin, None);
+    Ok(())
 }
 
 #[test]
 fn aligns(rt: HostRuntime) -> Result<(), Fail> {
-    let [first, second, ..] = Ctx::all();
-    assert!(rt; aligned_at(rt.alloc(), (1, 1), second)?);
-    assert!(rt; !aligned_at(rt.alloc(), (1, 1), first)?);
-    assert!(rt; !aligned_at(rt.alloc(), (1, 2), second)?);
+    let of_same = marks_shown_of_two(rt.alloc(), (1, 1))?;
+    assert!(rt; of_same.is_aligned);
+    assert!(rt; !of_same.is_aligned_at_first);
+    assert!(rt; !marks_shown_of_two(rt.alloc(), (1, 2))?.is_aligned);
     Ok(())
 }
 
-/// The tree that merges two trees of grids of the origin.
-fn merge(
-    alloc: Global,
-    origin: &Arc<Origin>,
-    left: Tree<Eight<Mark>>,
-    right: Tree<Eight<Mark>>,
-) -> Result<Tree<Eight<Mark>>, MarkFault>
-    requires left { All (AreMarksOf (arc_value origin.now)) (leaves left) }
-    requires right { All (AreMarksOf (arc_value origin.now)) (leaves right) }
-    ensures { IfOk result (λ tree. All (AreMarksOf (arc_value origin.now)) (leaves tree)) }
-{
-    let _ = origin;
-    let Ok(left) = Box::new(alloc, left) else {
-        return Err(MarkFault::OutOfMemory);
-    };
-    let Ok(right) = Box::new(alloc, right) else {
-        return Err(MarkFault::OutOfMemory);
-    };
-    Ok(Tree::Merge(left, right))
-}
-
-/// The leaf of the grid with these counts.
-fn leaf(
-    alloc: Global,
-    origin: &Arc<Origin>,
-    counts: (u64, u64),
-) -> Result<Tree<Eight<Mark>>, MarkFault>
-    ensures { IfOk result (λ tree. All (AreMarksOf (arc_value origin.now)) (leaves tree)) }
-{
-    Ok(Tree::Leaf(grid(alloc, origin, counts)?))
-}
-
-/// The tree of two grids.
-fn two(
-    alloc: Global,
-    origin: &Arc<Origin>,
-    left: (u64, u64),
-    right: (u64, u64),
-) -> Result<Tree<Eight<Mark>>, MarkFault>
-    ensures { IfOk result (λ tree. All (AreMarksOf (arc_value origin.now)) (leaves tree)) }
-{
-    let first = leaf(alloc, origin, left)?;
-    merge(alloc, origin, first, leaf(alloc, origin, right)?)
-}
-
-/// The counts at contexts 0 and 1 of a folded tree of grids of the origin.
-fn folded(origin: &Arc<Origin>, tree: Tree<Eight<Mark>>) -> (u64, u64)
-    requires { All (AreMarksOf (arc_value origin.now)) (leaves tree) }
-{
-    let _ = origin;
-    let best = furthest_leaf_each(tree);
-    (best.c0.count(), best.c1.count())
-}
-
-/// Two grids merged and folded.
-fn folded_two(
-    alloc: Global,
-    origin: &Arc<Origin>,
-    left: (u64, u64),
-    right: (u64, u64),
-) -> Result<(u64, u64), MarkFault> {
-    Ok(folded(origin, two(alloc, origin, left, right)?))
-}
-
-/// Three grids, grouped to the left, merged and folded.
-fn folded_to_the_left(
-    alloc: Global,
-    origin: &Arc<Origin>,
-    counts: [(u64, u64); 3],
-) -> Result<(u64, u64), MarkFault> {
-    let both = two(alloc, origin, counts[0], counts[1])?;
-    let all = merge(alloc, origin, both, leaf(alloc, origin, counts[2])?)?;
-    Ok(folded(origin, all))
-}
-
-/// Three grids, grouped to the right, merged and folded.
-fn folded_to_the_right(
-    alloc: Global,
-    origin: &Arc<Origin>,
-    counts: [(u64, u64); 3],
-) -> Result<(u64, u64), MarkFault> {
-    let both = two(alloc, origin, counts[1], counts[2])?;
-    let all = merge(alloc, origin, leaf(alloc, origin, counts[0])?, both)?;
-    Ok(folded(origin, all))
-}
-
-/// The merges of two grids in both ways, merged and folded.
-fn folded_both_ways(
-    alloc: Global,
-    origin: &Arc<Origin>,
-    one: (u64, u64),
-    other: (u64, u64),
-) -> Result<(u64, u64), MarkFault> {
-    let left = two(alloc, origin, one, other)?;
-    let all = merge(alloc, origin, left, two(alloc, origin, other, one)?)?;
-    Ok(folded(origin, all))
-}
-
-const FIVE_THREE: (u64, u64) = (5, 3);
-
-const TWO_NINE: (u64, u64) = (2, 9);
-
-/// The furthest of both grids, merged both ways, doubled and regrouped.
-fn folded_counts(alloc: Global, origin: &Arc<Origin>) -> Result<[(u64, u64); 5], MarkFault> {
-    Ok([
-        folded_two(alloc, origin, FIVE_THREE, TWO_NINE)?,
-        folded_two(alloc, origin, TWO_NINE, FIVE_THREE)?,
-        folded_to_the_left(alloc, origin, [FIVE_THREE, TWO_NINE, FIVE_THREE])?,
-        folded_to_the_right(alloc, origin, [TWO_NINE, TWO_NINE, FIVE_THREE])?,
-        folded_both_ways(alloc, origin, TWO_NINE, FIVE_THREE)?,
-    ])
-}
-
 #[test]
-fn grid_of_merges(rt: HostRuntime) -> Result<(), Fail> {
-    let origin = &origin_of(rt.alloc(), 1)?;
-    let counts = folded_counts(rt.alloc(), origin)?;
-    assert_eq!(rt; counts, [(5, 9); 5]);
-    Ok(())
-}
-
-/// The furthest of the marks of a context after 2 and 9 instructions, as a list and then as a leaf.
-fn furthest_of_list(alloc: Global, origin: &Arc<Origin>, context: Ctx) -> Result<u64, MarkFault> {
-    let second = mark_at(alloc, origin, context, 9)?;
-    let first = mark_at(alloc, origin, context, 2)?;
-    let Ok(others) = vec![in alloc; second] else {
-        return Err(MarkFault::OutOfMemory);
-    };
-    Ok(furthest_leaf(Tree::<Mark>::Leaf(furthest(first, others))).count())
-}
-
-#[test]
-fn furthest_of_lists(rt: HostRuntime) -> Result<(), Fail> {
+fn codes(rt: HostRuntime) -> Result<(), Fail> {
     let alloc = rt.alloc();
-    let origin = &origin_of(alloc, 1)?;
-    let [first, ..] = Ctx::all();
-    assert_eq!(rt; furthest_of_list(alloc, origin, first)?, 9);
-    Ok(())
-}
-
-/// The furthest of two grids of the origin.
-fn furthest_of_two(
-    alloc: Global,
-    origin: &Arc<Origin>,
-    first: Eight<Mark>,
-    second: Eight<Mark>,
-) -> Result<Eight<Mark>, MarkFault>
-    requires first { AreMarksOf (arc_value origin.now) first }
-    requires second { AreMarksOf (arc_value origin.now) second }
-{
-    let _ = origin;
-    let Ok(others) = vec![in alloc; second] else {
-        return Err(MarkFault::OutOfMemory);
-    };
-    Ok(furthest_each(first, others))
-}
-
-/// The counts at contexts 0 and 1 of the furthest of two grids.
-fn furthest_counts(alloc: Global, origin: &Arc<Origin>) -> Result<(u64, u64), MarkFault> {
-    let first = grid(alloc, origin, FIVE_THREE)?;
-    let second = grid(alloc, origin, TWO_NINE)?;
-    let best = furthest_of_two(alloc, origin, first, second)?;
-    Ok((best.c0.count(), best.c1.count()))
-}
-
-#[test]
-fn furthest_of_eights(rt: HostRuntime) -> Result<(), Fail> {
-    let origin = origin_of(rt.alloc(), 1)?;
-    let counts = furthest_counts(rt.alloc(), &origin)?;
-    assert_eq!(rt; counts, (5, 9));
+    let foreign = MarkFault::ForeignOrigin.to_string(alloc)?;
+    assert_eq!(rt; foreign.as_str(), "C1");
+    let other = MarkFault::OtherContext.to_string(alloc)?;
+    assert_eq!(rt; other.as_str(), "C2");
+    let memory = MarkFault::OutOfMemory.to_string(alloc)?;
+    assert_eq!(rt; memory.as_str(), "C3");
     Ok(())
 }

@@ -3,6 +3,7 @@
 //! What a function holds is dropped on each of its ways out, and each drop of an origin has a cost in proof: so a helper
 //! holds one origin and returns plain data.
 
+use crate::programs::{COUNTDOWN, program};
 use hart_step::{Environment, Hart, Stop};
 use join_law::Ctx;
 use origin_set::{Origin, OriginFault};
@@ -10,17 +11,6 @@ use paged_memory::{Fault, Width};
 use rv64_asm::Program;
 use std::alloc::Global;
 use std::test::Fail;
-
-/// Counts x5 from 10 down to 0.
-const COUNTDOWN: [u32; 4] = [0x00A0_0293, 0xFFF2_8293, 0xFE02_9EE3, 0x0000_0073];
-
-/// A program of copies of the words and bytes.
-fn program(alloc: Global, words: &[u32], bytes: &[u8]) -> Result<Program, Fail> {
-    Ok(Program::new(
-        Vec::from_slice(alloc, words)?,
-        Vec::from_slice(alloc, bytes)?,
-    ))
-}
 
 /// The origin with a program at context 0 and another at context 7.
 fn outer(first: Option<Program>, last: Option<Program>) -> Result<Origin, OriginFault> {
@@ -73,20 +63,23 @@ fn digest_of_two_programs(rt: HostRuntime) -> Result<(), Fail> {
 }
 
 /// The origin whose only program, of these words and bytes, is that of context 7.
-fn last(alloc: Global, words: &[u32], bytes: &[u8]) -> Result<Origin, Fail> {
-    let program = program(alloc, words, bytes)?;
-    Ok(outer(None, Some(program))?)
+fn last(alloc: Global, words: &[u32], bytes: &[u8]) -> Option<Origin> {
+    let program = program(alloc, words, bytes).ok()?;
+    outer(None, Some(program)).ok()
 }
 
-/// Whether an origin is the one whose only program, of these words and bytes, is that of context 7.
-fn is_last(alloc: Global, origin: &Origin, words: &[u32], bytes: &[u8]) -> Result<bool, Fail> {
-    Ok(last(alloc, words, bytes)?.same(origin))
+/// Whether two origins are the same.
+fn same(left: Option<Origin>, right: Option<Origin>) -> Result<bool, Fail> {
+    let (Some(left), Some(right)) = (left, right) else {
+        return Err(Fail::from("no origin"));
+    };
+    Ok(left.same(&right))
 }
 
 /// Whether this program and the countdown with the data 1, 2 make the same origin at context 7.
 fn is_countdown(alloc: Global, words: &[u32], bytes: &[u8]) -> Result<bool, Fail> {
-    let countdown = last(alloc, &COUNTDOWN, &[1, 2])?;
-    is_last(alloc, &countdown, words, bytes)
+    let countdown = last(alloc, &COUNTDOWN, &[1, 2]);
+    same(countdown, last(alloc, words, bytes))
 }
 
 #[test]
@@ -98,38 +91,24 @@ fn compares_programs(rt: HostRuntime) -> Result<(), Fail> {
     Ok(())
 }
 
-/// Whether an origin is the one whose only program, an empty one, is that of context 0.
-fn is_first(alloc: Global, origin: &Origin) -> Result<bool, Fail> {
-    let program = program(alloc, &[], &[])?;
-    let first = outer(Some(program), None)?;
-    Ok(origin.same(&first))
-}
-
-/// Whether an origin has no programs, and the environment of one that has none.
-fn is_empty(origin: &Origin) -> Result<(bool, Environment), Fail> {
-    let empty = outer(None, None)?;
-    Ok((origin.same(&empty), empty.environment()))
-}
-
 /// Whether the origin of an empty program at context 7 is that of one at context 0.
 fn last_is_first(alloc: Global) -> Result<bool, Fail> {
-    let origin = last(alloc, &[], &[])?;
-    is_first(alloc, &origin)
+    let empty = program(alloc, &[], &[])?;
+    let first = outer(Some(empty), None).ok();
+    same(last(alloc, &[], &[]), first)
 }
 
-/// Whether the origin of an empty program at context 7 has no programs, and the environment of one that has none.
-fn last_is_empty(alloc: Global) -> Result<(bool, Environment), Fail> {
-    let origin = last(alloc, &[], &[])?;
-    is_empty(&origin)
+/// Whether the origin of an empty program at context 7 has no programs.
+fn last_is_empty(alloc: Global) -> Result<bool, Fail> {
+    same(last(alloc, &[], &[]), outer(None, None).ok())
 }
 
 #[test]
 fn compares_contexts(rt: HostRuntime) -> Result<(), Fail> {
     let alloc = rt.alloc();
     assert!(rt; !last_is_first(alloc)?);
-    let (same, environment) = last_is_empty(alloc)?;
-    assert!(rt; !same);
-    assert_eq!(rt; environment, Environment::One);
+    assert!(rt; !last_is_empty(alloc)?);
+    assert_eq!(rt; outer(None, None)?.environment(), Environment::One);
     Ok(())
 }
 
@@ -140,27 +119,6 @@ fn sized(alloc: Global, words: usize, bytes: usize) -> Result<Program, Fail> {
     let mut data = Vec::new(alloc);
     data.resize(bytes, 0)?;
     Ok(Program::new(text, data))
-}
-
-/// What context 7 starts from with a program of so many words and bytes.
-fn started(alloc: Global, words: usize, bytes: usize) -> Result<Hart, Fail> {
-    let Some(context) = Ctx::new(7) else {
-        unreachable!();
-    };
-    let program = sized(alloc, words, bytes)?;
-    let origin = outer(None, Some(program))?;
-    Ok(origin.hart(alloc, context)?)
-}
-
-#[test]
-fn full_pages(rt: HostRuntime) -> Result<(), Fail> {
-    let hart = started(rt.alloc(), 65_536, 1_048_576)?;
-    let memory = hart.memory();
-    assert_eq!(rt; memory.load(0x4FFFC, Width::Word), Ok(0x13));
-    assert_eq!(rt; memory.load(0x50000, Width::Word), Err(Fault::LoadAccess));
-    assert_eq!(rt; memory.load(0x1F_FFF8, Width::Double), Ok(0));
-    assert_eq!(rt; memory.load(0x20_0000, Width::Byte), Err(Fault::LoadAccess));
-    Ok(())
 }
 
 /// Why a program of so many words and bytes has no origin.
@@ -184,29 +142,89 @@ fn one_page_too_many(rt: HostRuntime) -> Result<(), Fail> {
     Ok(())
 }
 
+/// The registers and pc of a start, what is loaded at the ends of full pages and of the first data word, and what a run
+/// of 100 instructions returns.
+#[derive(Clone, Copy)]
+struct Start {
+    registers: [u64; 32],
+    pc: u64,
+    last_text: Result<u64, Fault>,
+    behind_text: Result<u64, Fault>,
+    first_data: Result<u64, Fault>,
+    last_data: Result<u64, Fault>,
+    behind_data: Result<u64, Fault>,
+    answer: (u64, Option<Stop>),
+}
+
+fn shown(hart: &mut Hart) -> Start {
+    let registers = *hart.regs();
+    let pc = hart.pc();
+    let memory = hart.memory();
+    let last_text = memory.load(0x4FFFC, Width::Word);
+    let behind_text = memory.load(0x50000, Width::Word);
+    let first_data = memory.load(0x10_0000, Width::Word);
+    let last_data = memory.load(0x1F_FFF8, Width::Double);
+    let behind_data = memory.load(0x20_0000, Width::Byte);
+    Start {
+        registers,
+        pc,
+        last_text,
+        behind_text,
+        first_data,
+        last_data,
+        behind_data,
+        answer: hart.run(100),
+    }
+}
+
+/// The hart that a context of an origin starts from.
+fn hart_of(alloc: Global, origin: Option<Origin>, context: Ctx) -> Option<Hart> {
+    let origin = origin?;
+    origin.hart(alloc, context).ok()
+}
+
+/// What a context of an origin starts from.
+fn start_of(alloc: Global, origin: Option<Origin>, context: Ctx) -> Result<Start, Fail> {
+    let Some(mut hart) = hart_of(alloc, origin, context) else {
+        return Err(Fail::from("no hart"));
+    };
+    Ok(shown(&mut hart))
+}
+
+#[test]
+fn full_pages(rt: HostRuntime) -> Result<(), Fail> {
+    let context = Ctx::new(7).ok_or("context 7")?;
+    let program = sized(rt.alloc(), 65_536, 1_048_576)?;
+    let start = start_of(rt.alloc(), outer(None, Some(program)).ok(), context)?;
+    assert_eq!(rt; start.last_text, Ok(0x13));
+    assert_eq!(rt; start.behind_text, Err(Fault::LoadAccess));
+    assert_eq!(rt; start.last_data, Ok(0));
+    assert_eq!(rt; start.behind_data, Err(Fault::LoadAccess));
+    Ok(())
+}
+
 /// What a context starts from where the countdown with the data byte 7 is the program of context 0.
-fn start_of(alloc: Global, context: Ctx) -> Result<Hart, Fail> {
-    let program = program(alloc, &COUNTDOWN, &[7])?;
-    let origin = outer(Some(program), None)?;
-    Ok(origin.hart(alloc, context)?)
+fn start_beside_countdown(alloc: Global, context: Ctx) -> Result<Start, Fail> {
+    let countdown = program(alloc, &COUNTDOWN, &[7])?;
+    start_of(alloc, outer(Some(countdown), None).ok(), context)
 }
 
 #[test]
 fn starts(rt: HostRuntime) -> Result<(), Fail> {
     let [first, ..] = Ctx::all();
-    let mut hart = start_of(rt.alloc(), first)?;
-    assert_eq!(rt; *hart.regs(), [0; 32]);
-    assert_eq!(rt; hart.pc(), 0x10000);
-    assert_eq!(rt; hart.memory().load(0x10_0000, Width::Word), Ok(7));
-    assert_eq!(rt; hart.run(100), (21, Some(Stop::Ecall)));
+    let start = start_beside_countdown(rt.alloc(), first)?;
+    assert_eq!(rt; start.registers, [0; 32]);
+    assert_eq!(rt; start.pc, 0x10000);
+    assert_eq!(rt; start.first_data, Ok(7));
+    assert_eq!(rt; start.answer, (21, Some(Stop::Ecall)));
     Ok(())
 }
 
 #[test]
 fn starts_without_a_program(rt: HostRuntime) -> Result<(), Fail> {
     let [_, second, ..] = Ctx::all();
-    let mut hart = start_of(rt.alloc(), second)?;
-    assert_eq!(rt; hart.run(100), (0, Some(Stop::FetchAccess)));
+    let start = start_beside_countdown(rt.alloc(), second)?;
+    assert_eq!(rt; start.answer, (0, Some(Stop::FetchAccess)));
     Ok(())
 }
 

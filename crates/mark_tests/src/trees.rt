@@ -1,0 +1,52 @@
+//! Values of any type, merged and listed. What a concrete function holds is dropped on each of its ways out at a cost in
+//! proof, so what may be missing is passed on here as an `Option`, where the type is a parameter.
+
+ghost use Rattle.std.specs.Prelude.{◌≡◌, ◌∷◌, ◌++◌, [], IfSome};
+ghost use Rattle.join_law.specs.Tree.{leaves};
+ghost use Rattle.mark_tests.specs.Leaves.{leaves_of};
+
+use join_law::{Eight, Join, Tree};
+use std::alloc::Global;
+
+/// The tree that merges two.
+pub fn merge<J: Drop>(
+    alloc: Global,
+    left: Option<Tree<J>>,
+    right: Option<Tree<J>>,
+) -> Option<Tree<J>>
+    ensures { IfSome result (λ tree. leaves tree ≡ leaves_of left ++ leaves_of right) }
+{
+    let left = Box::new(alloc, left?).ok()?;
+    let right = Box::new(alloc, right?).ok()?;
+    Some(Tree::Merge(left, right))
+}
+
+/// A value, and the list of another.
+pub fn listed<J: Drop>(alloc: Global, first: J, second: J) -> Option<(J, Vec<J>)>
+    ensures first { IfSome result (λ both. both.0 ≡ first) }
+    ensures second { IfSome result (λ both. both.1.items ≡ second ∷ []) }
+{
+    let mut others = Vec::new(alloc);
+    if others.push(second).is_err() {
+        return None;
+    }
+    Some((first, others))
+}
+
+/// The join of two values where they are kin, as a caller with a bound alone asks for it.
+pub fn join_of<J: Join>(left: Option<J>, right: Option<J>) -> Option<J> {
+    let left = left?;
+    let right = right?;
+    if left.kin(&right) {
+        Some(left.join(right))
+    } else {
+        None
+    }
+}
+
+/// Eight values with another at place 1.
+pub fn with_place_1<J: Drop>(values: Option<Eight<J>>, value: Option<J>) -> Option<Eight<J>> {
+    let mut values = values?;
+    values.c1 = value?;
+    Some(values)
+}
