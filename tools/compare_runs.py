@@ -1,7 +1,7 @@
 #!/usr/bin/env python3
 """Runs plans on two programs that take `run PLAN`, compares their reports byte for byte, and times both.
 
-usage: tools/compare_runs.py PROGRAM OTHER [--random N] [--seed S] [--rounds R] [PLAN ..]
+usage: tools/compare_runs.py PROGRAM OTHER [PLAN ..] [--random N] [--seed S] [--rounds R]
 
 PROGRAM and OTHER are `smt-lab` and another implementation of the same plans and reports. Each PLAN is run R times (default 1)
 on both, in turn, and the best time of each is printed with the cycles and the retired instructions a second. N random plans
