@@ -258,6 +258,14 @@ class FakeKit:
         return False, f"{label}: NOT REFUSED: the crate is still proved with this edit"
 
 
+class KitTest(unittest.TestCase):
+    """What the toolchain's versions give of an edit."""
+
+    def test_what_is_a_refusal(self) -> None:
+        self.assertEqual([kit.is_refusal(it) for it in (True, "refused", "limit")], [True] * 3)
+        self.assertEqual([kit.is_refusal(it) for it in (False, "missed", "bad", "unsure", None, 1.5)], [False] * 6)
+
+
 class RoundsTest(unittest.TestCase):
     """How edits go through the rounds."""
 
@@ -287,6 +295,16 @@ class RoundsTest(unittest.TestCase):
         self.assertEqual(made.tried, [])
         self.assertIn("capacity", made.texts[0]["src/ring.rt"])
         self.assertIn("<= stamp", made.texts[0]["src/ring.rt"])
+
+    def test_functions_that_nothing_named_are_told_by_a_check(self) -> None:
+        named = "".join(f"fn {it}: proved\n" for it in KNOWN) + "logic=proved\n"
+        said = NOTE.format(5) + BY_ITSELF.format(LEN) + NOT_PROVED
+        made = FakeKit(self.top, [named, said, "logic=proved\n"], {})
+        good = [made.edit("len", *self.LEN_EDIT)]
+        tried = rounds.try_crate(made, "reorder_buffer", good, [], [], False, lambda _text: None)
+        self.assertEqual([it.refused for it in tried.results], [True])
+        # (what was proved first is looked at again at the end, with no edit)
+        self.assertEqual((made.only, made.texts[0], made.texts[2]), ([[], [LEN], []], {}, {}))
 
     def test_edits_of_one_function_go_to_two_rounds(self) -> None:
         said = NOTE.format(5) + BY_ITSELF.format(LEN) + NOT_PROVED

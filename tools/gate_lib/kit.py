@@ -1,6 +1,6 @@
 """The toolchain's command `rt` as a module: its crates, its way of trying one edit, its lanes.
 
-It is loaded from the `rt` on PATH. What is used of it is that of one version, which `KIT` names: under another one the
+It is loaded from the `rt` on PATH. What is used of it is that of the versions that `KITS` names: under another one the
 gate runs plain `rt ci`.
 """
 
@@ -13,7 +13,9 @@ import sys
 import types
 from typing import Any, Callable, Dict, List, NamedTuple, Optional, Tuple
 
-KIT = "rattle-kit-13b logic dac8208d650f15bf"
+KITS = ("rattle-kit-13b logic dac8208d650f15bf", "rattle-kit-13f logic dac8208d650f15bf")
+# What a try of an edit that is refused comes to: the older of these versions tells whether it is, the newer one how.
+REFUSED = (True, "refused", "limit")
 
 
 class Ran(NamedTuple):
@@ -81,7 +83,8 @@ class Kit:
 
     def must_fail(self, name: str, edit: str, kept: Optional[str]) -> Tuple[bool, str]:
         """Tries one edit in the toolchain's own way: whether it is refused, and what to say."""
-        return self.rt.must_fail(self.crates[name], edit, ["--jobs", "1"], kept)
+        tried, said = self.rt.must_fail(self.crates[name], edit, ["--jobs", "1"], kept)
+        return is_refusal(tried), said
 
     def lines(self, name: str) -> int:
         """How many lines a crate has."""
@@ -92,6 +95,11 @@ class Kit:
         tasks = {(it, "edits"): ([], weight, self.rt.need(self.crates[it]), lambda given, jobs, at=it: call(at))
                  for it, weight in weights.items()}
         return {key[0]: it for key, it in self.rt.in_lanes(tasks).items()}
+
+
+def is_refusal(tried: Any) -> bool:
+    """Whether what the toolchain gives of a try of an edit says that it is refused."""
+    return tried in REFUSED
 
 
 def load() -> Any:

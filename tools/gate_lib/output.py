@@ -2,7 +2,7 @@
 
 A function's line says `proved`, or why not: goals of its own that `search` did not prove, answers of its own that were
 refused, or calls of functions that are not proved. Only the first two are reasons of its own. What stands here is the
-text of one version of the toolchain; a line that isn't known is no reason.
+text of the toolchain's versions that `kit.py` names; a line that isn't known is no reason.
 """
 
 import re

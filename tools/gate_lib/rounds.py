@@ -220,6 +220,8 @@ def try_crate(kit: Any, crate: str, good: Sequence[str], bad: Sequence[str], kno
         trial = Trial(kit, crate, kept, tell)
         trial.results = [Result(f"{crate}/{os.path.basename(it)}", False, "BAD EDIT: no plain file NAME.edit")
                          for it in bad]
+        if not known:
+            known, trial.was_whole = names_by_check(kit, crate, kept), True
         trial.sort_out(good, known)
         if is_planted:
             trial.put_plant(room, known)
@@ -232,5 +234,12 @@ def has_place_for_plant(kit: Any, crate: str, good: Sequence[str], known: Sequen
     """Whether a crate has a function that calls one that an edit changes."""
     with tempfile.TemporaryDirectory(prefix="gate-") as room:
         trial = Trial(kit, crate, room, print)
+        known = known or names_by_check(kit, crate, f"{room}/kept")
         trial.sort_out(good, known)
         return trial.put_plant(room, known)
+
+
+def names_by_check(kit: Any, crate: str, kept: str) -> List[str]:
+    """The functions of a crate as a check of it prints them, over kept work: those of a crate that `rt ci` took from an
+    earlier run on the same machine, of which it says nothing more."""
+    return output.names(kit.checked(crate, {}, [], kept).text)
