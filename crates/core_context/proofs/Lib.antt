@@ -21,3 +21,4 @@ pub mod SourcesSeen
 pub mod StoreQueueReads
 pub mod EventsKept
 pub mod Laws
+pub mod Texts

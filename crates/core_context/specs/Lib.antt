@@ -9,3 +9,4 @@ pub mod Heads
 pub mod NextEntry
 pub mod Renamable
 pub mod Left
+pub mod Text

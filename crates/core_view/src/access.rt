@@ -1,6 +1,7 @@
 //! What instructions in flight ask of memory.
 ghost use Rattle.std.specs.Prelude.{◌≡◌};
 ghost use Rattle.paged_memory.specs.Cells.{bytes_of, rights_at};
+ghost use Rattle.paged_memory.specs.Stored.{IsFetchedAlike};
 ghost use Rattle.core_view.specs.Outcomes.{fault_of, memory_after, IsWidth, IsSized};
 
 use crate::outcome::Access;
@@ -46,7 +47,8 @@ fn width_of(size: u8) -> Width
 /// doesn't for an access of an outcome, nothing is written.
 pub fn write_access<A: Allocator>(environment: Environment, memory: &mut Memory<A>, access: Access)
     requires { IsSized access }
-    ensures { memory.new ≡ memory_after environment memory.old access }
+    ensures written { memory.new ≡ memory_after environment memory.old access }
+    ensures fetched { IsFetchedAlike memory.old memory.new }
 {
     match (access, environment) {
         (Access::Writes { bytes }, Environment::One) => {

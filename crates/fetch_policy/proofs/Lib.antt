@@ -3,4 +3,5 @@ pub mod EachContext
 pub mod NextBelow
 pub mod Picked
 pub mod WithoutPlaces
+pub mod Alike
 pub mod Laws

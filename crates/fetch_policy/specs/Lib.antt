@@ -1,3 +1,4 @@
 pub mod Keys
 pub mod Lawful
 pub mod Places
+pub mod Counts

@@ -6,7 +6,7 @@ mod named;
 mod policies;
 mod view;
 
-pub use choice::choose;
+pub use choice::{choose, choose_by_keys};
 pub use named::NamedPick;
 pub use policies::{Brcount, Icount, Iqposn, Misscount, Pick, RoundRobin};
-pub use view::{FetchContext, FetchView};
+pub use view::{Count, FetchContext, FetchView};

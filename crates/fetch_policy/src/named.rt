@@ -4,7 +4,7 @@ ghost use Rattle.std.specs.Prelude.{◌≡◌};
 ghost use Rattle.fetch_policy.specs.Keys.{named_as, named_key};
 
 use crate::policies::{Brcount, Icount, Iqposn, Misscount, Pick, RoundRobin};
-use crate::view::FetchView;
+use crate::view::{Count, FetchView};
 use core_profile::FetchPolicy;
 use join_law::Ctx;
 
@@ -33,6 +33,16 @@ impl Pick for NamedPick {
             NamedPick::Brcount => Brcount.key(view, context),
             NamedPick::Misscount => Misscount.key(view, context),
             NamedPick::Iqposn => Iqposn.key(view, context),
+        }
+    }
+
+    fn count(&self) -> Option<Count> {
+        match self {
+            NamedPick::RoundRobin => RoundRobin.count(),
+            NamedPick::Icount => Icount.count(),
+            NamedPick::Brcount => Brcount.count(),
+            NamedPick::Misscount => Misscount.count(),
+            NamedPick::Iqposn => Iqposn.count(),
         }
     }
 

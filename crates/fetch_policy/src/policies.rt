@@ -1,9 +1,11 @@
 //! The fetch policies.
 
-ghost use Rattle.std.specs.Prelude.{◌≡◌, ℕ, false};
+ghost use Rattle.std.specs.Prelude.{◌≡◌, ℕ, false, IfSome};
+ghost use Rattle.join_law.specs.Eight.{place_of};
+ghost use Rattle.fetch_policy.specs.Counts.{count_in};
 ghost use Rattle.fetch_policy.specs.Keys.{brcount_key, icount_key, iqposn_key, misscount_key, round_robin_key};
 
-use crate::view::FetchView;
+use crate::view::{Count, FetchView};
 use join_law::Ctx;
 
 /// A fetch policy: contexts are picked by the least key, and among equal keys by turn.
@@ -17,6 +19,13 @@ pub trait Pick {
     /// The key of a context.
     fn key(&self, view: &FetchView, context: Ctx) -> u64
         ensures { result ≡ key_of self.now view.now context };
+
+    /// The count that a context's key is, where it is one. A core then shows no view, and takes the counts for keys.
+    fn count(&self) -> Option<Count>
+        ensures { IfSome result (λ count. (view : FetchView) (context : ℕ) → key_of self.now view context ≡ count_in count (place_of view.contexts context)) }
+    {
+        None
+    }
 
     /// Whether keys may depend on the contexts' `oldest_place`. Where they don't, a core may show none in its place.
     fn reads_places(&self) -> bool
@@ -53,6 +62,10 @@ impl Pick for RoundRobin {
         0
     }
 
+    fn count(&self) -> Option<Count> {
+        Some(Count::Nothing)
+    }
+
     fn reads_places(&self) -> bool {
         false
     }
@@ -63,6 +76,10 @@ impl Pick for Icount {
 
     fn key(&self, view: &FetchView, context: Ctx) -> u64 {
         view.contexts.place(context).entries
+    }
+
+    fn count(&self) -> Option<Count> {
+        Some(Count::Entries)
     }
 
     fn reads_places(&self) -> bool {
@@ -77,6 +94,10 @@ impl Pick for Brcount {
         view.contexts.place(context).guessed
     }
 
+    fn count(&self) -> Option<Count> {
+        Some(Count::Guessed)
+    }
+
     fn reads_places(&self) -> bool {
         false
     }
@@ -87,6 +108,10 @@ impl Pick for Misscount {
 
     fn key(&self, view: &FetchView, context: Ctx) -> u64 {
         view.contexts.place(context).missed_loads
+    }
+
+    fn count(&self) -> Option<Count> {
+        Some(Count::MissedLoads)
     }
 
     fn reads_places(&self) -> bool {

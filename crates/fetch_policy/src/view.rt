@@ -26,3 +26,16 @@ pub struct FetchView {
     /// The eight contexts.
     pub contexts: Eight<FetchContext>,
 }
+
+/// A count of a context that a key may be.
+#[derive(Clone, Copy, Debug, PartialEq, Eq)]
+pub enum Count {
+    /// 0 for each context.
+    Nothing,
+    /// Its `entries`.
+    Entries,
+    /// Its `guessed`.
+    Guessed,
+    /// Its `missed_loads`.
+    MissedLoads,
+}

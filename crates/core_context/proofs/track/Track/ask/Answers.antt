@@ -21,7 +21,7 @@ pub returns-clause-seen : goal.returns-clause-seen
 returns-clause-seen g c =
     let read : slice_get c.self.inside.flight.entries c.args.place ≡ Some c.unwrap-entry.result.now = search rules in
     let flight : c.self.inside.flight.entries ≡ c.args.self.now.context.flight = ap (λ (t : Track). t.context.flight) c.self.view_is in
-    let memory : c.self.inside.memory ≡ c.args.self.now.context.state.memory = ap (λ (t : Track). t.context.state.memory) c.self.view_is in
+    let memory : c.plain.result.now ≡ c.args.self.now.context.state.memory = c.plain.ensures ∙ ap (λ (t : Track). t.context.state.memory) c.self.view_is in
     let s = load_span c.args.address (bytes_of c.args.width) in
     let value = asked_value c.args.self.now.context c.args.place c.unwrap-entry.result.now c.self.inside.queue.stores s c.requires.answered
     (sym (ap (λ (es : List Entry). slice_get es c.args.place) flight) ∙ read) (c.self.invariant.2 ∙ ap (λ (es : List Entry). stores_of es) flight) in
