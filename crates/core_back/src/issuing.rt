@@ -34,9 +34,9 @@ pub fn issue<A: Allocator, O: Order, D: Delay>(
     let _live = machine.cycle();
     machine.select(order, width);
     for _place in 0..width {
-        let Some(issue) = machine.issue_next(delay) else {
+        if machine.is_idle() {
             return;
-        };
-        issued.push(issue);
+        }
+        issued.push(machine.issue_next(delay));
     }
 }

@@ -1,6 +1,6 @@
 //! Eight contexts, and the data flow that they share.
 
-ghost use Rattle.std.specs.Prelude.{◌≡◌, ℕ, ◌+◌, ◌-◌, ◌<◌, ◌≤◌, ◌^◌, ◌&&◌, false, not, length, count_by, slice_get, slice_index, [], IfOk, IfSome, MatchOption, Some, None};
+ghost use Rattle.std.specs.Prelude.{◌≡◌, ℕ, ◌+◌, ◌-◌, ◌<◌, ◌≤◌, ◌^◌, ◌&&◌, ◌==◌, false, not, length, count_by, slice_get, slice_index, [], IfOk, IfSome, MatchOption, Some, None};
 ghost use Rattle.core_view.specs.declared.outcome.Outcome.TheVariants.{Goes, Stops};
 ghost use Rattle.core_view.specs.declared.entry.Stage.TheVariants.{Issued};
 ghost use Rattle.core_view.specs.Events.{retire_event, stop_event, complete_event};
@@ -27,11 +27,11 @@ use crate::selection::Selection;
 use arrayvec::ArrayVec;
 use branch_predict::Guess;
 use checkpoint::Mark;
-use core_context::{Track, events, fetch, lag_of};
+use core_context::{Track, events, fetch};
 use core_profile::Profile;
-use core_view::{Entry, Execution, Issue, Outcome, Status, Step};
+use core_view::{Entry, EntryId, Execution, Issue, Outcome, Status, Step};
 use data_flow::DataFlow;
-use data_tags::Delay;
+use data_tags::{Delay, Lag};
 use hart_step::Stop;
 use issue_queue::Order;
 use join_law::{Ctx, Eight};
@@ -297,34 +297,29 @@ impl<A: Allocator> Machine<A> {
         self.selected = Selection::new(self.flow.select(order, width));
     }
 
-    /// The first of the selected entries issues, after the lag that a delay gives. Returns `None` once none is left.
-    pub fn issue_next<D: Delay>(&mut self, delay: &mut D) -> Option<Issue>
-        requires { self.old.view.cycle < 2 ^ 56 }
-        ensures none { result ≡ None → (self.old.names ≡ []) × (self.new ≡ self.old) }
-        ensures issued { IfSome result (IsIssued (D.may_answer delay.old) self.old self.new) }
+    /// Whether no entry is selected that has not issued yet.
+    #[inline(always)]
+    pub fn is_idle(&self) -> bool
+        ensures { result ≡ (length self.now.names == 0) }
+    {
+        self.selected.is_empty()
+    }
+
+    /// The first of the selected entries issues, after the lag that a delay gives.
+    #[inline(always)]
+    pub fn issue_next<D: Delay>(&mut self, delay: &mut D) -> Issue
+        requires some { 0 < length self.old.names }
+        requires cycle { self.old.view.cycle < 2 ^ 56 }
+        ensures issued { IsIssued (D.may_answer delay.old) self.old self.new result }
         ensures keeps { D.may_answer delay.new ≡ D.may_answer delay.old }
         ensures keeps_greatest { D.greatest_lag delay.new ≡ D.greatest_lag delay.old }
     {
-        if self.selected.is_empty() {
-            return None;
-        }
         let name = self.selected.take_first();
         let track = &mut self.tracks[name.context.index()];
         let place = track.queued_place(name.stamp).unwrap();
-        let (first, second) = self.flow.sources(name.context, place).unwrap();
-        let performed = track.perform(place, first, second);
-        let lag = lag_of(delay, name.context, &performed);
-        let execution = Execution {
-            due: self.cycle + u64::from(lag.cycles),
-            miss: lag.miss,
-            outcome: performed.outcome,
-        };
-        track.issue(place, execution);
-        Some(Issue {
-            entry: name,
-            latency: lag.cycles,
-            miss: lag.miss,
-        })
+        let values = self.flow.sources(name.context, place).unwrap();
+        let lag = track.perform(place, values, name.context, self.cycle, delay);
+        issue_of(name, lag)
     }
 
     /// The stamp of the oldest fetched entry of a context, if it was fetched as many cycles ago as the front delay says:
@@ -441,5 +436,17 @@ impl<A: Allocator> Machine<A> {
     {
         self.cycle += 1;
         self.fetch_room = 8;
+    }
+}
+
+/// An entry that issued, and its lag.
+#[inline(always)]
+fn issue_of(entry: EntryId, lag: Lag) -> Issue
+    ensures { result ≡ record { entry = entry; latency = lag.cycles; miss = lag.miss } }
+{
+    Issue {
+        entry,
+        latency: lag.cycles,
+        miss: lag.miss,
     }
 }

@@ -260,6 +260,9 @@ pub fn hold_loads<A: Allocator>(flow: &mut DataFlow<A>, track: &Track<A>, contex
     if track.has_no_store() {
         return false;
     }
+    if track.next_queued_load(0).is_none() {
+        return false;
+    }
     let mut holds = false;
     let mut from = 0;
     for _turn in 0..track.renamed_count() {

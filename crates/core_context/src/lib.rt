@@ -8,5 +8,4 @@ mod lags;
 mod track;
 
 pub use fetching::fetch;
-pub use lags::lag_of;
-pub use track::{Performed, Track};
+pub use track::Track;

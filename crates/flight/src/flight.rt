@@ -132,6 +132,7 @@ impl<A: Allocator> Flight<A> {
     }
 
     /// The entry at a place, which waits for issue, issues.
+    #[inline(always)]
     pub fn issue(&mut self, place: usize, execution: Execution)
         requires place { place < length self.old.entries }
         requires queued { (entry_in self.old.entries place).stage ≡ Queued }

@@ -7,7 +7,8 @@ use Rattle.lawful_cycle.specs.Issue.{IsIssue}
 use Rattle.core_back.specs.Machine.{Machine, IsAlike, context_at, in_flight}
 use Rattle.core_back.specs.Issued.{IsIssued}
 use Rattle.core_back.proofs.InFlight.{in_flight_same, in_flight_issued}
-use Rattle.core_back.proofs.AlikeMachines.{alike_chain, issue_alike, none_left}
+use Rattle.core_back.proofs.AlikeMachines.{alike_chain, issue_alike, none_left, no_names}
+use Rattle.core_back.proofs.MachineIssues.{some_names}
 use Rattle.core_back.proofs.IssueViews.{issuing_first, issuing_next, issuing_done}
 use Rattle.core_back.proofs.issuing.issue.Goals as goal
 
@@ -26,28 +27,25 @@ loop-place-init g c =
       width = let most = c.profile.result.issue_width_in_range.1 in omega (arith, most, c.from-width.ensures);
     }
 
-pub issue_next-requires : goal.issue_next-requires
-issue_next-requires g c = omega (arith, c.loop-place.invariant.alike.cycle, c.requires.cycle)
+pub issue_next-requires-clause-cycle : goal.issue_next-requires-clause-cycle
+issue_next-requires-clause-cycle g c = omega (arith, c.loop-place.invariant.alike.cycle, c.requires.cycle)
 
-pub returns-in_default-clause-alike : goal.returns-in_default-clause-alike
-returns-in_default-clause-alike g c = subst (IsAlike c.args.machine.now) (sym (c.issue_next.ensures.none c.in_default.is).1) c.loop-place.invariant.alike
-
-pub returns-in_default-clause-keeps : goal.returns-in_default-clause-keeps
-returns-in_default-clause-keeps g c = c.issue_next.ensures.keeps ∙ c.loop-place.invariant.keeps
+pub issue_next-requires-clause-some : goal.issue_next-requires-clause-some
+issue_next-requires-clause-some g c = some_names c.loop-place.machine.names c.is_idle.result c.is_idle.ensures c.if-is_idle.false
 
 pub push-requires : goal.push-requires
 push-requires g c = omega (arith, c.loop-place.invariant.room, c.loop-place-test.true, c.loop-place.invariant.width)
 
 pub loop-place-preserved : goal.loop-place-preserved
 loop-place-preserved g c =
-    let step : IsIssued (g.D.Delay.may_answer c.loop-place.delay) c.loop-place.machine c.issue_next.new.self c.in-Some.issue = c.in-Some.ensures.issued in
+    let step : IsIssued (g.D.Delay.may_answer c.loop-place.delay) c.loop-place.machine c.issue_next.new.self c.issue_next.result = c.issue_next.ensures.issued in
     record {
-      alike = alike_chain c.args.machine.now c.loop-place.machine c.issue_next.new.self c.loop-place.invariant.alike (issue_alike c.loop-place.machine c.issue_next.new.self c.in-Some.issue step);
-      issuing = issuing_next (g.O.Order.key_of c.args.order.now) (g.D.Delay.may_answer c.args.delay.now) c.from-width.result c.args.machine.now c.loop-place.machine c.issue_next.new.self c.loop-place.issued.items c.push.new.self.items c.in-Some.issue
+      alike = alike_chain c.args.machine.now c.loop-place.machine c.issue_next.new.self c.loop-place.invariant.alike (issue_alike c.loop-place.machine c.issue_next.new.self c.issue_next.result step);
+      issuing = issuing_next (g.O.Order.key_of c.args.order.now) (g.D.Delay.may_answer c.args.delay.now) c.from-width.result c.args.machine.now c.loop-place.machine c.issue_next.new.self c.loop-place.issued.items c.push.new.self.items c.issue_next.result
           (λ d ld. (c.cycle-live.ensures.live d ld).flight.growing) c.loop-place.invariant.issuing
-          (subst (λ (says : ℕ → Kind → ℕ → Lag → Bool). IsIssued says c.loop-place.machine c.issue_next.new.self c.in-Some.issue) c.loop-place.invariant.keeps step) c.push.ensures.items;
+          (subst (λ (says : ℕ → Kind → ℕ → Lag → Bool). IsIssued says c.loop-place.machine c.issue_next.new.self c.issue_next.result) c.loop-place.invariant.keeps step) c.push.ensures.items;
       profile = c.loop-place.invariant.profile;
-      flights = in_flight_issued c.loop-place.machine c.issue_next.new.self c.in-Some.issue step ∙ c.loop-place.invariant.flights;
+      flights = in_flight_issued c.loop-place.machine c.issue_next.new.self c.issue_next.result step ∙ c.loop-place.invariant.flights;
       left = omega (arith, c.loop-place.invariant.left, ap (λ (ns : List EntryId). length ns) step.names);
       room = omega (arith, c.loop-place.invariant.room, c.push.ensures.len);
       keeps = c.issue_next.ensures.keeps ∙ c.loop-place.invariant.keeps;
@@ -64,23 +62,16 @@ returns-clause-idle g c = none_left c.loop-place.machine.names (omega (arith, c.
 pub returns-clause-keeps : goal.returns-clause-keeps
 returns-clause-keeps g c = c.loop-place.invariant.keeps
 
-pub returns-in_default-clause-keeps_greatest : goal.returns-in_default-clause-keeps_greatest
-returns-in_default-clause-keeps_greatest g c = c.issue_next.ensures.keeps_greatest ∙ c.loop-place.invariant.greatest
-
 pub returns-clause-keeps_greatest : goal.returns-clause-keeps_greatest
 returns-clause-keeps_greatest g c = c.loop-place.invariant.greatest
-
-pub returns-in_default-clause-flights : goal.returns-in_default-clause-flights
-returns-in_default-clause-flights g c = ap in_flight (c.issue_next.ensures.none c.in_default.is).1 ∙ c.loop-place.invariant.flights
 
 pub returns-clause-flights : goal.returns-clause-flights
 returns-clause-flights g c = c.loop-place.invariant.flights
 
-pub returns-in_default-clause-lawful : goal.returns-in_default-clause-lawful
-returns-in_default-clause-lawful g c =
-    let none = c.issue_next.ensures.none c.in_default.is in
-    subst (λ (m : Machine). IsIssue (g.O.Order.key_of c.args.order.now) (g.D.Delay.may_answer c.args.delay.now) c.args.machine.now.view m.view c.loop-place.issued.items) (sym none.1)
-    (issuing_done (g.O.Order.key_of c.args.order.now) (g.D.Delay.may_answer c.args.delay.now) c.from-width.result c.args.machine.now c.loop-place.machine c.loop-place.issued.items c.loop-place.invariant.issuing c.loop-place.invariant.profile none.0)
+pub returns-then-is_idle-clause-lawful : goal.returns-then-is_idle-clause-lawful
+returns-then-is_idle-clause-lawful g c =
+    issuing_done (g.O.Order.key_of c.args.order.now) (g.D.Delay.may_answer c.args.delay.now) c.from-width.result c.args.machine.now c.loop-place.machine c.loop-place.issued.items c.loop-place.invariant.issuing c.loop-place.invariant.profile
+    (no_names c.loop-place.machine.names c.is_idle.result c.is_idle.ensures c.if-is_idle.true)
 
 pub returns-clause-lawful : goal.returns-clause-lawful
 returns-clause-lawful g c =
