@@ -1,7 +1,9 @@
 //! The part of a cycle in which entries complete.
 
-ghost use Rattle.std.specs.Prelude.{◌≡◌, ◌+◌, ◌≤◌, [], length, map};
+ghost use Rattle.std.specs.Prelude.{◌≡◌, ◌+◌, ◌<◌, ◌≤◌, true, [], length, map};
 ghost use Rattle.core_view.specs.Events.{with_flight, completed_at, completed_from};
+ghost use Rattle.core_view.specs.View.{entry_at};
+ghost use Rattle.flight.specs.Flights.{is_due};
 ghost use Rattle.lawful_cycle.specs.Complete.{IsComplete};
 ghost use Rattle.core_back.specs.Coming.{to_come, number_of};
 ghost use Rattle.core_back.specs.Machine.{IsAlike, context_at, in_flight, with_context, with_contexts, completed_context};
@@ -51,38 +53,30 @@ fn complete_context<A: Allocator>(machine: &mut Machine<A>, context: Ctx) -> Com
     ensures cut_bound { result.cut ≤ 80 }
     ensures number { result.completed ≡ number_of machine.old.view.cycle (context_at machine.old context) }
 {
-    let len = machine.len(context);
+    // `len` ensures that there are few entries.
+    let _len = machine.len(context);
     let mut completed = 0;
     let mut cut = 0;
     let mut from = 0;
-    for _turn in 0..len {
-        let Some(place) = machine.next_due(context, from) else {
-            return Completion { completed, cut };
-        };
-        let done = complete_place(machine, context, place);
-        completed += done.completed;
-        cut += done.cut;
+    while let Some(place) = machine.next_due(context, from) {
+        let squashed = complete_place(machine, context, place);
+        completed += 1;
+        cut += squashed;
         from = place + 1;
     }
     Completion { completed, cut }
 }
 
-/// The entry of a context at a place, where it is there and due.
-fn complete_place<A: Allocator>(machine: &mut Machine<A>, context: Ctx, place: usize) -> Completion
-    requires { machine.old.names ≡ [] }
+/// The entry of a context at a place, which is due, completes. Returns how many it squashes.
+fn complete_place<A: Allocator>(machine: &mut Machine<A>, context: Ctx, place: usize) -> usize
+    requires idle { machine.old.names ≡ [] }
+    requires place { place < length (context_at machine.old context).flight }
+    requires due { is_due machine.old.view.cycle (entry_at (context_at machine.old context) place) ≡ true }
     ensures others { machine.new ≡ with_context machine.old context (with_flight (context_at machine.old context) (context_at machine.new context).flight) }
     ensures goes_on { let now = machine.old.view.cycle in
         completed_from now (place + 1) (context_at machine.new context).flight ≡ completed_from now place (context_at machine.old context).flight }
-    ensures cut { result.cut + length (context_at machine.new context).flight ≡ length (context_at machine.old context).flight }
-    ensures one { result.completed ≤ 1 }
-    ensures counted { result.completed + to_come machine.old.view.cycle (place + 1) (context_at machine.new context).flight ≡ to_come machine.old.view.cycle place (context_at machine.old context).flight }
+    ensures cut { result + length (context_at machine.new context).flight ≡ length (context_at machine.old context).flight }
+    ensures counted { 1 + to_come machine.old.view.cycle (place + 1) (context_at machine.new context).flight ≡ to_come machine.old.view.cycle place (context_at machine.old context).flight }
 {
-    let Some(execution) = machine.due(context, place) else {
-        return Completion {
-            completed: 0,
-            cut: 0,
-        };
-    };
-    let cut = machine.complete(context, place, execution);
-    Completion { completed: 1, cut }
+    machine.complete(context, place)
 }

@@ -2,7 +2,6 @@
 
 ghost use Rattle.std.specs.Prelude.{◌≡◌, ℕ, ◌+◌, ◌-◌, ◌<◌, ◌≤◌, ◌^◌, ◌&&◌, ◌==◌, false, not, length, count_by, slice_get, slice_index, [], IfOk, IfSome, MatchOption, Some, None};
 ghost use Rattle.core_view.specs.declared.outcome.Outcome.TheVariants.{Goes, Stops};
-ghost use Rattle.core_view.specs.declared.entry.Stage.TheVariants.{Issued};
 ghost use Rattle.core_view.specs.Events.{retire_event, stop_event, complete_event};
 ghost use Rattle.core_view.specs.Operations.{is_guessed};
 ghost use Rattle.core_view.specs.View.{entry_at, IsLive, IsSoundView};
@@ -10,8 +9,8 @@ ghost use Rattle.lawful_cycle.specs.Rename.{CanRename};
 ghost use Rattle.core_view.specs.Flight.{is_queued, is_missed_load};
 ghost use Rattle.lawful_cycle.specs.Fetch.{is_fetched, is_eligible, oldest_place};
 ghost use Rattle.origin_set.specs.Start.{start};
-ghost use Rattle.core_back.specs.Machine.{IsAlike, context_at, in_flight, with_context, with_cycle, due_in, IsNextOf};
-ghost use Rattle.flight.specs.Flights.{is_due, NoneFrom, IsNext};
+ghost use Rattle.core_back.specs.Machine.{IsAlike, context_at, in_flight, with_context, with_cycle, IsNextOf};
+ghost use Rattle.flight.specs.Flights.{execution_of, IsIssued as IsIssuedStage, is_due, NoneFrom, IsNext};
 ghost use Rattle.core_context.specs.Heads.{first_done};
 ghost use Rattle.core_back.specs.Selected.{IsChosen};
 ghost use Rattle.core_back.specs.Issued.{IsIssued};
@@ -257,26 +256,17 @@ impl<A: Allocator> Machine<A> {
         track.next_due(cycle, from)
     }
 
-    /// The execution of the entry of a context at a place, where it is due in this cycle.
-    pub fn due(&self, context: Ctx, place: usize) -> Option<Execution>
-        ensures value { result ≡ due_in self.now.view.cycle (context_at self.now context).flight place }
-    {
-        let track = &self.tracks[context.index()];
-        let entry = track.entry(place)?;
-        entry.stage.due(self.cycle)
-    }
-
     /// The entry of a context at a place, which is issued, completes, and squashes what it doesn't keep. Returns how many
     /// entries are squashed.
-    pub fn complete(&mut self, context: Ctx, place: usize, execution: Execution) -> usize
+    pub fn complete(&mut self, context: Ctx, place: usize) -> usize
         requires idle { self.old.names ≡ [] }
         requires place { place < length (context_at self.old context).flight }
-        requires issued { (entry_at (context_at self.old context) place).stage ≡ Issued execution }
-        ensures completed { self.new ≡ with_context self.old context (complete_event (context_at self.old context) place execution) }
+        requires issued { IsIssuedStage (entry_at (context_at self.old context) place).stage }
+        ensures completed { self.new ≡ with_context self.old context (complete_event (context_at self.old context) place (execution_of (entry_at (context_at self.old context) place).stage)) }
         ensures cut { result + length (context_at self.new context).flight ≡ length (context_at self.old context).flight }
     {
         let track = &mut self.tracks[context.index()];
-        events::complete(&mut self.flow, track, context, place, execution)
+        events::complete(&mut self.flow, track, context, place)
     }
 
     /// Selects the first ready entries by an order, at most so many. A load that isn't clear isn't ready.

@@ -1,11 +1,11 @@
 -- Marks of what waits behind a guessed entry, as one completes.
-use Rattle.std.proofs.Common.{◌≡◌, ◌≢◌, ℕ, zero, suc, ◌+◌, ◌<◌, ◌≤◌, Bool, true, false, not, ◌&&◌, ◌||◌, cond, List, [], ◌∷◌, ◌++◌, length, get_or, take, map, refl, sym, ap, subst, ◌∙◌, arith}
+use Rattle.std.proofs.Common.{◌≡◌, ◌≢◌, ℕ, zero, suc, ◌+◌, ◌-◌, ◌<◌, ◌≤◌, Bool, true, false, not, ◌&&◌, ◌||◌, cond, List, [], ◌∷◌, ◌++◌, length, get_or, take, map, refl, sym, ap, subst, ◌∙◌, arith, inl, inr}
 use Rattle.std.specs.Prelude.{All, set, ◌==◌, nat_lt, filter, if◌then◌else◌}
 use Rattle.std.specs.List.{list_any}
-use Rattle.std.proofs.lemmas.Bool.{eq-eqb, eqb-true, ne_eqb, or_parts}
-use Rattle.std.proofs.lemmas.List.{get_or-take, take-take, length-take}
+use Rattle.std.proofs.lemmas.Bool.{cases_lt, eq-eqb, eqb-true, ne_eqb, or_parts}
+use Rattle.std.proofs.lemmas.List.{get_or-take, get_or_default, take-take, length-take}
 use Rattle.std.proofs.lemmas.List.Elements.{All-map}
-use Rattle.std.proofs.lemmas.List.Folds.{list_any-append}
+use Rattle.std.proofs.lemmas.List.Folds.{list_any-append, list_any_none}
 use Rattle.core_view.specs.declared.entry.Entry.{Entry}
 use Rattle.core_view.specs.Flight.{IsGrowing, is_queued, is_open_guess}
 use Rattle.core_view.specs.View.{no_entry}
@@ -27,9 +27,11 @@ take_more es n lt = (let one : n + 1 ≡ suc n = omega arith in rw one (go es n 
     go (e ∷ es) zero lt = refl
     go (e ∷ es) (suc n) lt = ap (λ fs. e ∷ fs) (go es n (omega arith))
 
--- one more that isn't open
-pub closed_more : (es : List Entry) (n : ℕ) → n < length es → list_any is_open_guess (take n es) ≡ false → is_open_guess (get_or es n no_entry) ≡ false → list_any is_open_guess (take (n + 1) es) ≡ false
-closed_more es n lt none closed = ap (list_any is_open_guess) (take_more es n lt) ∙ list_any-append is_open_guess (take n es) (get_or es n no_entry ∷ []) ∙ rw (none, closed) refl
+-- the oldest entries, none of which is open
+none_open : (es : List Entry) (n : ℕ) → n ≤ length es → ((i : ℕ) → i < n → is_open_guess (get_or es i no_entry) ≡ false) → list_any is_open_guess (take n es) ≡ false
+none_open es n le none = list_any_none is_open_guess (take n es) (λ i d lt.
+    let below : i < n = omega (arith, lt, length-take n es) in
+    ap is_open_guess (get_or_default (take n es) i d no_entry lt ∙ get_or-take n es i no_entry below) ∙ none i below)
 
 pub up_none : (es : List Entry) → list_any is_open_guess es ≡ false → up_to_guess es ≡ es
 up_none [] none = refl
@@ -74,43 +76,62 @@ map_one : (k l : Waiter → Waiter) → ((w : Waiter) → k w ≡ l w) → (ws :
 map_one k l same [] = refl
 map_one k l same (w ∷ ws) = rw (same w, map_one k l same ws) refl
 
--- the marks of the first entries are settled, none of which is a guess that is open
-pub record AreSettled (old f : Flow) (c : ℕ) (es : List Entry) (n : ℕ) : Type 0 where
-  pub flow : f ≡ record old { waiters = map (settled c (take n es)) old.waiters }
-  pub closed : list_any is_open_guess (take n es) ≡ false
+-- the marks of the first entries are settled
+abbrev pub AreSettled : Flow → Flow → ℕ → List Entry → ℕ → Type 0
+AreSettled old f c es n = f ≡ record old { waiters = map (settled c (take n es)) old.waiters }
 
 settled_none : (c : ℕ) (ws : List Waiter) → ws ≡ map (settled c []) ws
 settled_none c [] = refl
 settled_none c (w ∷ ws) = rw (and_none (w.context == c)) (ap (λ vs. w ∷ vs) (settled_none c ws))
 
 pub settled_first : (f : Flow) (c : ℕ) (es : List Entry) → AreSettled f f c es 0
-settled_first f c es = record { flow = ap (λ (ws : List Waiter). let r : Flow = record f { waiters = ws } in r) (settled_none c f.waiters); closed = refl }
+settled_first f c es = ap (λ (ws : List Waiter). let r : Flow = record f { waiters = ws } in r) (settled_none c f.waiters)
 
 -- one more is queued, and so its mark is taken
-pub settled_queued : (old f g : Flow) (c : ℕ) (es : List Entry) (n : ℕ) (e : Entry) → AreSettled old f c es n → n < length es → e ≡ get_or es n no_entry → is_queued e.stage ≡ true
-    → g ≡ record f { waiters = map (with_speculative c e.stamp false) f.waiters } → g ≡ record old { waiters = map (settled c (take (n + 1) es)) old.waiters }
+pub settled_queued : (old f g : Flow) (c : ℕ) (es : List Entry) (n : ℕ) (e : Entry) → AreSettled old f c es n → n < length es → e ≡ get_or es n no_entry → is_queued (get_or es n no_entry).stage ≡ true
+    → g ≡ record f { waiters = map (with_speculative c e.stamp false) f.waiters } → AreSettled old g c es (n + 1)
 settled_queued old f g c es n e h lt here queued step =
     let more : take (n + 1) es ≡ take n es ++ e ∷ [] = take_more es n lt ∙ ap (λ x. take n es ++ x ∷ []) (sym here) in
-    step ∙ ap (λ (q : Flow). let r : Flow = record q { waiters = map (with_speculative c e.stamp false) q.waiters } in r) h.flow
-    ∙ ap (λ (ws : List Waiter). let r : Flow = record old { waiters = ws } in r) (map_two (with_speculative c e.stamp false) (settled c (take n es)) (settled c (take n es ++ e ∷ [])) (λ w. settled_more c (take n es) e w queued) old.waiters ∙ ap (λ fs. map (settled c fs) old.waiters) (sym more))
+    let waits : is_queued e.stage ≡ true = ap (λ (x : Entry). is_queued x.stage) here ∙ queued in
+    step ∙ ap (λ (q : Flow). let r : Flow = record q { waiters = map (with_speculative c e.stamp false) q.waiters } in r) h
+    ∙ ap (λ (ws : List Waiter). let r : Flow = record old { waiters = ws } in r) (map_two (with_speculative c e.stamp false) (settled c (take n es)) (settled c (take n es ++ e ∷ [])) (λ w. settled_more c (take n es) e w waits) old.waiters ∙ ap (λ fs. map (settled c fs) old.waiters) (sym more))
 
 -- or it isn't
-pub settled_other : (old f : Flow) (c : ℕ) (es : List Entry) (n : ℕ) (e : Entry) → AreSettled old f c es n → n < length es → e ≡ get_or es n no_entry → is_queued e.stage ≡ false
-    → f ≡ record old { waiters = map (settled c (take (n + 1) es)) old.waiters }
-settled_other old f c es n e h lt here idle =
-    let more : take (n + 1) es ≡ take n es ++ e ∷ [] = take_more es n lt ∙ ap (λ x. take n es ++ x ∷ []) (sym here) in
-    h.flow ∙ ap (λ (ws : List Waiter). let r : Flow = record old { waiters = ws } in r) (map_one (settled c (take n es)) (settled c (take n es ++ e ∷ [])) (λ w. settled_kept c (take n es) e w idle) old.waiters ∙ ap (λ fs. map (settled c fs) old.waiters) (sym more))
+settled_other : (old f : Flow) (c : ℕ) (es : List Entry) (n : ℕ) → AreSettled old f c es n → n < length es → is_queued (get_or es n no_entry).stage ≡ false → AreSettled old f c es (n + 1)
+settled_other old f c es n h lt idle =
+    let e = get_or es n no_entry in
+    h ∙ ap (λ (ws : List Waiter). let r : Flow = record old { waiters = ws } in r) (map_one (settled c (take n es)) (settled c (take n es ++ e ∷ [])) (λ w. settled_kept c (take n es) e w idle) old.waiters ∙ ap (λ fs. map (settled c fs) old.waiters) (sym (take_more es n lt)))
 
--- all of them, or all up to an open guess
-pub settled_end : (old f : Flow) (c : ℕ) (t : Track) (n : ℕ) → AreSettled old f c t.context.flight n → t.renamed ≤ n → n ≤ t.renamed → f ≡ settled_flow old c t
-settled_end old f c t n h le lt =
-    let same : n ≡ t.renamed = omega (arith, le, lt) in
-    h.flow ∙ ap (λ fs. let r : Flow = record old { waiters = map (settled c fs) old.waiters } in r) (sym (up_none (take n t.context.flight) h.closed) ∙ ap (λ k. up_to_guess (take k t.context.flight)) same)
+-- those of some places aren't
+pub settled_pass : (old f : Flow) (c : ℕ) (es : List Entry) (n m : ℕ) → AreSettled old f c es n → n ≤ m → m ≤ length es → ((i : ℕ) → n ≤ i → i < m → is_queued (get_or es i no_entry).stage ≡ false) → AreSettled old f c es m
+settled_pass old f c es n m h le within idle = (let at : n + (m - n) ≡ m = omega (arith, le) in subst (λ k. AreSettled old f c es k) at (go (m - n) (omega (arith, le))))
+  where
+    go : (k : ℕ) → n + k ≤ m → AreSettled old f c es (n + k)
+    go zero low = let same : n ≡ n + 0 = omega arith in subst (λ k. AreSettled old f c es k) same h
+    go (suc k) low =
+        let next : n + k + 1 ≡ n + suc k = omega arith in
+        subst (λ k. AreSettled old f c es k) next (settled_other old f c es (n + k) (go k (omega (arith, low))) (omega (arith, low, within)) (idle (n + k) (omega arith) (omega (arith, low))))
 
-pub settled_found : (old f : Flow) (c : ℕ) (t : Track) (n : ℕ) (e : Entry) → list_any is_open_guess (take n t.context.flight) ≡ false → f ≡ record old { waiters = map (settled c (take (n + 1) t.context.flight)) old.waiters } → n < t.renamed → n < length t.context.flight
-    → e ≡ get_or t.context.flight n no_entry → is_open_guess e ≡ true → f ≡ settled_flow old c t
-settled_found old f c t n e none is lt within here open_ =
-    is ∙ ap (λ fs. let r : Flow = record old { waiters = map (settled c fs) old.waiters } in r) (sym (up_found t.context.flight t.renamed n lt within none (ap is_open_guess (sym here) ∙ open_)))
+-- up to the oldest open guess, or the last renamed entry, no other is queued
+pub settled_end : (old f : Flow) (c : ℕ) (t : Track) (guess n : ℕ) → AreSettled old f c t.context.flight n → n ≤ t.renamed → n ≤ guess + 1 → t.renamed ≤ length t.context.flight
+    → ((i : ℕ) → n ≤ i → i < t.renamed → i ≤ guess → is_queued (get_or t.context.flight i no_entry).stage ≡ false)
+    → ((i : ℕ) → i < guess → i < t.renamed → is_open_guess (get_or t.context.flight i no_entry) ≡ false) → (guess < t.renamed → is_open_guess (get_or t.context.flight guess no_entry) ≡ true) → f ≡ settled_flow old c t
+settled_end old f c t guess n h low past within idle before here = elim (cases_lt guess t.renamed) [ inl lt ↦ found lt | inr le ↦ all le ]
+  where
+    es : List Entry
+    es = t.context.flight
+
+    found : guess < t.renamed → f ≡ settled_flow old c t
+    found lt =
+        let up = settled_pass old f c es n (guess + 1) h past (omega (arith, lt, within)) (λ i from below. idle i from (omega (arith, below, lt)) (omega (arith, below))) in
+        let none = none_open es guess (omega (arith, lt, within)) (λ i below. before i below (omega (arith, below, lt))) in
+        up ∙ ap (λ fs. let r : Flow = record old { waiters = map (settled c fs) old.waiters } in r) (sym (up_found es t.renamed guess lt (omega (arith, lt, within)) none (here lt)))
+
+    all : t.renamed ≤ guess → f ≡ settled_flow old c t
+    all le =
+        let up = settled_pass old f c es n t.renamed h low within (λ i from below. idle i from below (omega (arith, below, le))) in
+        let none = none_open es t.renamed within (λ i below. before i (omega (arith, below, le)) below) in
+        up ∙ ap (λ fs. let r : Flow = record old { waiters = map (settled c fs) old.waiters } in r) (sym (up_none (take t.renamed es) none))
 
 -- ---- what it makes of what waits
 

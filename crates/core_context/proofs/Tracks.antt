@@ -3,7 +3,7 @@ use Rattle.std.proofs.Common.{◌≡◌, ◌≢◌, ℕ, suc, ◌+◌, ◌-◌, 
 use Rattle.std.specs.Prelude.{set, nat_lt, not, min, find, option_map, if◌then◌else◌, ◌==◌, ◌&&◌}
 use Rattle.std.specs.List.{list_any}
 use Rattle.std.proofs.lemmas.Bool.{cases_eq, cases_lt, eq-eqb, lt-ltb, le-ltb, ltb-true, ltb-false}
-use Rattle.std.proofs.lemmas.List.{nil_from_length, take_all, length-set, get_or-drop, get_or-set_other, get_or_default}
+use Rattle.std.proofs.lemmas.List.{nil_from_length, take_all, length-set, get_or-drop, get_or-set_same, get_or-set_other, get_or_default}
 use Rattle.std.proofs.lemmas.List.Folds.{list_any_none, list_any_at}
 use Rattle.std.proofs.lemmas.Option.{get_or_from_slice_get, slice_get-get_or, slice_get_cases, slice_get_within, none-some}
 use Rattle.circular_buffer.specs.Buffer.{last_item}
@@ -32,7 +32,7 @@ use Rattle.core_view.proofs.Sound.{sound_at}
 use Rattle.flight.specs.Flights.{NoneFrom, IsNext}
 use Rattle.flight.specs.Marked.{is_waiting}
 use Rattle.core_context.specs.Queued.{queued_at}
-use Rattle.core_context.specs.Track.{Track, left_by, cut_stamp, finished, cut_at, completed}
+use Rattle.core_context.specs.Track.{Track, left_by, cut_stamp, finished, cut_at, completed, is_mispredicted_by}
 use Rattle.core_context.proofs.QueueSlots.{growing_whole}
 use Rattle.core_context.proofs.Waiting.{and_none}
 
@@ -211,31 +211,48 @@ module _ (es : List Entry) (i : ℕ) (e : Entry) (x : Execution) (is : slice_get
   here = get_or_from_slice_get es i e no_entry is
 
   -- a stop leaves all
-  pub cut_stop : (why : Stop) → x.outcome ≡ Stops why → None ≡ stamp_if (left_in es i x) es
+  cut_stop : (why : Stop) → x.outcome ≡ Stops why → None ≡ stamp_if (left_in es i x) es
   cut_stop why stops = stamp_none (left_in es i x) es (rw stops (omega (arith, slice_get_within es i e is, length-drop (i + 1) es)))
 
   -- so does an entry that goes on, was guessed right and writes nothing
-  pub cut_right : (step : Step) → x.outcome ≡ Goes step → is_mispredicted e step ≡ false → bytes_written step.access ≡ None → None ≡ stamp_if (left_in es i x) es
+  cut_right : (step : Step) → x.outcome ≡ Goes step → is_mispredicted e step ≡ false → bytes_written step.access ≡ None → None ≡ stamp_if (left_in es i x) es
   cut_right step goes right bytes =
       stamp_none (left_in es i x) es (rw (goes, here, right, bytes) (omega (arith, slice_get_within es i e is, clean_none (drop (i + 1) es), length-drop (i + 1) es)))
 
+  -- so what wasn't guessed wrongly and writes nothing leaves all
+  pub cut_kept : is_mispredicted_by e x.outcome ≡ false → bytes_in x.outcome ≡ None → None ≡ stamp_if (left_in es i x) es
+  cut_kept right bytes = go x.outcome refl right bytes
+    where
+      go : (o : Outcome) → x.outcome ≡ o → is_mispredicted_by e o ≡ false → bytes_in o ≡ None → None ≡ stamp_if (left_in es i x) es
+      go (Goes step) goes right bytes = cut_right step goes right bytes
+      go (Stops why) stops right bytes = cut_stop why stops
+
   -- a wrong guess leaves nothing behind the entry
-  left_wrong : (step : Step) → x.outcome ≡ Goes step → is_mispredicted e step ≡ true → left_in es i x ≡ i + 1
-  left_wrong step goes wrong = rw (goes, here, wrong) (omega arith)
+  left_wrong : is_mispredicted_by e x.outcome ≡ true → left_in es i x ≡ i + 1
+  left_wrong wrong = go x.outcome refl wrong
+    where
+      go : (o : Outcome) → x.outcome ≡ o → is_mispredicted_by e o ≡ true → left_in es i x ≡ i + 1
+      go (Goes step) goes wrong = rw (goes, here, wrong) (omega arith)
+      go (Stops why) stops wrong = absurd cc
 
   module _ (new : List Entry) (written : new ≡ set es i (completed_entry e x)) where
     as_long : length new ≡ length es
     as_long = ap (λ (fs : List Entry). length fs) written ∙ length-set es i (completed_entry e x)
 
-    pub cut_wrong_none : (step : Step) → x.outcome ≡ Goes step → is_mispredicted e step ≡ true → slice_get new (i + 1) ≡ None → None ≡ stamp_if (left_in es i x) es
-    cut_wrong_none step goes wrong none = stamp_none (left_in es i x) es (omega (arith, left_wrong step goes wrong, past new (i + 1) none, as_long))
+    -- what has completed is found there
+    pub completed_read : (f : Entry) → slice_get new i ≡ Some f → f ≡ completed_entry e x
+    completed_read f at =
+        sym (get_or_from_slice_get new i f no_entry at) ∙ ap (λ (fs : List Entry). get_or fs i no_entry) written ∙ get_or-set_same es i (completed_entry e x) no_entry (slice_get_within es i e is)
 
-    pub cut_wrong_some : (step : Step) (f : Entry) → x.outcome ≡ Goes step → is_mispredicted e step ≡ true → slice_get new (i + 1) ≡ Some f → Some f.stamp ≡ stamp_if (left_in es i x) es
-    cut_wrong_some step f goes wrong at =
+    pub cut_wrong_none : is_mispredicted_by e x.outcome ≡ true → slice_get new (i + 1) ≡ None → None ≡ stamp_if (left_in es i x) es
+    cut_wrong_none wrong none = stamp_none (left_in es i x) es (omega (arith, left_wrong wrong, past new (i + 1) none, as_long))
+
+    pub cut_wrong_some : (f : Entry) → is_mispredicted_by e x.outcome ≡ true → slice_get new (i + 1) ≡ Some f → Some f.stamp ≡ stamp_if (left_in es i x) es
+    cut_wrong_some f wrong at =
         let other : i + 1 ≢ i = λ same. omega (arith, same) in
         let read : get_or es (i + 1) no_entry ≡ f =
         sym (get_or-set_other es i (i + 1) (completed_entry e x) no_entry other) ∙ ap (λ (fs : List Entry). get_or fs (i + 1) no_entry) (sym written) ∙ get_or_from_slice_get new (i + 1) f no_entry at in
-        ap (λ (g : Entry). Some g.stamp) (sym read) ∙ stamp_some (i + 1) es (omega (arith, within new (i + 1) f at, as_long)) ∙ ap (λ n. stamp_if n es) (sym (left_wrong step goes wrong))
+        ap (λ (g : Entry). Some g.stamp) (sym read) ∙ stamp_some (i + 1) es (omega (arith, within new (i + 1) f at, as_long)) ∙ ap (λ n. stamp_if n es) (sym (left_wrong wrong))
 
   module _ (image : Image) (seen : Seen) (pc : ℕ) (stage : e.stage ≡ Issued x) (sound : IsSound image seen pc es) where
     -- what isn't a store writes nothing

@@ -4,7 +4,7 @@ ghost use Rattle.std.specs.Prelude.{◌≡◌, ◌≢◌, ◌↔◌, ℕ, ◌+�
 ghost use Rattle.std.specs.List.{list_any};
 ghost use Rattle.core_view.specs.Outcomes.{image_of, IsSized};
 ghost use Rattle.data_flow.specs.Flow.{lane, node_at, sources_at, taken, waits_in, cut_flow, released};
-ghost use Rattle.core_view.specs.declared.entry.Stage.TheVariants.{Fetched, Queued, Issued};
+ghost use Rattle.core_view.specs.declared.entry.Stage.TheVariants.{Fetched, Queued};
 ghost use Rattle.core_view.specs.declared.outcome.Outcome.TheVariants.{Goes, Stops};
 ghost use Rattle.core_view.specs.Flight.{seen_of, IsSound, is_open_guess as is_open_guess_entry};
 ghost use Rattle.core_view.specs.Operations.{destination_of, stops_at_fetch, is_load, is_store};
@@ -14,13 +14,14 @@ ghost use Rattle.core_context.specs.Issuable.{IsAnswered, IsMarked, AreLetGo, mu
 ghost use Rattle.core_context.specs.Track.{is_last, retired, stopped, completed, renamed_one};
 ghost use Rattle.core_context.specs.Cores.{operands_of, AllFetched};
 ghost use Rattle.core_context.specs.Heads.{first_done};
+ghost use Rattle.flight.specs.Flights.{execution_of, IsIssued};
 ghost use Rattle.core_context.specs.Left.{IsIdleCore, IsEventAt};
 ghost use Rattle.core_context.specs.Renamable.{IsPastFront, IsRenamable};
 ghost use Rattle.core_context.specs.Steps.{retired_flow, settled_flow, completed_flow, renamed_flow, IsRemarked};
 
-use crate::track::{Track, is_open_guess, is_queued};
+use crate::track::Track;
 use core_profile::Profile;
-use core_view::{Entry, Execution, Step};
+use core_view::{Entry, Step};
 use data_flow::{DataFlow, Operands};
 use hart_step::Stop;
 use join_law::Ctx;
@@ -58,17 +59,16 @@ pub fn complete<A: Allocator>(
     track: &mut Track<A>,
     context: Ctx,
     place: usize,
-    execution: Execution,
 ) -> usize
     requires core { IsIdleCore flow.old context track.old }
     requires place { place < length track.old.context.flight }
-    requires issued { (entry_at track.old.context place).stage ≡ Issued execution }
-    ensures track { track.new ≡ completed track.old place execution }
+    requires issued { IsIssued (entry_at track.old.context place).stage }
+    ensures track { track.new ≡ completed track.old place (execution_of (entry_at track.old.context place).stage) }
     ensures event { IsEventAt context flow.old flow.new track.old track.new }
     ensures cut { result + length track.new.context.flight ≡ length track.old.context.flight }
 {
     let before = track.len();
-    complete_entry(flow, track, context, place, execution);
+    complete_entry(flow, track, context, place);
     before - track.len()
 }
 
@@ -78,20 +78,21 @@ fn complete_entry<A: Allocator>(
     track: &mut Track<A>,
     context: Ctx,
     place: usize,
-    execution: Execution,
 )
     requires place { place < length track.old.context.flight }
     requires known { place < length (lane flow.old context).nodes }
-    requires issued { (entry_at track.old.context place).stage ≡ Issued execution }
+    requires issued { IsIssued (entry_at track.old.context place).stage }
     requires sound { IsSound (image_of track.old.context.state) (seen_of track.old.context.state) track.old.context.state.pc track.old.context.flight }
-    ensures track { track.new ≡ completed track.old place execution }
-    ensures flow { flow.new ≡ completed_flow flow.old context place execution track.old }
+    ensures track { track.new ≡ completed track.old place (execution_of (entry_at track.old.context place).stage) }
+    ensures flow { flow.new ≡ completed_flow flow.old context place (execution_of (entry_at track.old.context place).stage) track.old }
 {
-    let guessed = track.entry_at(place).operation.is_guessed();
-    if let Some(value) = execution.outcome.result() {
+    let guessed = track.is_guessed(place);
+    let result = track.result_to_come(place);
+    let cut = track.complete(place);
+    if let Some(value) = result {
         flow.finish(context, place, value);
     }
-    if let Some(stamp) = track.complete(place, execution) {
+    if let Some(stamp) = cut {
         flow.cut_from(context, stamp);
     }
     if guessed {
@@ -225,14 +226,17 @@ fn operands(entry: &Entry) -> Operands
 fn settle_speculation<A: Allocator>(flow: &mut DataFlow<A>, track: &Track<A>, context: Ctx)
     ensures { flow.new ≡ settled_flow flow.old context track.now }
 {
-    for place in 0..track.renamed_count() {
-        let entry = track.entry_at(place);
-        if is_queued(&entry) {
-            flow.speculate(context, entry.stamp, false);
-        }
-        if is_open_guess(&entry) {
+    // How many are renamed is at most how many there are.
+    let _renamed = track.renamed_count();
+    let guess = track.first_open_guess();
+    let mut first = 0;
+    while let Some(place) = track.next_queued(first) {
+        if place > guess {
             return;
         }
+        let entry = track.entry_at(place);
+        flow.speculate(context, entry.stamp, false);
+        first = place + 1;
     }
 }
 

@@ -1,7 +1,7 @@
 -- What is true of a flight, event by event.
 use Rattle.std.proofs.Common.{◌≡◌, ◌≢◌, ℕ, zero, suc, ◌+◌, ◌-◌, ◌%◌, ◌<◌, ◌≤◌, List, [], ◌∷◌, length, take, drop, set, get_or, refl, sym, ◌∙◌, ap, arith, inl, inr, ◌⊎◌, length-set, length-drop}
 use Rattle.std.specs.Int.{bit_at}
-use Rattle.std.proofs.lemmas.List.{length-take-le, get_or-set_same, get_or-set_other}
+use Rattle.std.proofs.lemmas.List.{length-take-le, get_or-take, get_or-set_same, get_or-set_other}
 use Rattle.std.proofs.lemmas.Grind.{get_or_after_one}
 use Rattle.std.proofs.Math.Seq.{take-set-lt}
 use Rattle.core_view.specs.declared.entry.Entry.{Entry}
@@ -38,6 +38,9 @@ queued-fetched e = cc
 
 issued-fetched : (x : Execution) → Issued x ≡ Fetched → ⊥
 issued-fetched x e = cc
+
+done-issued : (x y : Execution) → Done x ≡ Issued y → ⊥
+done-issued x y e = cc
 
 -- what waits or is issued is renamed
 pub queued-renamed : (es : List Entry) (r i : ℕ) → IsAhead r es → (entry_in es i).stage ≡ Queued → i < r
@@ -130,17 +133,22 @@ flight-retired es fs r base m n words f some is marks = rw is (record {
 })
 
 -- another entry at a renamed place
+flight-put : (es : List Entry) (e : Entry) (place r base : ℕ) (m n : Marks) (words vs : List ℕ) → IsFlight es r base m words → place < r →
+    n ≡ marks_of (set (take r es) place e) → IsHinted vs base (set es place e) → IsFlight (set es place e) r base n vs
+flight-put es e place r base m n words vs f within marks hinted = record {
+  within = omega (arith, f.within, length-set es place e);
+  few = f.few;
+  marked = marks ∙ ap marks_of (sym (take-set-lt r es place e within));
+  ahead = λ i h. let other : i ≢ place = omega arith in ap (λ (e : Entry). e.stage) (get_or-set_other es place i e no_entry other) ∙ f.ahead i h;
+  hinted = hinted;
+}
+
 flight-set : (es : List Entry) (e : Entry) (place r base : ℕ) (m n : Marks) (words vs : List ℕ) → IsFlight es r base m words → place < r →
     ((xs : List Entry) → m ≡ marks_of xs → place < length xs → length xs ≤ 64 → n ≡ marks_of (set xs place e)) →
     IsHinted vs base (set es place e) → IsFlight (set es place e) r base n vs
 flight-set es e place r base m n words vs f within marks hinted =
-    let long : length (take r es) ≡ r = length-take-le r es f.within in record {
-      within = omega (arith, f.within, length-set es place e);
-      few = f.few;
-      marked = marks (take r es) f.marked (omega arith) (omega (arith, f.few)) ∙ ap marks_of (sym (take-set-lt r es place e within));
-      ahead = λ i h. let other : i ≢ place = omega arith in ap (λ (e : Entry). e.stage) (get_or-set_other es place i e no_entry other) ∙ f.ahead i h;
-      hinted = hinted;
-    }
+    let long : length (take r es) ≡ r = length-take-le r es f.within in
+    flight-put es e place r base m n words vs f within (marks (take r es) f.marked (omega arith) (omega (arith, f.few))) hinted
 
 pub flight-issued : (es fs : List Entry) (e : Entry) (place r base : ℕ) (m n : Marks) (words : List ℕ) (x : Execution) (w : ℕ) → IsFlight es r base m words → place < r → length words ≡ 64 →
     e.stage ≡ Issued x → fs ≡ set es place e →
@@ -151,14 +159,35 @@ flight-issued es fs e place r base m n words x w f within size is made marks bit
     rw made (flight-set es e place r base m n words (set words (x.due % 64) w) f within marks
     (hinted-issued words base place es e x f.hinted (omega (arith, f.within)) size is w bit more))
 
-pub flight-finished : (es fs : List Entry) (e : Entry) (place r base : ℕ) (m n : Marks) (words : List ℕ) → IsFlight es r base m words → place < r → ((x : Execution) → e.stage ≡ Issued x → ⊥) → fs ≡ set es place e →
-    ((xs : List Entry) → m ≡ marks_of xs → place < length xs → length xs ≤ 64 → n ≡ marks_of (set xs place e)) → IsFlight fs r base n words
-flight-finished es fs e place r base m n words f within idle made marks =
-    rw made (flight-set es e place r base m n words words f within marks (hinted-still words base es (set es place e) f.hinted still))
+-- the bit of an entry that isn't due in any cycle of a word is cleared there
+pub flight-cleared : (es : List Entry) (place r base cycle w : ℕ) (m : Marks) (words : List ℕ) → IsFlight es r base m words → place < r → length words ≡ 64 →
+    ((x : Execution) → (entry_in es place).stage ≡ Issued x → (x.due % 64) ≢ (cycle % 64)) →
+    ((j : ℕ) → j < 64 → j ≢ (base + place) % 64 → bit_at w j ≡ bit_at (get_or words (cycle % 64) 0) j) → IsFlight es r base m (set words (cycle % 64) w)
+flight-cleared es place r base cycle w m words f renamed size idle others = record {
+  within = f.within;
+  few = f.few;
+  marked = f.marked;
+  ahead = f.ahead;
+  hinted = hinted-cleared words base place r cycle w es f.hinted f.ahead f.few renamed size idle others;
+}
+
+-- an issued entry is done
+pub flight-finished : (es fs : List Entry) (e : Entry) (x y : Execution) (place r base cycle w : ℕ) (m n : Marks) (words : List ℕ) → IsFlight es r base m words → (entry_in es place).stage ≡ Issued x → e.stage ≡ Done y → fs ≡ set es place e →
+    ((xs : List Entry) → m ≡ marks_of xs → place < length xs → length xs ≤ 64 → (entry_in xs place).stage ≡ Issued x → n ≡ marks_of (set xs place e)) → length words ≡ 64 →
+    ((j : ℕ) → j < 64 → j ≢ (base + place) % 64 → bit_at w j ≡ bit_at (get_or words (cycle % 64) 0) j) → IsFlight fs r base n (set words (cycle % 64) w)
+flight-finished es fs e x y place r base cycle w m n words f issued done made marks size others =
+    let within : place < r = issued-renamed es r place x f.ahead issued in
+    let long : length (take r es) ≡ r = length-take-le r es f.within in
+    let word : n ≡ marks_of (set (take r es) place e) = marks (take r es) f.marked (omega arith) (omega (arith, f.few)) (ap (λ (e : Entry). e.stage) (get_or-take r es place no_entry within) ∙ issued) in
+    let put = flight-put es e place r base m n words words f within word (hinted-still words base es (set es place e) f.hinted (still within)) in
+    rw made (flight-cleared (set es place e) place r base cycle w n words put within size (λ z is. absurd (idle z (sym (ap (λ (e : Entry). e.stage) (get_or-set_same es place e no_entry (omega (arith, f.within)))) ∙ is))) others)
   where
-    still : (i : ℕ) (x : Execution) → (entry_in (set es place e) i).stage ≡ Issued x → (entry_in es i).stage ≡ Issued x
-    still i x is = elim (eq-or i place) [
-      | inl here ↦ absurd (idle x (ap (λ (e : Entry). e.stage) (sym (get_or-set_same es place e no_entry (omega (arith, f.within))) ∙ ap (λ k. entry_in (set es place e) k) (sym here)) ∙ is))
+    idle : (z : Execution) → e.stage ≡ Issued z → ⊥
+    idle z is = done-issued y z (sym done ∙ is)
+
+    still : place < r → (i : ℕ) (z : Execution) → (entry_in (set es place e) i).stage ≡ Issued z → (entry_in es i).stage ≡ Issued z
+    still within i z is = elim (eq-or i place) [
+      | inl here ↦ absurd (idle z (ap (λ (e : Entry). e.stage) (sym (get_or-set_same es place e no_entry (omega (arith, f.within))) ∙ ap (λ k. entry_in (set es place e) k) (sym here)) ∙ is))
       | inr other ↦ ap (λ (e : Entry). e.stage) (sym (get_or-set_other es place i e no_entry other)) ∙ is
     ]
 

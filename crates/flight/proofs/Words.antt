@@ -1,11 +1,11 @@
 -- The words of a flight at once, and what they count.
 use Rattle.std.proofs.Common.{◌≡◌, ℕ, zero, suc, ◌+◌, ◌*◌, ◌<◌, ◌≤◌, Bool, true, false, not, cond, List, [], ◌∷◌, ◌++◌, length, take, map, set, get_or, refl, sym, ◌∙◌, ap, arith, nat_eq}
-use Rattle.std.specs.Prelude.{◌||◌}
+use Rattle.std.specs.Prelude.{◌||◌, ◌&&◌}
 use Rattle.std.specs.Int.{bit_at}
 use Rattle.std.specs.List.{list_any}
 use Rattle.std.specs.Simd.Lanes.{mask_l}
 use Rattle.std.proofs.lemmas.Bool.Decides.{nat_tests}
-use Rattle.std.proofs.lemmas.List.{map-set, map-append, length-map, take-map, get_or-take, length-take-le}
+use Rattle.std.proofs.lemmas.List.{set-get_or, map-set, map-append, length-map, take-map, get_or-take, length-take-le}
 use Rattle.std.proofs.lemmas.Simd.{bit_mask_l}
 use Rattle.core_view.specs.declared.entry.Entry.{Entry}
 use Rattle.core_view.specs.View.{no_entry}
@@ -17,6 +17,11 @@ pub four : (a b c d a' b' c' d' : ℕ) → a ≡ a' → b ≡ b' → c ≡ c' �
     ◌≡◌ {A = Marks} record { waiting = a; waiting_loads = b; open_guesses = c; missed_loads = d } record { waiting = a'; waiting_loads = b'; open_guesses = c'; missed_loads = d' }
 four a b c d a' b' c' d' pa pb pc pd = rw pa (rw pb (rw pc (rw pd refl)))
 
+bit-entry : (p : Entry → Bool) (es : List Entry) (i : ℕ) → i < length es → get_or (map p es) i false ≡ p (entry_in es i)
+bit-entry p [] i lt = absurd (omega arith)
+bit-entry p (e ∷ es) zero lt = refl
+bit-entry p (e ∷ es) (suc i) lt = bit-entry p es i (omega arith)
+
 pub word-push : (p : Entry → Bool) (es : List Entry) (e : Entry) (w r place : ℕ) (b : Bool) → w ≡ word_of p es → place ≡ length es → b ≡ p e →
     ((ms : List Bool) → w ≡ mask_l ms → place ≡ length ms → r ≡ mask_l (ms ++ b ∷ [])) → r ≡ word_of p (es ++ e ∷ [])
 word-push p es e w r place b is at bit h = h (map p es) is (at ∙ sym (length-map es p)) ∙ ap (λ x. mask_l (map p es ++ x ∷ [])) bit ∙ ap mask_l (sym (map-append p es (e ∷ [])))
@@ -25,6 +30,15 @@ pub word-set : (p : Entry → Bool) (es : List Entry) (e : Entry) (w r place : �
     ((ms : List Bool) → w ≡ mask_l ms → place < length ms → length ms ≤ 64 → r ≡ mask_l (set ms place b)) → r ≡ word_of p (set es place e)
 word-set p es e w r place b is within short bit h = let n : length (map p es) ≡ length es = length-map es p in
     h (map p es) is (omega arith) (omega arith) ∙ ap (λ x. mask_l (set (map p es) place x)) bit ∙ ap mask_l (sym (map-set p es place e))
+
+pub and-none : (b : Bool) → false ≡ (b && false)
+and-none true = refl
+and-none false = refl
+
+-- the word stays where an entry takes the place of one that passes as it does
+pub word-kept : (p : Entry → Bool) (es : List Entry) (e : Entry) (place : ℕ) → place < length es → p (entry_in es place) ≡ p e → word_of p es ≡ word_of p (set es place e)
+word-kept p es e place within same =
+    ap mask_l (sym (set-get_or (map p es) place false) ∙ ap (set (map p es) place) (bit-entry p es place within ∙ same) ∙ sym (map-set p es place e))
 
 pub word-take : (p : Entry → Bool) (es : List Entry) (w r n : ℕ) → w ≡ word_of p es → length es ≤ 64 → ((ms : List Bool) → w ≡ mask_l ms → length ms ≤ 64 → r ≡ mask_l (take n ms)) → r ≡ word_of p (take n es)
 word-take p es w r n is short h = h (map p es) is (omega (arith, length-map es p)) ∙ ap mask_l (take-map p n es)
@@ -58,11 +72,6 @@ clear-bit false e = refl
 set-bit : (b : Bool) → cond {A = ℕ} b 1 0 ≡ 1 → b ≡ true
 set-bit true e = refl
 set-bit false e = absurd (no-one e)
-
-bit-entry : (p : Entry → Bool) (es : List Entry) (i : ℕ) → i < length es → get_or (map p es) i false ≡ p (entry_in es i)
-bit-entry p [] i lt = absurd (omega arith)
-bit-entry p (e ∷ es) zero lt = refl
-bit-entry p (e ∷ es) (suc i) lt = bit-entry p es i (omega arith)
 
 -- the bit of a place, of the words of the oldest entries
 pub bit-is : (p : Entry → Bool) (es : List Entry) (w r i : ℕ) → w ≡ word_of p (take r es) → r ≤ length es → i < r → bit_at w i ≡ cond (p (entry_in es i)) 1 0

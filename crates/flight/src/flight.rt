@@ -1,6 +1,6 @@
 //! The entries of a context in flight.
 
-ghost use Rattle.std.specs.Prelude.{◌≡◌, ◌≢◌, ℕ, ◌+◌, ◌-◌, ◌<◌, ◌≤◌, ◌%◌, Bool, true, false, [], ◌∷◌, ◌++◌, length, take, drop, slice_get, slice_set, option_copied, IfOk, IfSome, MatchOption, All, count_by};
+ghost use Rattle.std.specs.Prelude.{◌≡◌, ◌≢◌, ℕ, ◌+◌, ◌-◌, ◌<◌, ◌≤◌, ◌%◌, Bool, true, false, [], ◌∷◌, ◌++◌, length, take, drop, slice_get, slice_set, option_copied, IfOk, IfSome, IsTrue, MatchOption, All, count_by};
 ghost use Rattle.std.specs.List.{list_any};
 ghost use Rattle.circular_buffer.specs.Buffer.{buffer, last_item};
 ghost use Rattle.reorder_buffer.specs.Growing.{IsGrowing};
@@ -10,7 +10,7 @@ ghost use Rattle.core_view.specs.declared.entry.Entry.{Entry};
 ghost use Rattle.core_view.specs.declared.entry.Execution.{Execution};
 ghost use Rattle.core_view.specs.Flight.{is_open_guess, is_missed_load};
 ghost use Rattle.flight.specs.Marked.{is_waiting, is_waiting_load, word_of};
-ghost use Rattle.flight.specs.Flights.{entry_in, empty_flight, fetched_one, renamed_one, issued_one, finished_one, retired_one, none_left, cut_at, guesses_ahead, is_due, NoneFrom, IsNext};
+ghost use Rattle.flight.specs.Flights.{entry_in, empty_flight, fetched_one, renamed_one, issued_one, finished_one, retired_one, none_left, cut_at, execution_of, IsIssued, guesses_ahead, is_due, NoneFrom, IsNext};
 
 use crate::marks::Marks;
 use bit_vector::{clear_slot, count, next, set_slot, turn};
@@ -146,10 +146,10 @@ impl<A: Allocator> Flight<A> {
     }
 
     /// The entry at a place, which is issued, completes. Nothing is cut.
-    pub fn finish(&mut self, place: usize, execution: Execution)
+    pub fn finish(&mut self, place: usize)
         requires place { place < length self.old.entries }
-        requires issued { (entry_in self.old.entries place).stage ≡ Issued execution }
-        ensures { self.new ≡ finished_one self.old place execution }
+        requires issued { IsIssued (entry_in self.old.entries place).stage }
+        ensures { self.new ≡ finished_one self.old place (execution_of (entry_in self.old.entries place).stage) }
     {
         // What is written is what stands there, but for the stage's name and the followed pc.
         let entry = *at(&self.ring, place);
@@ -158,8 +158,9 @@ impl<A: Allocator> Flight<A> {
         };
         let entry = entry.completed(execution);
         set_in(&mut self.ring, place, entry);
-        self.marks.assign(place, &entry);
-        self.clear_hint(execution.due, place);
+        self.marks.finish(place);
+        let cycle = (execution.due % 64) as usize;
+        self.hints[cycle] = clear_slot(self.hints[cycle], (self.base + place) % 64);
     }
 
     /// The oldest entry leaves.
@@ -264,6 +265,9 @@ impl<A: Allocator> Flight<A> {
         ensures renamed { IfSome result (λ place. place < self.old.renamed) }
         ensures same { self.new ≡ self.old }
     {
+        if self.has_no_hint(cycle) {
+            return None;
+        }
         let mut place = self.next_hint(cycle, from);
         while place < self.renamed_count() {
             if at(&self.ring, place).stage.due(cycle).is_some() {
@@ -273,6 +277,14 @@ impl<A: Allocator> Flight<A> {
             place = self.next_hint(cycle, place + 1);
         }
         None
+    }
+
+    /// Whether no entry may be due in a cycle.
+    #[inline]
+    fn has_no_hint(&self, cycle: u64) -> bool
+        ensures { IsTrue result → (i : ℕ) → is_due cycle (entry_in self.now.entries i) ≡ false }
+    {
+        self.hints[(cycle % 64) as usize] == 0
     }
 
     /// The first place from one on that may be due in a cycle, or 64.

@@ -2,8 +2,11 @@
 
 ghost use Rattle.std.specs.Prelude.{◌≡◌, ◌&&◌, ◌<◌, ◌≤◌, List, [], ◌∷◌, ◌++◌, length, take, drop, slice_set};
 ghost use Rattle.core_view.specs.declared.entry.Entry.{Entry};
+ghost use Rattle.core_view.specs.declared.entry.Execution.{Execution};
+ghost use Rattle.core_view.specs.declared.entry.Stage.TheVariants.{Issued, Done};
 ghost use Rattle.core_view.specs.Flight.{is_open_guess, is_missed_load, has_missed};
 ghost use Rattle.flight.specs.Marked.{marks_of, is_waiting, is_waiting_load};
+ghost use Rattle.flight.specs.Flights.{entry_in};
 
 use bit_vector::{assign, first, push, without_first};
 use core_view::{Entry, Stage};
@@ -56,6 +59,16 @@ impl Marks {
         self.waiting_loads = assign(self.waiting_loads, place, is_waiting_load(entry));
         self.open_guesses = assign(self.open_guesses, place, is_open_guess(entry));
         self.missed_loads = assign(self.missed_loads, place, is_missed_load(entry));
+    }
+
+    /// With another entry at a place, which was issued and is done now: it waits neither before nor after.
+    #[inline]
+    pub fn finish(&mut self, place: usize)
+        requires { place < 64 }
+        ensures { (es : List Entry) (e : Entry) (x y : Execution) → self.old ≡ marks_of es → place < length es → length es ≤ 64 → (entry_in es place).stage ≡ Issued x → e.stage ≡ Done y → self.new ≡ marks_of (slice_set es place e) }
+    {
+        self.open_guesses = assign(self.open_guesses, place, false);
+        self.missed_loads = assign(self.missed_loads, place, false);
     }
 
     /// Without the oldest entry.

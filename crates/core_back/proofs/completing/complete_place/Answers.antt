@@ -1,29 +1,27 @@
-use Rattle.std.proofs.Common.{arith, sym, ◌∙◌, add-one}
+use Rattle.std.proofs.Common.{◌≡◌, Some}
+use Rattle.flight.specs.Flights.{execution_of}
 use Rattle.core_view.specs.View.{entry_at}
 use Rattle.core_view.proofs.Sound.{due_stage}
-use Rattle.core_back.specs.Machine.{context_at}
-use Rattle.core_back.proofs.CompletedCount.{come_none, come_step}
-use Rattle.core_back.proofs.CompletedByPlace.{due_some, due_none, due_step}
+use Rattle.core_back.specs.Machine.{context_at, due_in}
+use Rattle.core_back.proofs.CompletedCount.{come_step}
+use Rattle.core_back.proofs.CompletedByPlace.{due_some, due_here, due_step}
 use Rattle.core_back.proofs.completing.complete_place.Goals as goal
 
-pub returns-in_default-clause-goes_on : goal.returns-in_default-clause-goes_on
-returns-in_default-clause-goes_on g c = due_none c.args.machine.now.view.cycle (context_at c.args.machine.now c.args.context).flight c.args.place (sym c.due.ensures.value ∙ c.in_default.is)
-
-pub complete-cut-requires-clause-place : goal.complete-cut-requires-clause-place
-complete-cut-requires-clause-place g c = (due_some c.args.machine.now.view.cycle (context_at c.args.machine.now c.args.context).flight c.args.place c.in-Some.execution (sym c.due.ensures.value ∙ c.in-Some.is)).0
-
-pub complete-cut-requires-clause-issued : goal.complete-cut-requires-clause-issued
-complete-cut-requires-clause-issued g c =
-    due_stage c.args.machine.now.view.cycle (entry_at (context_at c.args.machine.now c.args.context) c.args.place).stage c.in-Some.execution
-    (due_some c.args.machine.now.view.cycle (context_at c.args.machine.now c.args.context).flight c.args.place c.in-Some.execution (sym c.due.ensures.value ∙ c.in-Some.is)).1
+pub complete-requires-clause-issued : goal.complete-requires-clause-issued
+complete-requires-clause-issued g c =
+    let m = c.args.machine.now in
+    let x = context_at m c.args.context in
+    let due = due_here m.view.cycle x.flight c.args.place c.requires.place c.requires.due in
+    due_stage m.view.cycle (entry_at x c.args.place).stage (execution_of (entry_at x c.args.place).stage) (due_some m.view.cycle x.flight c.args.place (execution_of (entry_at x c.args.place).stage) due).1
 
 pub returns-clause-goes_on : goal.returns-clause-goes_on
 returns-clause-goes_on g c =
-    due_step c.args.machine.now c.complete-cut.new.self c.args.context c.args.place c.in-Some.execution c.complete-cut.ensures.completed (sym c.due.ensures.value ∙ c.in-Some.is)
-
-pub returns-in_default-clause-counted : goal.returns-in_default-clause-counted
-returns-in_default-clause-counted g c = rw (add-one c.args.place, come_none c.args.machine.now.view.cycle (context_at c.args.machine.now c.args.context).flight c.args.place (sym c.due.ensures.value ∙ c.in_default.is)) (omega arith)
+    let m = c.args.machine.now in
+    let x = context_at m c.args.context in
+    due_step m c.complete.new.self c.args.context c.args.place (execution_of (entry_at x c.args.place).stage) c.complete.ensures.completed (due_here m.view.cycle x.flight c.args.place c.requires.place c.requires.due)
 
 pub returns-clause-counted : goal.returns-clause-counted
 returns-clause-counted g c =
-    come_step c.args.machine.now c.complete-cut.new.self c.args.context c.args.place c.in-Some.execution c.complete-cut.ensures.completed (sym c.due.ensures.value ∙ c.in-Some.is)
+    let m = c.args.machine.now in
+    let x = context_at m c.args.context in
+    come_step m c.complete.new.self c.args.context c.args.place (execution_of (entry_at x c.args.place).stage) c.complete.ensures.completed (due_here m.view.cycle x.flight c.args.place c.requires.place c.requires.due)

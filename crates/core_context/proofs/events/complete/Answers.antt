@@ -1,4 +1,6 @@
 use Rattle.std.proofs.Common.{ap, length, arith}
+use Rattle.core_view.specs.View.{entry_at}
+use Rattle.flight.specs.Flights.{execution_of}
 use Rattle.core_context.specs.Track.{Track}
 use Rattle.core_context.proofs.Completes.{complete_fewer, issued_known}
 use Rattle.core_context.proofs.EventsKept.{complete_kept}
@@ -7,19 +9,19 @@ use Rattle.core_context.proofs.events.complete.Goals as goal
 pub complete_entry-requires-clause-known : goal.complete_entry-requires-clause-known
 complete_entry-requires-clause-known g c =
     let k = c.requires.core in
-    issued_known k.start k.stamp k.reorder c.args.flow.now c.args.context c.args.track.now c.args.place c.args.execution k.core c.requires.place c.requires.issued
+    issued_known k.start k.stamp k.reorder c.args.flow.now c.args.context c.args.track.now c.args.place (execution_of (entry_at c.args.track.now.context c.args.place).stage) k.core c.requires.place c.requires.issued
 
 pub complete_entry-requires-clause-sound : goal.complete_entry-requires-clause-sound
 complete_entry-requires-clause-sound g c = c.requires.core.core.live.flight.sound
 
 pub overflow_sub-result : goal.overflow_sub-result
 overflow_sub-result g c =
-    omega (arith, c.len.ensures.value, c.len-before.ensures.value, ap (λ (t : Track). length t.context.flight) c.complete_entry.ensures.track, complete_fewer c.args.track.now.context.flight c.args.place c.args.execution)
+    omega (arith, c.len.ensures.value, c.len-before.ensures.value, ap (λ (t : Track). length t.context.flight) c.complete_entry.ensures.track, complete_fewer c.args.track.now.context.flight c.args.place (execution_of (entry_at c.args.track.now.context c.args.place).stage))
 
 pub returns-clause-event : goal.returns-clause-event
 returns-clause-event g c =
-    rw (c.complete_entry.ensures.track, c.complete_entry.ensures.flow) (complete_kept c.args.flow.now c.args.context c.args.track.now c.args.place c.args.execution c.requires.core.has_lane c.requires.place c.requires.issued)
+    rw (c.complete_entry.ensures.track, c.complete_entry.ensures.flow) (complete_kept c.args.flow.now c.args.context c.args.track.now c.args.place (execution_of (entry_at c.args.track.now.context c.args.place).stage) c.requires.core.has_lane c.requires.place c.requires.issued)
 
 pub returns-clause-cut : goal.returns-clause-cut
 returns-clause-cut g c =
-    omega (arith, c.len.ensures.value, c.len-before.ensures.value, ap (λ (t : Track). length t.context.flight) c.complete_entry.ensures.track, complete_fewer c.args.track.now.context.flight c.args.place c.args.execution)
+    omega (arith, c.len.ensures.value, c.len-before.ensures.value, ap (λ (t : Track). length t.context.flight) c.complete_entry.ensures.track, complete_fewer c.args.track.now.context.flight c.args.place (execution_of (entry_at c.args.track.now.context c.args.place).stage))

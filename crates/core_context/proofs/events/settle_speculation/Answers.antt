@@ -1,38 +1,39 @@
-use Rattle.std.proofs.Common.{◌≡◌, ◌+◌, ◌<◌, ◌∙◌, length, map, take, ap, sym, arith}
-use Rattle.core_view.specs.Flight.{is_open_guess}
-use Rattle.core_context.specs.Queued.{settled}
-use Rattle.core_context.proofs.Settles.{settled_first, settled_queued, settled_other, settled_found, settled_end, closed_more}
+use Rattle.std.proofs.Common.{◌≡◌, ◌+◌, ◌<◌, ◌≤◌, length, arith, subst}
+use Rattle.std.specs.Prelude.{MatchOption}
+use Rattle.flight.specs.Flights.{NoneFrom, IsNext}
+use Rattle.flight.specs.Marked.{is_waiting}
+use Rattle.core_context.proofs.Settles.{settled_first, settled_queued, settled_pass, settled_end}
 use Rattle.core_context.proofs.events.settle_speculation.Goals as goal
-use Rattle.core_context.proofs.events.settle_speculation.Goals.{then-is_queued, else-is_queued}
 
 pub loop-place-init : goal.loop-place-init
-loop-place-init g c = settled_first c.args.flow.now c.args.context c.args.track.now.context.flight
-
-pub returns-then-is_open_guess : goal.returns-then-is_open_guess
-returns-then-is_open_guess g c =
-    let f = c.args.flow.now in
-    let t = c.args.track.now in
-    let n = c.loop-place.place in
-    let within : n < length t.context.flight = omega (arith, c.loop-place-test.true, c.renamed_count-place-end.ensures.bound) in
-    let step : c.if-is_queued.flow ≡ record f { waiters = map (settled c.args.context (take (n + 1) t.context.flight)) f.waiters } = elim c.if-is_queued.branch [
-      | then-is_queued w ↦ settled_queued f c.loop-place.flow c.if-is_queued.flow c.args.context t.context.flight n c.entry_at-entry.result c.loop-place.invariant within c.entry_at-entry.ensures (sym c.is_queued.ensures ∙ w.if-is_queued.true) (w.flow-is ∙ w.speculate.ensures)
-      | else-is_queued w ↦ w.flow-is ∙ settled_other f c.loop-place.flow c.args.context t.context.flight n c.entry_at-entry.result c.loop-place.invariant within c.entry_at-entry.ensures (sym c.is_queued.ensures ∙ w.if-is_queued.false)
-    ] in
-    settled_found f c.if-is_queued.flow c.args.context t n c.entry_at-entry.result c.loop-place.invariant.closed step (omega (arith, c.loop-place-test.true, c.renamed_count-place-end.ensures.value)) within c.entry_at-entry.ensures (sym c.is_open_guess.ensures ∙ c.if-is_open_guess.true)
+loop-place-init g c = record { settled = settled_first c.args.flow.now c.args.context c.args.track.now.context.flight; low = omega arith; past = omega arith; few = omega arith }
 
 pub loop-place-preserved : goal.loop-place-preserved
 loop-place-preserved g c =
-    let f = c.args.flow.now in
-    let t = c.args.track.now in
-    let n = c.loop-place.place in
-    let within : n < length t.context.flight = omega (arith, c.loop-place-test.true, c.renamed_count-place-end.ensures.bound) in
+    let next = c.in-Some.ensures.next in
+    let after : c.loop-place.first ≤ c.in-Some.place = next.after in
+    let within : c.in-Some.place < length c.args.track.now.context.flight = next.within in
+    let renamed : c.in-Some.place < c.args.track.now.renamed = c.in-Some.ensures.renamed in
+    let few : c.in-Some.place < 64 = c.in-Some.ensures.few in
+    let to = settled_pass c.args.flow.now c.loop-place.flow c.args.context c.args.track.now.context.flight c.loop-place.first c.in-Some.place c.loop-place.invariant.settled after (omega (arith, within)) next.first in
     record {
-      flow = elim c.if-is_queued.branch [
-        | then-is_queued w ↦ settled_queued f c.loop-place.flow c.if-is_queued.flow c.args.context t.context.flight n c.entry_at-entry.result c.loop-place.invariant within c.entry_at-entry.ensures (sym c.is_queued.ensures ∙ w.if-is_queued.true) (w.flow-is ∙ w.speculate.ensures)
-        | else-is_queued w ↦ w.flow-is ∙ settled_other f c.loop-place.flow c.args.context t.context.flight n c.entry_at-entry.result c.loop-place.invariant within c.entry_at-entry.ensures (sym c.is_queued.ensures ∙ w.if-is_queued.false)
-      ];
-      closed = closed_more t.context.flight n within c.loop-place.invariant.closed (ap is_open_guess (sym c.entry_at-entry.ensures) ∙ sym c.is_open_guess.ensures ∙ c.if-is_open_guess.false);
+      settled = settled_queued c.args.flow.now c.loop-place.flow c.speculate.new.self c.args.context c.args.track.now.context.flight c.in-Some.place c.entry_at-entry.result to within c.entry_at-entry.ensures next.passes c.speculate.ensures;
+      low = omega (arith, renamed);
+      past = omega (arith, c.if-place-guess.false);
+      few = omega (arith, few);
     }
 
+pub returns-then-place-guess : goal.returns-then-place-guess
+returns-then-place-guess g c =
+    let next = c.in-Some.ensures.next in
+    let h = c.loop-place.invariant in
+    settled_end c.args.flow.now c.loop-place.flow c.args.context c.args.track.now c.first_open_guess-guess.result c.loop-place.first h.settled h.low h.past (omega (arith, c.renamed_count-renamed.ensures.value, c.renamed_count-renamed.ensures.bound))
+    (λ i from below low. next.first i from (omega (arith, low, c.if-place-guess.true))) c.first_open_guess-guess.ensures.before c.first_open_guess-guess.ensures.here
+
 pub returns : goal.returns
-returns g c = settled_end c.args.flow.now c.loop-place.flow c.args.context c.args.track.now c.loop-place.place c.loop-place.invariant (omega (arith, c.loop-place-test.false, c.renamed_count-place-end.ensures.value)) (omega (arith, c.loop-place.auto.place-end, c.renamed_count-place-end.ensures.value))
+returns g c =
+    let es = c.args.track.now.context.flight in
+    let h = c.loop-place.invariant in
+    let none : NoneFrom is_waiting es c.loop-place.first = subst (λ o. MatchOption o (NoneFrom is_waiting es c.loop-place.first) (λ place. IsNext is_waiting es c.loop-place.first place)) c.in_default.is c.next_queued.ensures.next in
+    settled_end c.args.flow.now c.loop-place.flow c.args.context c.args.track.now c.first_open_guess-guess.result c.loop-place.first h.settled h.low h.past (omega (arith, c.renamed_count-renamed.ensures.value, c.renamed_count-renamed.ensures.bound))
+    (λ i from below low. none i from) c.first_open_guess-guess.ensures.before c.first_open_guess-guess.ensures.here

@@ -1,5 +1,6 @@
 use Rattle.std.proofs.Common.{length, refl, ap, ◌∙◌, arith}
-use Rattle.core_view.specs.View.{Context}
+use Rattle.core_view.specs.View.{Context, entry_at}
+use Rattle.flight.specs.Flights.{execution_of}
 use Rattle.core_view.specs.Events.{complete_event}
 use Rattle.core_context.specs.Track.{Track}
 use Rattle.core_back.proofs.Machines.{at_context, is_idle, machine_after_event, shown_after, shown_length}
@@ -19,7 +20,7 @@ invariant_of-self g c =
 pub returns-clause-completed : goal.returns-clause-completed
 returns-clause-completed g c =
     let h = at_context c.self.inside c.args.self.now c.args.context c.index.result c.index_mut-track.result.now c.self.view_is c.self.invariant (omega (arith, c.index.ensures)) c.index.ensures.value c.index_mut-track.ensures.value in
-    shown_after c.self.inside c.args.self.now c.args.context c.index.result c.complete.new.track _ c.self.view_is c.index.ensures.value (ap (λ (t : Track). t.context) c.complete.ensures.track ∙ ap (λ (x : Context). complete_event x c.args.place c.args.execution) h.context)
+    shown_after c.self.inside c.args.self.now c.args.context c.index.result c.complete.new.track _ c.self.view_is c.index.ensures.value (ap (λ (t : Track). t.context) c.complete.ensures.track ∙ ap (λ (x : Context). complete_event x c.args.place (execution_of (entry_at x c.args.place).stage)) h.context)
 
 pub returns-clause-cut : goal.returns-clause-cut
 returns-clause-cut g c =

@@ -1,113 +1,139 @@
-use Rattle.std.proofs.Common.{rules, List, ◌≡◌, ap, sym, subst, ◌∙◌, ◌+◌, slice_get, Some, None}
+use Rattle.std.proofs.Common.{rules, List, ◌≡◌, true, false, ap, sym, subst, ◌∙◌, ◌+◌, map, slice_get, get_or, Some, None}
 use Rattle.std.specs.Prelude.{set}
 use Rattle.std.proofs.lemmas.Option.{get_or_from_slice_get}
-use Rattle.flight.specs.Flights.{Flight}
+use Rattle.flight.specs.Flights.{Flight, execution_of, IsIssued}
 use Rattle.core_view.specs.declared.entry.Stage.TheVariants.{Issued}
 use Rattle.core_view.specs.declared.entry.Entry.{Entry}
 use Rattle.core_view.specs.Outcomes.{image_of}
-use Rattle.core_view.specs.Flight.{seen_of, bytes_in, IsSound}
+use Rattle.core_view.specs.Flight.{seen_of, bytes_in, bytes_done, IsSound}
 use Rattle.core_view.specs.Events.{completed_entry}
 use Rattle.core_view.specs.Queues.{loads_of, conflict_in}
-use Rattle.core_view.specs.View.{no_entry}
-use Rattle.core_context.specs.Track.{Track, cut_stamp}
+use Rattle.core_view.specs.View.{no_entry, entry_at}
+use Rattle.load_store_queue.specs.Queues.{Queues, slot_with_bytes}
+use Rattle.core_context.specs.Track.{Track, cut_stamp, is_mispredicted_by}
 use Rattle.core_context.proofs.QueueSlots.{store_holds, other_holds}
-use Rattle.core_context.proofs.Tracks.{set_read, cut_store, cut_stop, cut_right, cut_wrong_none, cut_wrong_some, writes_none}
+use Rattle.core_context.proofs.Tracks.{set_read, cut_store, cut_kept, cut_wrong_none, cut_wrong_some, completed_read, writes_none}
 use Rattle.core_context.proofs.track.Track.finish.Goals as goal
+
+pub is_mispredicted-mispredicted-requires : goal.is_mispredicted-mispredicted-requires
+is_mispredicted-mispredicted-requires g c =
+    let es = c.self.inside.flight.entries in
+    let read : slice_get es c.args.place ≡ Some c.unwrap-entry.result.now = search rules in
+    let issued : IsIssued (get_or es c.args.place no_entry).stage = rw (← c.self.view_is) at c.requires.issued in
+    subst (λ (f : Entry). IsIssued f.stage) (get_or_from_slice_get es c.args.place c.unwrap-entry.result.now no_entry read) issued
 
 -- ---- a store
 
 pub invariant_of-self : goal.invariant_of-self
 invariant_of-self g c =
-    let read : slice_get c.self.inside.flight.entries c.args.place ≡ Some c.unwrap.result.now = search rules in
-    let issued = rw (← c.self.view_is) at c.requires.issued in
-    let stage : c.unwrap.result.now.stage ≡ Issued c.args.execution = sym (ap (λ (e : Entry). e.stage) (get_or_from_slice_get c.self.inside.flight.entries c.args.place c.unwrap.result.now no_entry read)) ∙ issued in
-    let written : c.finish.new.self.entries ≡ set c.self.inside.flight.entries c.args.place (completed_entry c.unwrap.result.now c.args.execution) =
-    set_read c.self.inside.flight.entries _ c.args.place c.unwrap.result.now (λ e. completed_entry e c.args.execution) read (ap (λ (f : Flight). f.entries) c.finish.ensures) in
-    let held = store_holds c.self.inside.flight.entries c.args.place c.unwrap.result.now read c.args.execution c.finish.new.self.entries stage written c.self.inside.queue c.resolve_store.new.self c.bytes.result (sym c.is_store.ensures ∙ c.if-is_store.true) c.len-left.ensures.growing c.bytes.ensures c.resolve_store.ensures.completed c.self.invariant.1 c.self.invariant.2 in
+    let es = c.self.inside.flight.entries in
+    let e = c.unwrap-entry.result.now in
+    let x = execution_of (get_or es c.args.place no_entry).stage in
+    let read : slice_get es c.args.place ≡ Some e = search rules in
+    let issued : (get_or es c.args.place no_entry).stage ≡ Issued x = rw (← c.self.view_is) at c.requires.issued in
+    let stage : e.stage ≡ Issued x = sym (ap (λ (f : Entry). f.stage) (get_or_from_slice_get es c.args.place e no_entry read)) ∙ issued in
+    let written : c.finish.new.self.entries ≡ set es c.args.place (completed_entry e x) = set_read es _ c.args.place e (λ f. completed_entry f x) read (ap (λ (f : Flight). f.entries) c.finish.ensures) in
+    let done : c.unwrap-store.result.now ≡ completed_entry e x = completed_read es c.args.place e x read c.finish.new.self.entries written c.unwrap-store.result.now (search rules) in
+    let bytes : c.bytes.result ≡ bytes_in x.outcome = c.bytes.ensures ∙ ap (λ (f : Entry). bytes_done f.stage) done in
+    let stamp : c.unwrap-store.result.now.stamp ≡ e.stamp = ap (λ (f : Entry). f.stamp) done in
+    let resolved : c.resolve_store.new.self ≡ record c.self.inside.queue { stores = map (slot_with_bytes e.stamp c.bytes.result) c.self.inside.queue.stores } =
+    c.resolve_store.ensures.completed ∙ ap (λ k. let q : Queues = record c.self.inside.queue { stores = map (slot_with_bytes k c.bytes.result) c.self.inside.queue.stores } in q) stamp in
+    let held = store_holds es c.args.place e read x c.finish.new.self.entries stage written c.self.inside.queue c.resolve_store.new.self c.bytes.result (sym c.is_store-stores.ensures ∙ c.if-stores.true) c.len-left.ensures.growing bytes resolved c.self.invariant.1 c.self.invariant.2 in
     (c.self.invariant.0, held.loads, held.stores)
 
-pub returns-then-is_store-clause-cut : goal.returns-then-is_store-clause-cut
-returns-then-is_store-clause-cut g c =
-    let read : slice_get c.self.inside.flight.entries c.args.place ≡ Some c.unwrap.result.now = search rules in
-    let issued = rw (← c.self.view_is) at c.requires.issued in
-    let stage : c.unwrap.result.now.stage ≡ Issued c.args.execution = sym (ap (λ (e : Entry). e.stage) (get_or_from_slice_get c.self.inside.flight.entries c.args.place c.unwrap.result.now no_entry read)) ∙ issued in
-    let sound = subst (λ (es : List Entry). IsSound (image_of c.args.self.now.context.state) (seen_of c.args.self.now.context.state) c.args.self.now.context.state.pc es) (sym (ap (λ (t : Track). t.context.flight) c.self.view_is)) c.requires.sound in
-    c.resolve_store.ensures.conflict ∙ ap (λ qs. conflict_in qs c.unwrap.result.now.stamp c.bytes.result) c.self.invariant.1 ∙ ap (λ b. conflict_in (loads_of c.self.inside.flight.entries) c.unwrap.result.now.stamp b) c.bytes.ensures
-    ∙ cut_store c.self.inside.flight.entries c.args.place c.unwrap.result.now c.args.execution read (image_of c.args.self.now.context.state) (seen_of c.args.self.now.context.state) c.args.self.now.context.state.pc stage sound c.len-len.ensures.growing (sym c.is_store.ensures ∙ c.if-is_store.true)
-    ∙ ap (λ (t : Track). cut_stamp t.context c.args.place c.args.execution) c.self.view_is
+pub returns-then-stores-clause-cut : goal.returns-then-stores-clause-cut
+returns-then-stores-clause-cut g c =
+    let es = c.self.inside.flight.entries in
+    let e = c.unwrap-entry.result.now in
+    let x = execution_of (get_or es c.args.place no_entry).stage in
+    let read : slice_get es c.args.place ≡ Some e = search rules in
+    let issued : (get_or es c.args.place no_entry).stage ≡ Issued x = rw (← c.self.view_is) at c.requires.issued in
+    let stage : e.stage ≡ Issued x = sym (ap (λ (f : Entry). f.stage) (get_or_from_slice_get es c.args.place e no_entry read)) ∙ issued in
+    let written : c.finish.new.self.entries ≡ set es c.args.place (completed_entry e x) = set_read es _ c.args.place e (λ f. completed_entry f x) read (ap (λ (f : Flight). f.entries) c.finish.ensures) in
+    let done : c.unwrap-store.result.now ≡ completed_entry e x = completed_read es c.args.place e x read c.finish.new.self.entries written c.unwrap-store.result.now (search rules) in
+    let bytes : c.bytes.result ≡ bytes_in x.outcome = c.bytes.ensures ∙ ap (λ (f : Entry). bytes_done f.stage) done in
+    let stamp : c.unwrap-store.result.now.stamp ≡ e.stamp = ap (λ (f : Entry). f.stamp) done in
+    let sound = subst (λ (fs : List Entry). IsSound (image_of c.args.self.now.context.state) (seen_of c.args.self.now.context.state) c.args.self.now.context.state.pc fs) (sym (ap (λ (t : Track). t.context.flight) c.self.view_is)) c.requires.sound in
+    c.resolve_store.ensures.conflict ∙ ap (λ qs. conflict_in qs c.unwrap-store.result.now.stamp c.bytes.result) c.self.invariant.1 ∙ ap (λ k. conflict_in (loads_of es) k c.bytes.result) stamp ∙ ap (λ b. conflict_in (loads_of es) e.stamp b) bytes
+    ∙ cut_store es c.args.place e x read (image_of c.args.self.now.context.state) (seen_of c.args.self.now.context.state) c.args.self.now.context.state.pc stage sound c.len-len.ensures.growing (sym c.is_store-stores.ensures ∙ c.if-stores.true)
+    ∙ ap (λ (t : Track). cut_stamp t.context c.args.place (execution_of (entry_at t.context c.args.place).stage)) c.self.view_is
 
--- ---- a stop
+-- ---- nothing was guessed wrongly
 
-pub invariant_of-self-in_default : goal.invariant_of-self-in_default
-invariant_of-self-in_default g c =
-    let read : slice_get c.self.inside.flight.entries c.args.place ≡ Some c.unwrap.result.now = search rules in
-    let issued = rw (← c.self.view_is) at c.requires.issued in
-    let stage : c.unwrap.result.now.stage ≡ Issued c.args.execution = sym (ap (λ (e : Entry). e.stage) (get_or_from_slice_get c.self.inside.flight.entries c.args.place c.unwrap.result.now no_entry read)) ∙ issued in
-    let written : c.finish.new.self.entries ≡ set c.self.inside.flight.entries c.args.place (completed_entry c.unwrap.result.now c.args.execution) =
-    set_read c.self.inside.flight.entries _ c.args.place c.unwrap.result.now (λ e. completed_entry e c.args.execution) read (ap (λ (f : Flight). f.entries) c.finish.ensures) in
-    let held = other_holds c.self.inside.flight.entries c.args.place c.unwrap.result.now read c.args.execution c.finish.new.self.entries stage written c.self.inside.queue (sym c.is_store.ensures ∙ c.if-is_store.false) c.self.invariant.1 c.self.invariant.2 in
+pub invariant_of-self-then-not-mispredicted : goal.invariant_of-self-then-not-mispredicted
+invariant_of-self-then-not-mispredicted g c =
+    let es = c.self.inside.flight.entries in
+    let e = c.unwrap-entry.result.now in
+    let x = execution_of (get_or es c.args.place no_entry).stage in
+    let read : slice_get es c.args.place ≡ Some e = search rules in
+    let issued : (get_or es c.args.place no_entry).stage ≡ Issued x = rw (← c.self.view_is) at c.requires.issued in
+    let stage : e.stage ≡ Issued x = sym (ap (λ (f : Entry). f.stage) (get_or_from_slice_get es c.args.place e no_entry read)) ∙ issued in
+    let written : c.finish.new.self.entries ≡ set es c.args.place (completed_entry e x) = set_read es _ c.args.place e (λ f. completed_entry f x) read (ap (λ (f : Flight). f.entries) c.finish.ensures) in
+    let held = other_holds es c.args.place e read x c.finish.new.self.entries stage written c.self.inside.queue (sym c.is_store-stores.ensures ∙ c.if-stores.false) c.self.invariant.1 c.self.invariant.2 in
     (c.self.invariant.0, held.loads, held.stores)
 
-pub returns-in_default-clause-cut : goal.returns-in_default-clause-cut
-returns-in_default-clause-cut g c =
-    let read : slice_get c.self.inside.flight.entries c.args.place ≡ Some c.unwrap.result.now = search rules in
-    cut_stop c.self.inside.flight.entries c.args.place c.unwrap.result.now c.args.execution read c.in_default.field-0 c.in_default.is ∙ ap (λ (t : Track). cut_stamp t.context c.args.place c.args.execution) c.self.view_is
+pub returns-then-not-mispredicted-clause-cut : goal.returns-then-not-mispredicted-clause-cut
+returns-then-not-mispredicted-clause-cut g c =
+    let es = c.self.inside.flight.entries in
+    let e = c.unwrap-entry.result.now in
+    let x = execution_of (get_or es c.args.place no_entry).stage in
+    let read : slice_get es c.args.place ≡ Some e = search rules in
+    let issued : (get_or es c.args.place no_entry).stage ≡ Issued x = rw (← c.self.view_is) at c.requires.issued in
+    let stage : e.stage ≡ Issued x = sym (ap (λ (f : Entry). f.stage) (get_or_from_slice_get es c.args.place e no_entry read)) ∙ issued in
+    let written : c.finish.new.self.entries ≡ set es c.args.place (completed_entry e x) = set_read es _ c.args.place e (λ f. completed_entry f x) read (ap (λ (f : Flight). f.entries) c.finish.ensures) in
+    let sound = subst (λ (fs : List Entry). IsSound (image_of c.args.self.now.context.state) (seen_of c.args.self.now.context.state) c.args.self.now.context.state.pc fs) (sym (ap (λ (t : Track). t.context.flight) c.self.view_is)) c.requires.sound in
+    let right : is_mispredicted_by e x.outcome ≡ false = sym (c.is_mispredicted-mispredicted.ensures ∙ ap (λ s. is_mispredicted_by e (execution_of s).outcome) stage) ∙ c.if-not-mispredicted.true in
+    let none = writes_none es c.args.place e x read (image_of c.args.self.now.context.state) (seen_of c.args.self.now.context.state) c.args.self.now.context.state.pc stage sound (sym c.is_store-stores.ensures ∙ c.if-stores.false) in
+    cut_kept es c.args.place e x read right none ∙ ap (λ (t : Track). cut_stamp t.context c.args.place (execution_of (entry_at t.context c.args.place).stage)) c.self.view_is
 
--- ---- the true next pc was followed
-
-pub invariant_of-self-then-not-is_mispredicted : goal.invariant_of-self-then-not-is_mispredicted
-invariant_of-self-then-not-is_mispredicted g c =
-    let read : slice_get c.self.inside.flight.entries c.args.place ≡ Some c.unwrap.result.now = search rules in
-    let issued = rw (← c.self.view_is) at c.requires.issued in
-    let stage : c.unwrap.result.now.stage ≡ Issued c.args.execution = sym (ap (λ (e : Entry). e.stage) (get_or_from_slice_get c.self.inside.flight.entries c.args.place c.unwrap.result.now no_entry read)) ∙ issued in
-    let written : c.finish.new.self.entries ≡ set c.self.inside.flight.entries c.args.place (completed_entry c.unwrap.result.now c.args.execution) =
-    set_read c.self.inside.flight.entries _ c.args.place c.unwrap.result.now (λ e. completed_entry e c.args.execution) read (ap (λ (f : Flight). f.entries) c.finish.ensures) in
-    let held = other_holds c.self.inside.flight.entries c.args.place c.unwrap.result.now read c.args.execution c.finish.new.self.entries stage written c.self.inside.queue (sym c.is_store.ensures ∙ c.if-is_store.false) c.self.invariant.1 c.self.invariant.2 in
-    (c.self.invariant.0, held.loads, held.stores)
-
-pub returns-then-not-is_mispredicted-clause-cut : goal.returns-then-not-is_mispredicted-clause-cut
-returns-then-not-is_mispredicted-clause-cut g c =
-    let read : slice_get c.self.inside.flight.entries c.args.place ≡ Some c.unwrap.result.now = search rules in
-    let issued = rw (← c.self.view_is) at c.requires.issued in
-    let stage : c.unwrap.result.now.stage ≡ Issued c.args.execution = sym (ap (λ (e : Entry). e.stage) (get_or_from_slice_get c.self.inside.flight.entries c.args.place c.unwrap.result.now no_entry read)) ∙ issued in
-    let sound = subst (λ (es : List Entry). IsSound (image_of c.args.self.now.context.state) (seen_of c.args.self.now.context.state) c.args.self.now.context.state.pc es) (sym (ap (λ (t : Track). t.context.flight) c.self.view_is)) c.requires.sound in
-    let none = ap bytes_in (sym c.in-Goes.is) ∙ writes_none c.self.inside.flight.entries c.args.place c.unwrap.result.now c.args.execution read (image_of c.args.self.now.context.state) (seen_of c.args.self.now.context.state) c.args.self.now.context.state.pc stage sound (sym c.is_store.ensures ∙ c.if-is_store.false) in
-    cut_right c.self.inside.flight.entries c.args.place c.unwrap.result.now c.args.execution read c.in-Goes.step c.in-Goes.is (sym c.is_mispredicted.ensures ∙ c.if-not-is_mispredicted.true) none ∙ ap (λ (t : Track). cut_stamp t.context c.args.place c.args.execution) c.self.view_is
-
--- ---- another one was
+-- ---- its next pc was
 
 pub invariant_of-self-in_err-next : goal.invariant_of-self-in_err-next
 invariant_of-self-in_err-next g c =
-    let read : slice_get c.self.inside.flight.entries c.args.place ≡ Some c.unwrap.result.now = search rules in
-    let issued = rw (← c.self.view_is) at c.requires.issued in
-    let stage : c.unwrap.result.now.stage ≡ Issued c.args.execution = sym (ap (λ (e : Entry). e.stage) (get_or_from_slice_get c.self.inside.flight.entries c.args.place c.unwrap.result.now no_entry read)) ∙ issued in
-    let written : c.finish.new.self.entries ≡ set c.self.inside.flight.entries c.args.place (completed_entry c.unwrap.result.now c.args.execution) =
-    set_read c.self.inside.flight.entries _ c.args.place c.unwrap.result.now (λ e. completed_entry e c.args.execution) read (ap (λ (f : Flight). f.entries) c.finish.ensures) in
-    let held = other_holds c.self.inside.flight.entries c.args.place c.unwrap.result.now read c.args.execution c.finish.new.self.entries stage written c.self.inside.queue (sym c.is_store.ensures ∙ c.if-is_store.false) c.self.invariant.1 c.self.invariant.2 in
+    let es = c.self.inside.flight.entries in
+    let e = c.unwrap-entry.result.now in
+    let x = execution_of (get_or es c.args.place no_entry).stage in
+    let read : slice_get es c.args.place ≡ Some e = search rules in
+    let issued : (get_or es c.args.place no_entry).stage ≡ Issued x = rw (← c.self.view_is) at c.requires.issued in
+    let stage : e.stage ≡ Issued x = sym (ap (λ (f : Entry). f.stage) (get_or_from_slice_get es c.args.place e no_entry read)) ∙ issued in
+    let written : c.finish.new.self.entries ≡ set es c.args.place (completed_entry e x) = set_read es _ c.args.place e (λ f. completed_entry f x) read (ap (λ (f : Flight). f.entries) c.finish.ensures) in
+    let held = other_holds es c.args.place e read x c.finish.new.self.entries stage written c.self.inside.queue (sym c.is_store-stores.ensures ∙ c.if-stores.false) c.self.invariant.1 c.self.invariant.2 in
     (c.self.invariant.0, held.loads, held.stores)
 
 pub returns-in_err-next-clause-cut : goal.returns-in_err-next-clause-cut
 returns-in_err-next-clause-cut g c =
-    let read : slice_get c.self.inside.flight.entries c.args.place ≡ Some c.unwrap.result.now = search rules in
-    let written : c.finish.new.self.entries ≡ set c.self.inside.flight.entries c.args.place (completed_entry c.unwrap.result.now c.args.execution) =
-    set_read c.self.inside.flight.entries _ c.args.place c.unwrap.result.now (λ e. completed_entry e c.args.execution) read (ap (λ (f : Flight). f.entries) c.finish.ensures) in
+    let es = c.self.inside.flight.entries in
+    let e = c.unwrap-entry.result.now in
+    let x = execution_of (get_or es c.args.place no_entry).stage in
+    let read : slice_get es c.args.place ≡ Some e = search rules in
+    let issued : (get_or es c.args.place no_entry).stage ≡ Issued x = rw (← c.self.view_is) at c.requires.issued in
+    let stage : e.stage ≡ Issued x = sym (ap (λ (f : Entry). f.stage) (get_or_from_slice_get es c.args.place e no_entry read)) ∙ issued in
+    let written : c.finish.new.self.entries ≡ set es c.args.place (completed_entry e x) = set_read es _ c.args.place e (λ f. completed_entry f x) read (ap (λ (f : Flight). f.entries) c.finish.ensures) in
+    let wrong : is_mispredicted_by e x.outcome ≡ true = sym (c.is_mispredicted-mispredicted.ensures ∙ ap (λ s. is_mispredicted_by e (execution_of s).outcome) stage) ∙ c.if-not-mispredicted.false in
     let none : slice_get c.finish.new.self.entries (c.args.place + 1) ≡ None = search rules in
-    c.from_residual.ensures ∙ cut_wrong_none c.self.inside.flight.entries c.args.place c.unwrap.result.now c.args.execution read c.finish.new.self.entries written c.in-Goes.step c.in-Goes.is (sym c.is_mispredicted.ensures ∙ c.if-not-is_mispredicted.false) none ∙ ap (λ (t : Track). cut_stamp t.context c.args.place c.args.execution) c.self.view_is
+    c.from_residual.ensures ∙ cut_wrong_none es c.args.place e x read c.finish.new.self.entries written wrong none ∙ ap (λ (t : Track). cut_stamp t.context c.args.place (execution_of (entry_at t.context c.args.place).stage)) c.self.view_is
 
 pub invariant_of-self-2 : goal.invariant_of-self-2
 invariant_of-self-2 g c =
-    let read : slice_get c.self.inside.flight.entries c.args.place ≡ Some c.unwrap.result.now = search rules in
-    let issued = rw (← c.self.view_is) at c.requires.issued in
-    let stage : c.unwrap.result.now.stage ≡ Issued c.args.execution = sym (ap (λ (e : Entry). e.stage) (get_or_from_slice_get c.self.inside.flight.entries c.args.place c.unwrap.result.now no_entry read)) ∙ issued in
-    let written : c.finish.new.self.entries ≡ set c.self.inside.flight.entries c.args.place (completed_entry c.unwrap.result.now c.args.execution) =
-    set_read c.self.inside.flight.entries _ c.args.place c.unwrap.result.now (λ e. completed_entry e c.args.execution) read (ap (λ (f : Flight). f.entries) c.finish.ensures) in
-    let held = other_holds c.self.inside.flight.entries c.args.place c.unwrap.result.now read c.args.execution c.finish.new.self.entries stage written c.self.inside.queue (sym c.is_store.ensures ∙ c.if-is_store.false) c.self.invariant.1 c.self.invariant.2 in
+    let es = c.self.inside.flight.entries in
+    let e = c.unwrap-entry.result.now in
+    let x = execution_of (get_or es c.args.place no_entry).stage in
+    let read : slice_get es c.args.place ≡ Some e = search rules in
+    let issued : (get_or es c.args.place no_entry).stage ≡ Issued x = rw (← c.self.view_is) at c.requires.issued in
+    let stage : e.stage ≡ Issued x = sym (ap (λ (f : Entry). f.stage) (get_or_from_slice_get es c.args.place e no_entry read)) ∙ issued in
+    let written : c.finish.new.self.entries ≡ set es c.args.place (completed_entry e x) = set_read es _ c.args.place e (λ f. completed_entry f x) read (ap (λ (f : Flight). f.entries) c.finish.ensures) in
+    let held = other_holds es c.args.place e read x c.finish.new.self.entries stage written c.self.inside.queue (sym c.is_store-stores.ensures ∙ c.if-stores.false) c.self.invariant.1 c.self.invariant.2 in
     (c.self.invariant.0, held.loads, held.stores)
 
 pub returns-clause-cut : goal.returns-clause-cut
 returns-clause-cut g c =
-    let read : slice_get c.self.inside.flight.entries c.args.place ≡ Some c.unwrap.result.now = search rules in
-    let written : c.finish.new.self.entries ≡ set c.self.inside.flight.entries c.args.place (completed_entry c.unwrap.result.now c.args.execution) =
-    set_read c.self.inside.flight.entries _ c.args.place c.unwrap.result.now (λ e. completed_entry e c.args.execution) read (ap (λ (f : Flight). f.entries) c.finish.ensures) in
+    let es = c.self.inside.flight.entries in
+    let e = c.unwrap-entry.result.now in
+    let x = execution_of (get_or es c.args.place no_entry).stage in
+    let read : slice_get es c.args.place ≡ Some e = search rules in
+    let issued : (get_or es c.args.place no_entry).stage ≡ Issued x = rw (← c.self.view_is) at c.requires.issued in
+    let stage : e.stage ≡ Issued x = sym (ap (λ (f : Entry). f.stage) (get_or_from_slice_get es c.args.place e no_entry read)) ∙ issued in
+    let written : c.finish.new.self.entries ≡ set es c.args.place (completed_entry e x) = set_read es _ c.args.place e (λ f. completed_entry f x) read (ap (λ (f : Flight). f.entries) c.finish.ensures) in
+    let wrong : is_mispredicted_by e x.outcome ≡ true = sym (c.is_mispredicted-mispredicted.ensures ∙ ap (λ s. is_mispredicted_by e (execution_of s).outcome) stage) ∙ c.if-not-mispredicted.false in
     let some : slice_get c.finish.new.self.entries (c.args.place + 1) ≡ Some c.in_ok-next.next.now = search rules in
-    cut_wrong_some c.self.inside.flight.entries c.args.place c.unwrap.result.now c.args.execution read c.finish.new.self.entries written c.in-Goes.step c.in_ok-next.next.now c.in-Goes.is (sym c.is_mispredicted.ensures ∙ c.if-not-is_mispredicted.false) some ∙ ap (λ (t : Track). cut_stamp t.context c.args.place c.args.execution) c.self.view_is
+    cut_wrong_some es c.args.place e x read c.finish.new.self.entries written c.in_ok-next.next.now wrong some ∙ ap (λ (t : Track). cut_stamp t.context c.args.place (execution_of (entry_at t.context c.args.place).stage)) c.self.view_is
