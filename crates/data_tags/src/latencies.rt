@@ -43,7 +43,7 @@ impl From<&Profile> for Latencies {
 }
 
 impl Latencies {
-    ghost use Rattle.data_tags.specs.Latency.{IsWithin, greatest_latency, lag_of, lag_without_miss};
+    ghost use Rattle.data_tags.specs.Latency.{IsWithin, greatest_latency, lag_of};
 
     /// The greatest of the five.
     pub fn greatest(&self) -> u8
@@ -62,23 +62,11 @@ impl Latencies {
         ensures value { result ≡ lag_of self.now kind misses }
         ensures within { IsWithin (greatest_latency self.now) result }
     {
-        match kind {
-            Kind::Branch => Latencies::without_miss(self.branch),
-            Kind::Load => Lag {
-                cycles: if misses { self.miss } else { self.hit },
-                miss: misses,
-            },
-            Kind::Store => Latencies::without_miss(self.store),
-            Kind::Alu => Latencies::without_miss(self.alu),
-        }
-    }
-
-    fn without_miss(cycles: u8) -> Lag
-        ensures { result ≡ lag_without_miss cycles }
-    {
+        let load = if misses { self.miss } else { self.hit };
+        let cycles = [self.branch, load, self.store, self.alu];
         Lag {
-            cycles,
-            miss: false,
+            cycles: cycles[kind as usize],
+            miss: misses && kind == Kind::Load,
         }
     }
 }

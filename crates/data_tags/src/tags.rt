@@ -94,10 +94,7 @@ impl<A: Allocator> Delay for Tags<A> {
         ensures value { result ≡ lag_of self.old.latencies kind (is_miss self.old.lines context kind address) }
         ensures state { self.new ≡ record self.old { lines = after_access self.old.lines context kind address } }
     {
-        let misses = match kind {
-            Kind::Load => self.load(context, address),
-            _ => false,
-        };
+        let misses = kind == Kind::Load && self.load(context, address);
         self.latencies.lag(kind, misses)
     }
 }
