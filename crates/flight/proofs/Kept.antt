@@ -1,7 +1,7 @@
 -- What is true of a flight, event by event.
 use Rattle.std.proofs.Common.{◌≡◌, ◌≢◌, ℕ, zero, suc, ◌+◌, ◌-◌, ◌%◌, ◌<◌, ◌≤◌, List, [], ◌∷◌, length, take, drop, set, get_or, refl, sym, ◌∙◌, ap, arith, inl, inr, ◌⊎◌, length-set, length-drop}
 use Rattle.std.specs.Int.{bit_at}
-use Rattle.std.proofs.lemmas.List.{length-take-le, get_or-set_same, get_or-set_other}
+use Rattle.std.proofs.lemmas.List.{length-take-le, get_or-take, get_or-set_same, get_or-set_other}
 use Rattle.std.proofs.lemmas.Grind.{get_or_after_one}
 use Rattle.std.proofs.Math.Seq.{take-set-lt}
 use Rattle.core_view.specs.declared.entry.Entry.{Entry}
@@ -9,6 +9,7 @@ use Rattle.core_view.specs.declared.entry.Execution.{Execution}
 use Rattle.core_view.specs.declared.entry.Stage.{Stage}
 use Rattle.core_view.specs.declared.entry.Stage.TheVariants.{Fetched, Queued, Issued, Done}
 use Rattle.core_view.specs.View.{no_entry}
+use Rattle.core_view.specs.Events.{with_stage}
 use Rattle.flight.specs.declared.marks.Marks.{Marks}
 use Rattle.flight.specs.Marked.{marks_of}
 use Rattle.flight.specs.Flights.{entry_in, IsFlight, IsAhead, IsHinted}
@@ -130,26 +131,36 @@ flight-retired es fs r base m n words f some is marks = rw is (record {
 })
 
 -- another entry at a renamed place
+flight-marked : (es : List Entry) (e : Entry) (place r base : ℕ) (m n : Marks) (words vs : List ℕ) → IsFlight es r base m words → place < r → n ≡ marks_of (set (take r es) place e) →
+    IsHinted vs base (set es place e) → IsFlight (set es place e) r base n vs
+flight-marked es e place r base m n words vs f within marks hinted = record {
+  within = omega (arith, f.within, length-set es place e);
+  few = f.few;
+  marked = marks ∙ ap marks_of (sym (take-set-lt r es place e within));
+  ahead = λ i h. let other : i ≢ place = omega arith in ap (λ (e : Entry). e.stage) (get_or-set_other es place i e no_entry other) ∙ f.ahead i h;
+  hinted = hinted;
+}
+
 flight-set : (es : List Entry) (e : Entry) (place r base : ℕ) (m n : Marks) (words vs : List ℕ) → IsFlight es r base m words → place < r →
     ((xs : List Entry) → m ≡ marks_of xs → place < length xs → length xs ≤ 64 → n ≡ marks_of (set xs place e)) →
     IsHinted vs base (set es place e) → IsFlight (set es place e) r base n vs
 flight-set es e place r base m n words vs f within marks hinted =
-    let long : length (take r es) ≡ r = length-take-le r es f.within in record {
-      within = omega (arith, f.within, length-set es place e);
-      few = f.few;
-      marked = marks (take r es) f.marked (omega arith) (omega (arith, f.few)) ∙ ap marks_of (sym (take-set-lt r es place e within));
-      ahead = λ i h. let other : i ≢ place = omega arith in ap (λ (e : Entry). e.stage) (get_or-set_other es place i e no_entry other) ∙ f.ahead i h;
-      hinted = hinted;
-    }
+    let long : length (take r es) ≡ r = length-take-le r es f.within in
+    flight-marked es e place r base m n words vs f within (marks (take r es) f.marked (omega arith) (omega (arith, f.few))) hinted
 
 pub flight-issued : (es fs : List Entry) (e : Entry) (place r base : ℕ) (m n : Marks) (words : List ℕ) (x : Execution) (w : ℕ) → IsFlight es r base m words → place < r → length words ≡ 64 →
-    e.stage ≡ Issued x → fs ≡ set es place e →
-    ((xs : List Entry) → m ≡ marks_of xs → place < length xs → length xs ≤ 64 → n ≡ marks_of (set xs place e)) →
+    (entry_in es place).stage ≡ Queued → e ≡ with_stage (entry_in es place) (Issued x) → fs ≡ set es place e →
+    ((xs : List Entry) (y : Execution) → m ≡ marks_of xs → (entry_in xs place).stage ≡ Queued → (entry_in xs place).operation ≡ e.operation → e.stage ≡ Issued y → place < length xs → length xs ≤ 64 → n ≡ marks_of (set xs place e)) →
     bit_at w ((base + place) % 64) ≡ 1 → ((j : ℕ) → bit_at (get_or words (x.due % 64) 0) j ≡ 1 → bit_at w j ≡ 1) →
     IsFlight fs r base n (set words (x.due % 64) w)
-flight-issued es fs e place r base m n words x w f within size is made marks bit more =
-    rw made (flight-set es e place r base m n words (set words (x.due % 64) w) f within marks
-    (hinted-issued words base place es e x f.hinted (omega (arith, f.within)) size is w bit more))
+flight-issued es fs e place r base m n words x w f within size queued is made marks bit more =
+    let long : length (take r es) ≡ r = length-take-le r es f.within in
+    let there : entry_in (take r es) place ≡ entry_in es place = get_or-take r es place no_entry within in
+    let stage : e.stage ≡ Issued x = ap (λ (d : Entry). d.stage) is in
+    let same : (entry_in (take r es) place).operation ≡ e.operation = ap (λ (d : Entry). d.operation) there ∙ sym (ap (λ (d : Entry). d.operation) is) in
+    rw made (flight-marked es e place r base m n words (set words (x.due % 64) w) f within
+    (marks (take r es) x f.marked (ap (λ (d : Entry). d.stage) there ∙ queued) same stage (omega arith) (omega (arith, f.few)))
+    (hinted-issued words base place es e x f.hinted (omega (arith, f.within)) size stage w bit more))
 
 pub flight-finished : (es fs : List Entry) (e : Entry) (place r base : ℕ) (m n : Marks) (words : List ℕ) → IsFlight es r base m words → place < r → ((x : Execution) → e.stage ≡ Issued x → ⊥) → fs ≡ set es place e →
     ((xs : List Entry) → m ≡ marks_of xs → place < length xs → length xs ≤ 64 → n ≡ marks_of (set xs place e)) → IsFlight fs r base n words

@@ -6,6 +6,7 @@ use Rattle.std.specs.List.{list_any}
 use Rattle.std.specs.Simd.Lanes.{mask_l}
 use Rattle.std.proofs.lemmas.Bool.Decides.{nat_tests}
 use Rattle.std.proofs.lemmas.List.{map-set, map-append, length-map, take-map, get_or-take, length-take-le}
+use Rattle.std.proofs.Math.Seq.{map-set_same}
 use Rattle.std.proofs.lemmas.Simd.{bit_mask_l}
 use Rattle.core_view.specs.declared.entry.Entry.{Entry}
 use Rattle.core_view.specs.View.{no_entry}
@@ -25,6 +26,10 @@ pub word-set : (p : Entry → Bool) (es : List Entry) (e : Entry) (w r place : �
     ((ms : List Bool) → w ≡ mask_l ms → place < length ms → length ms ≤ 64 → r ≡ mask_l (set ms place b)) → r ≡ word_of p (set es place e)
 word-set p es e w r place b is within short bit h = let n : length (map p es) ≡ length es = length-map es p in
     h (map p es) is (omega arith) (omega arith) ∙ ap (λ x. mask_l (set (map p es) place x)) bit ∙ ap mask_l (sym (map-set p es place e))
+
+-- an entry that a test doesn't tell from the one that it replaces
+pub word-same : (p : Entry → Bool) (es : List Entry) (e : Entry) (w place : ℕ) → w ≡ word_of p es → p e ≡ p (entry_in es place) → w ≡ word_of p (set es place e)
+word-same p es e w place is same = is ∙ ap mask_l (sym (map-set_same p es place e no_entry same))
 
 pub word-take : (p : Entry → Bool) (es : List Entry) (w r n : ℕ) → w ≡ word_of p es → length es ≤ 64 → ((ms : List Bool) → w ≡ mask_l ms → length ms ≤ 64 → r ≡ mask_l (take n ms)) → r ≡ word_of p (take n es)
 word-take p es w r n is short h = h (map p es) is (omega (arith, length-map es p)) ∙ ap mask_l (take-map p n es)
