@@ -1,7 +1,6 @@
-use Rattle.std.proofs.Common.{◌&&◌, not, ap, refl}
+use Rattle.std.proofs.Common.{ap, refl}
 use Rattle.flight.specs.declared.marks.Marks.{Marks}
-use Rattle.core_view.specs.Operations.{is_load}
-use Rattle.core_view.specs.Flight.{is_queued, is_open_guess, is_missed_load}
+use Rattle.core_view.specs.Flight.{is_open_guess, is_missed_load}
 use Rattle.flight.specs.Marked.{is_waiting, is_waiting_load}
 use Rattle.flight.proofs.Words.{four, word-set, word-same}
 use Rattle.flight.proofs.marks.Marks.issue.Goals as goal
