@@ -9,6 +9,7 @@ use Rattle.core_view.specs.declared.entry.Execution.{Execution}
 use Rattle.core_view.specs.declared.entry.Stage.{Stage}
 use Rattle.core_view.specs.declared.entry.Stage.TheVariants.{Fetched, Queued, Issued, Done}
 use Rattle.core_view.specs.View.{no_entry}
+use Rattle.core_view.specs.Events.{with_stage}
 use Rattle.flight.specs.declared.marks.Marks.{Marks}
 use Rattle.flight.specs.Marked.{marks_of}
 use Rattle.flight.specs.Flights.{entry_in, IsFlight, IsAhead, IsHinted}
@@ -143,21 +144,19 @@ flight-put es e place r base m n words vs f within marks hinted = record {
   hinted = hinted;
 }
 
-flight-set : (es : List Entry) (e : Entry) (place r base : ℕ) (m n : Marks) (words vs : List ℕ) → IsFlight es r base m words → place < r →
-    ((xs : List Entry) → m ≡ marks_of xs → place < length xs → length xs ≤ 64 → n ≡ marks_of (set xs place e)) →
-    IsHinted vs base (set es place e) → IsFlight (set es place e) r base n vs
-flight-set es e place r base m n words vs f within marks hinted =
-    let long : length (take r es) ≡ r = length-take-le r es f.within in
-    flight-put es e place r base m n words vs f within (marks (take r es) f.marked (omega arith) (omega (arith, f.few))) hinted
-
 pub flight-issued : (es fs : List Entry) (e : Entry) (place r base : ℕ) (m n : Marks) (words : List ℕ) (x : Execution) (w : ℕ) → IsFlight es r base m words → place < r → length words ≡ 64 →
-    e.stage ≡ Issued x → fs ≡ set es place e →
-    ((xs : List Entry) → m ≡ marks_of xs → place < length xs → length xs ≤ 64 → n ≡ marks_of (set xs place e)) →
+    (entry_in es place).stage ≡ Queued → e ≡ with_stage (entry_in es place) (Issued x) → fs ≡ set es place e →
+    ((xs : List Entry) (y : Execution) → m ≡ marks_of xs → (entry_in xs place).stage ≡ Queued → (entry_in xs place).operation ≡ e.operation → e.stage ≡ Issued y → place < length xs → length xs ≤ 64 → n ≡ marks_of (set xs place e)) →
     bit_at w ((base + place) % 64) ≡ 1 → ((j : ℕ) → bit_at (get_or words (x.due % 64) 0) j ≡ 1 → bit_at w j ≡ 1) →
     IsFlight fs r base n (set words (x.due % 64) w)
-flight-issued es fs e place r base m n words x w f within size is made marks bit more =
-    rw made (flight-set es e place r base m n words (set words (x.due % 64) w) f within marks
-    (hinted-issued words base place es e x f.hinted (omega (arith, f.within)) size is w bit more))
+flight-issued es fs e place r base m n words x w f within size queued is made marks bit more =
+    let long : length (take r es) ≡ r = length-take-le r es f.within in
+    let there : entry_in (take r es) place ≡ entry_in es place = get_or-take r es place no_entry within in
+    let stage : e.stage ≡ Issued x = ap (λ (d : Entry). d.stage) is in
+    let same : (entry_in (take r es) place).operation ≡ e.operation = ap (λ (d : Entry). d.operation) there ∙ sym (ap (λ (d : Entry). d.operation) is) in
+    rw made (flight-put es e place r base m n words (set words (x.due % 64) w) f within
+    (marks (take r es) x f.marked (ap (λ (d : Entry). d.stage) there ∙ queued) same stage (omega arith) (omega (arith, f.few)))
+    (hinted-issued words base place es e x f.hinted (omega (arith, f.within)) size stage w bit more))
 
 -- the bit of an entry that isn't due in any cycle of a word is cleared there
 pub flight-cleared : (es : List Entry) (place r base cycle w : ℕ) (m : Marks) (words : List ℕ) → IsFlight es r base m words → place < r → length words ≡ 64 →

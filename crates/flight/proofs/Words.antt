@@ -5,7 +5,8 @@ use Rattle.std.specs.Int.{bit_at}
 use Rattle.std.specs.List.{list_any}
 use Rattle.std.specs.Simd.Lanes.{mask_l}
 use Rattle.std.proofs.lemmas.Bool.Decides.{nat_tests}
-use Rattle.std.proofs.lemmas.List.{set-get_or, map-set, map-append, length-map, take-map, get_or-take, length-take-le}
+use Rattle.std.proofs.lemmas.List.{map-set, map-append, length-map, take-map, get_or-take, length-take-le}
+use Rattle.std.proofs.Math.Seq.{map-set_same}
 use Rattle.std.proofs.lemmas.Simd.{bit_mask_l}
 use Rattle.core_view.specs.declared.entry.Entry.{Entry}
 use Rattle.core_view.specs.View.{no_entry}
@@ -35,10 +36,9 @@ pub and-none : (b : Bool) → false ≡ (b && false)
 and-none true = refl
 and-none false = refl
 
--- the word stays where an entry takes the place of one that passes as it does
-pub word-kept : (p : Entry → Bool) (es : List Entry) (e : Entry) (place : ℕ) → place < length es → p (entry_in es place) ≡ p e → word_of p es ≡ word_of p (set es place e)
-word-kept p es e place within same =
-    ap mask_l (sym (set-get_or (map p es) place false) ∙ ap (set (map p es) place) (bit-entry p es place within ∙ same) ∙ sym (map-set p es place e))
+-- an entry that a test doesn't tell from the one that it replaces
+pub word-same : (p : Entry → Bool) (es : List Entry) (e : Entry) (w place : ℕ) → w ≡ word_of p es → p e ≡ p (entry_in es place) → w ≡ word_of p (set es place e)
+word-same p es e w place is same = is ∙ ap mask_l (sym (map-set_same p es place e no_entry same))
 
 pub word-take : (p : Entry → Bool) (es : List Entry) (w r n : ℕ) → w ≡ word_of p es → length es ≤ 64 → ((ms : List Bool) → w ≡ mask_l ms → length ms ≤ 64 → r ≡ mask_l (take n ms)) → r ≡ word_of p (take n es)
 word-take p es w r n is short h = h (map p es) is (omega (arith, length-map es p)) ∙ ap mask_l (take-map p n es)

@@ -140,7 +140,7 @@ impl<A: Allocator> Flight<A> {
     {
         let entry = at(&self.ring, place).issued(execution);
         set_in(&mut self.ring, place, entry);
-        self.marks.assign(place, &entry);
+        self.marks.issue(place, &entry);
         let cycle = (execution.due % 64) as usize;
         self.hints[cycle] = set_slot(self.hints[cycle], (self.base + place) % 64);
     }

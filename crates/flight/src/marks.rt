@@ -3,7 +3,7 @@
 ghost use Rattle.std.specs.Prelude.{◌≡◌, ◌&&◌, ◌<◌, ◌≤◌, List, [], ◌∷◌, ◌++◌, length, take, drop, slice_set};
 ghost use Rattle.core_view.specs.declared.entry.Entry.{Entry};
 ghost use Rattle.core_view.specs.declared.entry.Execution.{Execution};
-ghost use Rattle.core_view.specs.declared.entry.Stage.TheVariants.{Issued, Done};
+ghost use Rattle.core_view.specs.declared.entry.Stage.TheVariants.{Queued, Issued, Done};
 ghost use Rattle.core_view.specs.Flight.{is_open_guess, is_missed_load, has_missed};
 ghost use Rattle.flight.specs.Marked.{marks_of, is_waiting, is_waiting_load};
 ghost use Rattle.flight.specs.Flights.{entry_in};
@@ -49,15 +49,15 @@ impl Marks {
         self.missed_loads = push(self.missed_loads, place, is_missed_load(entry));
     }
 
-    /// With another entry at a place.
+    /// With an entry at a place that has issued, where it waited.
     #[inline]
-    pub fn assign(&mut self, place: usize, entry: &Entry)
+    pub fn issue(&mut self, place: usize, entry: &Entry)
         requires { place < 64 }
-        ensures { (es : List Entry) → self.old ≡ marks_of es → place < length es → length es ≤ 64 → self.new ≡ marks_of (slice_set es place entry.now) }
+        ensures { (es : List Entry) (x : Execution) → self.old ≡ marks_of es → (entry_in es place).stage ≡ Queued → (entry_in es place).operation ≡ entry.now.operation → entry.now.stage ≡ Issued x →
+            place < length es → length es ≤ 64 → self.new ≡ marks_of (slice_set es place entry.now) }
     {
-        self.waiting = assign(self.waiting, place, is_waiting(entry));
-        self.waiting_loads = assign(self.waiting_loads, place, is_waiting_load(entry));
-        self.open_guesses = assign(self.open_guesses, place, is_open_guess(entry));
+        self.waiting = assign(self.waiting, place, false);
+        self.waiting_loads = assign(self.waiting_loads, place, false);
         self.missed_loads = assign(self.missed_loads, place, is_missed_load(entry));
     }
 

@@ -1,10 +1,9 @@
-use Rattle.std.proofs.Common.{ℕ, Bool, List, ap, sym, subst, ◌∙◌, refl, length, arith}
+use Rattle.std.proofs.Common.{ℕ, Bool, List, ap, subst, ◌∙◌, refl, length, arith}
 use Rattle.core_profile.specs.declared.profile.Profile.{Profile}
 use Rattle.data_tags.specs.declared.delay.Kind.{Kind}
 use Rattle.data_tags.specs.declared.delay.Lag.{Lag}
 use Rattle.core_view.specs.declared.note.EntryId.{EntryId}
-use Rattle.lawful_cycle.specs.Issue.{IsIssue}
-use Rattle.core_back.specs.Machine.{Machine, IsAlike, context_at, in_flight}
+use Rattle.core_back.specs.Machine.{Machine, context_at}
 use Rattle.core_back.specs.Issued.{IsIssued}
 use Rattle.core_back.proofs.InFlight.{in_flight_same, in_flight_issued}
 use Rattle.core_back.proofs.AlikeMachines.{alike_chain, issue_alike, none_left, no_names}
