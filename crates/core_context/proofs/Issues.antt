@@ -1,10 +1,8 @@
 -- An entry issues: what it computes with, and what it leaves of a core.
 use Rattle.std.proofs.Common.{◌≡◌, ◌≢◌, ℕ, ◌<◌, ◌≤◌, Bool, true, false, not, ◌&&◌, ◌||◌, List, ◌∷◌, length, get_or, take, map, Option, Some, None, refl, sym, ap, subst, ◌∙◌, arith, inl, inr}
 use Rattle.std.specs.Prelude.{◌==◌, set}
-use Rattle.std.specs.List.{list_any}
 use Rattle.std.proofs.Math.Seq.{take-set-lt}
-use Rattle.std.proofs.lemmas.Bool.{eq-eqb, ne_eqb, true≢false, cases_lt}
-use Rattle.std.proofs.lemmas.List.Folds.{list_any_at}
+use Rattle.std.proofs.lemmas.Bool.{ne_eqb, true≢false, cases_lt}
 use Rattle.std.proofs.lemmas.List.{length-set, length-take-le, map-set, set-get_or, get_or-map, get_or-take, take-take, drop-set-lt}
 use Rattle.hart_step.specs.State.{State}
 use Rattle.core_view.specs.declared.note.EntryId.{EntryId}

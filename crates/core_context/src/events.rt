@@ -86,8 +86,8 @@ fn complete_entry<A: Allocator>(
     ensures track { track.new ≡ completed track.old place (execution_of (entry_at track.old.context place).stage) }
     ensures flow { flow.new ≡ completed_flow flow.old context place (execution_of (entry_at track.old.context place).stage) track.old }
 {
-    let guessed = track.is_guessed(place);
     let result = track.result_to_come(place);
+    let guessed = track.is_guessed(place);
     let cut = track.complete(place);
     if let Some(value) = result {
         flow.finish(context, place, value);
