@@ -12,5 +12,5 @@ mod selection;
 pub use completing::{Completion, complete};
 pub use fetching::Fetch;
 pub use issuing::issue;
-pub use machine::{Machine, Retirement};
+pub use machine::Machine;
 pub use retiring::retire;

@@ -1,7 +1,7 @@
 //! Eight contexts, and the data flow that they share.
 
 ghost use Rattle.std.specs.Prelude.{◌≡◌, ℕ, ◌+◌, ◌-◌, ◌<◌, ◌≤◌, ◌^◌, ◌&&◌, ◌==◌, false, not, length, count_by, slice_get, slice_index, [], IfOk, IfSome, MatchOption, Some, None};
-ghost use Rattle.core_view.specs.declared.outcome.Outcome.TheVariants.{Goes, Stops};
+ghost use Rattle.core_view.specs.declared.outcome.Outcome.TheVariants.{Stops};
 ghost use Rattle.core_view.specs.Events.{retire_event, stop_event, complete_event};
 ghost use Rattle.core_view.specs.Operations.{is_guessed};
 ghost use Rattle.core_view.specs.View.{entry_at, IsLive, IsSoundView};
@@ -11,7 +11,7 @@ ghost use Rattle.lawful_cycle.specs.Fetch.{is_fetched, is_eligible, oldest_place
 ghost use Rattle.origin_set.specs.Start.{start};
 ghost use Rattle.core_back.specs.Machine.{IsAlike, context_at, in_flight, with_context, with_cycle, IsNextOf};
 ghost use Rattle.flight.specs.Flights.{execution_of, IsIssued as IsIssuedStage, is_due, NoneFrom, IsNext};
-ghost use Rattle.core_context.specs.Heads.{first_done};
+ghost use Rattle.core_context.specs.Heads.{IsGoing, first_done, step_on};
 ghost use Rattle.core_back.specs.Selected.{IsChosen};
 ghost use Rattle.core_back.specs.Issued.{IsIssued};
 ghost use Rattle.core_back.specs.Fetched.{IsRenamed, IsFetched};
@@ -28,7 +28,7 @@ use branch_predict::Guess;
 use checkpoint::Mark;
 use core_context::{Track, events, fetch};
 use core_profile::Profile;
-use core_view::{Entry, EntryId, Execution, Issue, Outcome, Status, Step};
+use core_view::{Entry, EntryId, Issue, Outcome, Status};
 use data_flow::DataFlow;
 use data_tags::{Delay, Lag};
 use hart_step::Stop;
@@ -39,15 +39,6 @@ use paged_memory::Memory;
 use std::alloc::{AllocError, Allocator, Global};
 use std::marker::Model;
 use std::sync::Arc;
-
-/// An entry that retired, and how many younger ones were dropped with it.
-#[derive(Clone, Copy)]
-pub struct Retirement {
-    /// The entry.
-    pub entry: Entry,
-    /// How many were dropped.
-    pub dropped: usize,
-}
 
 /// Eight contexts in flight. A contract sees the origin, the view, and what was selected and has not issued yet.
 #[derive(Drop)]
@@ -210,24 +201,29 @@ impl<A: Allocator> Machine<A> {
         track.head()
     }
 
+    /// The oldest entry of a context that has one.
+    pub fn oldest(&self, context: Ctx) -> &Entry
+        requires { 0 < length (context_at self.now context).flight }
+        ensures { result.now ≡ entry_at (context_at self.now context) 0 }
+    {
+        let track = &self.tracks[context.index()];
+        track.entry(0).unwrap()
+    }
+
     /// The oldest entry of a context, which is done with a step, retires. At its target the context is parked, and its
-    /// younger entries are dropped.
-    pub fn retire(&mut self, context: Ctx, step: Step) -> Retirement
-        requires done { first_done (context_at self.old context).flight ≡ Some (Goes step) }
+    /// younger entries are dropped. Returns how many these are.
+    pub fn retire(&mut self, context: Ctx) -> usize
+        requires done { IsGoing (first_done (context_at self.old context).flight) }
         requires idle { self.old.names ≡ [] }
-        ensures retired { self.new ≡ with_context self.old context (retire_event (context_at self.old context) step) }
-        ensures entry { result.entry ≡ entry_at (context_at self.old context) 0 }
-        ensures dropped { result.dropped + 1 + in_flight self.new ≡ in_flight self.old }
-        ensures bound { result.dropped ≤ 80 }
+        ensures retired { let x = context_at self.old context in
+            self.new ≡ with_context self.old context (retire_event x (step_on (first_done x.flight))) }
+        ensures dropped { result + 1 + in_flight self.new ≡ in_flight self.old }
+        ensures bound { result ≤ 80 }
     {
         let track = &mut self.tracks[context.index()];
         let before = track.len();
-        let oldest = track.entry_at(0);
-        events::retire(&mut self.flow, track, context, step);
-        Retirement {
-            entry: oldest,
-            dropped: before - track.len() - 1,
-        }
+        events::retire(&mut self.flow, track, context);
+        before - track.len() - 1
     }
 
     /// The oldest entry of a context, which is done with a stop, stops it. Returns how many entries are dropped: all.

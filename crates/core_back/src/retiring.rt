@@ -88,14 +88,14 @@ fn retire_context<A: Allocator, G: Guess>(
     for done in 0..width {
         match machine.head(context) {
             Some(Outcome::Goes { step }) => {
-                let retirement = machine.retire(context, step);
-                dropped += retirement.dropped;
-                let oldest = retirement.entry;
-                learn(guess, context, &oldest, step.next);
+                let oldest = machine.oldest(context);
+                learn(guess, context, oldest, step.next);
                 retired.push(EntryId {
                     context,
                     stamp: oldest.stamp,
                 });
+                let cut = machine.retire(context);
+                dropped += cut;
             }
             Some(Outcome::Stops { why }) => {
                 let stopped = machine.stop(context, why);

@@ -30,6 +30,7 @@ use Rattle.core_view.proofs.RingForm.{complete_take}
 use Rattle.core_view.proofs.Sound.{sound_at}
 use Rattle.flight.specs.Flights.{NoneFrom, IsNext}
 use Rattle.flight.specs.Marked.{is_waiting}
+use Rattle.core_context.specs.Heads.{done_outcome, first_done}
 use Rattle.core_context.specs.Queued.{queued_at}
 use Rattle.core_context.specs.Track.{Track, left_by, cut_stamp, finished, cut_at, completed, is_mispredicted_by}
 use Rattle.core_context.proofs.QueueSlots.{growing_whole}
@@ -54,6 +55,11 @@ past xs i is =
 -- a change of what stands at a place is a change of what was read there
 pub set_read : (es fs : List Entry) (i : ℕ) (e : Entry) (change : Entry → Entry) → slice_get es i ≡ Some e → fs ≡ set es i (change (get_or es i no_entry)) → fs ≡ set es i (change e)
 set_read es fs i e change read is = is ∙ ap (λ (n : Entry). set es i (change n)) (get_or_from_slice_get es i e no_entry read)
+
+-- the oldest entry as it is read
+pub first_read : (es : List Entry) (e : Entry) → slice_get es 0 ≡ Some e → first_done es ≡ done_outcome e.stage
+first_read [] e h = absurd cc
+first_read (x ∷ es) e h = let same : x ≡ e = cc in ap (λ (f : Entry). done_outcome f.stage) same
 
 -- ---- the end of a flight
 

@@ -5,7 +5,7 @@ ghost use Rattle.std.specs.List.{list_any};
 ghost use Rattle.core_view.specs.Outcomes.{image_of, IsSized};
 ghost use Rattle.data_flow.specs.Flow.{lane, node_at, sources_at, taken, waits_in, cut_flow, released};
 ghost use Rattle.core_view.specs.declared.entry.Stage.TheVariants.{Fetched, Queued};
-ghost use Rattle.core_view.specs.declared.outcome.Outcome.TheVariants.{Goes, Stops};
+ghost use Rattle.core_view.specs.declared.outcome.Outcome.TheVariants.{Stops};
 ghost use Rattle.core_view.specs.Flight.{seen_of, IsSound, is_open_guess as is_open_guess_entry};
 ghost use Rattle.core_view.specs.Operations.{destination_of, stops_at_fetch, is_load, is_store};
 ghost use Rattle.core_view.specs.Queues.{loads_of, stores_of};
@@ -13,7 +13,7 @@ ghost use Rattle.core_view.specs.View.{entry_at};
 ghost use Rattle.core_context.specs.Issuable.{IsAnswered, IsMarked, AreLetGo, must_wait, AreHeld};
 ghost use Rattle.core_context.specs.Track.{is_last, retired, stopped, completed, renamed_one};
 ghost use Rattle.core_context.specs.Cores.{operands_of, AllFetched};
-ghost use Rattle.core_context.specs.Heads.{first_done};
+ghost use Rattle.core_context.specs.Heads.{IsGoing, first_done, step_on};
 ghost use Rattle.flight.specs.Flights.{execution_of, IsIssued};
 ghost use Rattle.core_context.specs.Left.{IsIdleCore, IsEventAt};
 ghost use Rattle.core_context.specs.Renamable.{IsPastFront, IsRenamable};
@@ -21,21 +21,21 @@ ghost use Rattle.core_context.specs.Steps.{retired_flow, settled_flow, completed
 
 use crate::track::Track;
 use core_profile::Profile;
-use core_view::{Entry, Step};
+use core_view::Entry;
 use data_flow::{DataFlow, Operands};
 use hart_step::Stop;
 use join_law::Ctx;
 use std::alloc::Allocator;
 
 /// The oldest entry, which is done with a step, retires.
-pub fn retire<A: Allocator>(flow: &mut DataFlow<A>, track: &mut Track<A>, context: Ctx, step: Step)
+pub fn retire<A: Allocator>(flow: &mut DataFlow<A>, track: &mut Track<A>, context: Ctx)
     requires core { IsIdleCore flow.old context track.old }
-    requires done { first_done track.old.context.flight ≡ Some (Goes step) }
-    ensures track { track.new ≡ retired track.old step }
+    requires done { IsGoing (first_done track.old.context.flight) }
+    ensures track { track.new ≡ retired track.old (step_on (first_done track.old.context.flight)) }
     ensures event { IsEventAt context flow.old flow.new track.old track.new }
 {
     flow.commit(context);
-    track.retire(step);
+    track.retire();
     if track.count() == track.target() {
         flow.cut_from(context, 0);
     }
@@ -86,8 +86,8 @@ fn complete_entry<A: Allocator>(
     ensures track { track.new ≡ completed track.old place (execution_of (entry_at track.old.context place).stage) }
     ensures flow { flow.new ≡ completed_flow flow.old context place (execution_of (entry_at track.old.context place).stage) track.old }
 {
-    let guessed = track.is_guessed(place);
     let result = track.result_to_come(place);
+    let guessed = track.is_guessed(place);
     let cut = track.complete(place);
     if let Some(value) = result {
         flow.finish(context, place, value);

@@ -1,8 +1,7 @@
-use Rattle.std.proofs.Common.{◌≡◌, Some}
 use Rattle.flight.specs.Flights.{execution_of}
 use Rattle.core_view.specs.View.{entry_at}
 use Rattle.core_view.proofs.Sound.{due_stage}
-use Rattle.core_back.specs.Machine.{context_at, due_in}
+use Rattle.core_back.specs.Machine.{context_at}
 use Rattle.core_back.proofs.CompletedCount.{come_step}
 use Rattle.core_back.proofs.CompletedByPlace.{due_some, due_here, due_step}
 use Rattle.core_back.proofs.completing.complete_place.Goals as goal

@@ -1,10 +1,13 @@
 use Rattle.std.proofs.Common.{◌≡◌, ◌+◌, arith, ap, sym, subst, ◌∙◌, refl, append-nil, Some}
 use Rattle.origin_set.specs.Start.{start}
+use Rattle.core_view.specs.declared.outcome.Step.{Step}
 use Rattle.core_view.specs.declared.outcome.Outcome.{Outcome}
 use Rattle.core_view.specs.declared.outcome.Outcome.TheVariants.{Goes, Stops}
 use Rattle.core_view.specs.Events.{retire_event, stop_event}
 use Rattle.lawful_cycle.specs.Retire.{KeepsDone}
-use Rattle.core_back.specs.Machine.{Machine, context_at}
+use Rattle.core_context.specs.Heads.{first_done, step_on}
+use Rattle.core_context.proofs.Laws.{is_first_done}
+use Rattle.core_back.specs.Machine.{Machine, context_at, with_context}
 use Rattle.core_back.specs.Turn.{TurnsBy, id_of}
 use Rattle.core_back.proofs.RetiredFronts.{IsOnWay, way_first, way_open, way_next, way_none, way_ended, way_stop, none_kept, stop_keeps_none, context_now, one_changed, none_changed, context_ended, one_ended, listed_more}
 use Rattle.core_back.proofs.AlikeMachines.{alike_none, alike_chain, alike_with}
@@ -23,30 +26,42 @@ loop-done-init g c = record {
   keeps = refl;
 }
 
-pub retire-retirement-requires-clause-idle : goal.retire-retirement-requires-clause-idle
-retire-retirement-requires-clause-idle g c = c.loop-done.invariant.idle
+pub retire-cut-requires-clause-idle : goal.retire-cut-requires-clause-idle
+retire-cut-requires-clause-idle g c = c.loop-done.invariant.idle
+
+pub retire-cut-requires-clause-done : goal.retire-cut-requires-clause-done
+retire-cut-requires-clause-done g c =
+    let done : first_done (context_at c.loop-done.machine c.args.context).flight ≡ Some (Goes c.in-Some-Goes.step) = (sym c.in-Some-Goes.ensures.value ∙ ap (λ (o : Outcome). Some o) c.in-Some-Goes.field-0-is) in
+    done ∙ ap (λ (s : Step). Some (Goes s)) (sym (ap step_on done))
+
+pub oldest-oldest-requires : goal.oldest-oldest-requires
+oldest-oldest-requires g c =
+    let done : first_done (context_at c.loop-done.machine c.args.context).flight ≡ Some (Goes c.in-Some-Goes.step) = (sym c.in-Some-Goes.ensures.value ∙ ap (λ (o : Outcome). Some o) c.in-Some-Goes.field-0-is) in
+    (is_first_done (context_at c.loop-done.machine c.args.context).flight (Goes c.in-Some-Goes.step) done).some
 
 pub push-requires : goal.push-requires
 push-requires g c = omega (arith, c.loop-done.invariant.room, c.loop-done-test.true)
 
 pub loop-done-preserved : goal.loop-done-preserved
 loop-done-preserved g c =
-    let done = (sym c.in-Some-Goes.ensures.value ∙ ap (λ (o : Outcome). Some o) c.in-Some-Goes.field-0-is) in
+    let done : first_done (context_at c.loop-done.machine c.args.context).flight ≡ Some (Goes c.in-Some-Goes.step) = (sym c.in-Some-Goes.ensures.value ∙ ap (λ (o : Outcome). Some o) c.in-Some-Goes.field-0-is) in
+    let gone : c.retire-cut.new.self ≡ with_context c.loop-done.machine c.args.context (retire_event (context_at c.loop-done.machine c.args.context) c.in-Some-Goes.step) =
+    c.retire-cut.ensures.retired ∙ ap (λ (s : Step). with_context c.loop-done.machine c.args.context (retire_event (context_at c.loop-done.machine c.args.context) s)) (ap step_on done) in
     let open_ = way_open (start c.args.machine.now.origin c.args.context) c.args.machine.now.view.stamp (context_at c.args.machine.now c.args.context) c.retired-live.ensures.live (context_at c.loop-done.machine c.args.context) c.loop-done.done (Goes c.in-Some-Goes.step) c.loop-done.invariant.way done in
     record {
-      alike = alike_chain c.args.machine.now c.loop-done.machine c.retire-retirement.new.self c.loop-done.invariant.alike
-          (alike_with c.loop-done.machine c.retire-retirement.new.self c.args.context (retire_event (context_at c.loop-done.machine c.args.context) c.in-Some-Goes.step) c.retire-retirement.ensures.retired refl);
-      idle = ap (λ (m : Machine). m.names) c.retire-retirement.ensures.retired ∙ c.loop-done.invariant.idle;
+      alike = alike_chain c.args.machine.now c.loop-done.machine c.retire-cut.new.self c.loop-done.invariant.alike
+          (alike_with c.loop-done.machine c.retire-cut.new.self c.args.context (retire_event (context_at c.loop-done.machine c.args.context) c.in-Some-Goes.step) gone refl);
+      idle = ap (λ (m : Machine). m.names) gone ∙ c.loop-done.invariant.idle;
       room = omega (arith, c.loop-done.invariant.room, c.push.ensures.len);
       way = subst (λ y. IsOnWay (context_at c.args.machine.now c.args.context) y (c.loop-done.done + 1))
-          (sym (context_now c.loop-done.machine c.retire-retirement.new.self c.args.context (retire_event (context_at c.loop-done.machine c.args.context) c.in-Some-Goes.step) (Goes c.in-Some-Goes.step) done c.retire-retirement.ensures.retired))
+          (sym (context_now c.loop-done.machine c.retire-cut.new.self c.args.context (retire_event (context_at c.loop-done.machine c.args.context) c.in-Some-Goes.step) (Goes c.in-Some-Goes.step) done gone))
           (way_next (start c.args.machine.now.origin c.args.context) c.args.machine.now.view.stamp (context_at c.args.machine.now c.args.context) c.retired-live.ensures.live (context_at c.loop-done.machine c.args.context) c.loop-done.done c.in-Some-Goes.step c.loop-done.invariant.way done);
-      after = one_changed c.loop-done.machine c.retire-retirement.new.self c.args.context (retire_event (context_at c.loop-done.machine c.args.context) c.in-Some-Goes.step) (Goes c.in-Some-Goes.step) done c.retire-retirement.ensures.retired
+      after = one_changed c.loop-done.machine c.retire-cut.new.self c.args.context (retire_event (context_at c.loop-done.machine c.args.context) c.in-Some-Goes.step) (Goes c.in-Some-Goes.step) done gone
           c.args.machine.now c.loop-done.invariant.after;
       listed = listed_more (context_at c.args.machine.now c.args.context) (context_at c.loop-done.machine c.args.context) c.args.context c.loop-done.done c.args.retired.now.items c.loop-done.retired.items c.push.new.self.items
-          (id_of c.args.context c.retire-retirement.result.entry) open_.flight open_.more (ap (id_of c.args.context) c.retire-retirement.ensures.entry) c.loop-done.invariant.listed c.push.ensures.items;
-      dropped = omega (arith, c.loop-done.invariant.dropped, c.push.ensures.len, c.retire-retirement.ensures.dropped);
-      bound = omega (arith, c.loop-done.invariant.bound, c.retire-retirement.ensures.bound);
+          (id_of c.args.context c.oldest-oldest.result.now) open_.flight open_.more (ap (id_of c.args.context) c.oldest-oldest.ensures) c.loop-done.invariant.listed c.push.ensures.items;
+      dropped = omega (arith, c.loop-done.invariant.dropped, c.push.ensures.len, c.retire-cut.ensures.dropped);
+      bound = omega (arith, c.loop-done.invariant.bound, c.retire-cut.ensures.bound);
       keeps = c.learn.ensures ∙ c.loop-done.invariant.keeps;
     }
 

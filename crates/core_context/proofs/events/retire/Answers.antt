@@ -1,4 +1,5 @@
 use Rattle.core_view.specs.declared.outcome.Outcome.TheVariants.{Goes}
+use Rattle.core_context.specs.Heads.{first_done, step_on}
 use Rattle.core_context.proofs.Retires.{is_first_done, oldest_renamed, oldest_known, oldest_done, oldest_idle, oldest_below, oldest_sized}
 use Rattle.core_context.proofs.EventsKept.{parked_kept, running_kept}
 use Rattle.core_context.proofs.events.retire.Goals as goal
@@ -6,45 +7,45 @@ use Rattle.core_context.proofs.events.retire.Goals as goal
 pub commit-requires-clause-some : goal.commit-requires-clause-some
 commit-requires-clause-some g c =
     let k = c.requires.core in
-    let d = is_first_done c.args.track.now.context.flight (Goes c.args.step) c.requires.done in
-    oldest_known k.start k.stamp k.reorder c.args.flow.now c.args.context c.args.track.now d.execution c.args.step k.core d.some d.stage
+    let d = is_first_done c.args.track.now.context.flight (Goes (step_on (first_done c.args.track.now.context.flight))) c.requires.done in
+    oldest_known k.start k.stamp k.reorder c.args.flow.now c.args.context c.args.track.now d.execution (step_on (first_done c.args.track.now.context.flight)) k.core d.some d.stage
 
 pub commit-requires-clause-done : goal.commit-requires-clause-done
 commit-requires-clause-done g c =
     let k = c.requires.core in
-    let d = is_first_done c.args.track.now.context.flight (Goes c.args.step) c.requires.done in
-    oldest_done k.start k.stamp k.reorder c.args.flow.now c.args.context c.args.track.now d.execution c.args.step k.core d.some d.stage d.outcome
+    let d = is_first_done c.args.track.now.context.flight (Goes (step_on (first_done c.args.track.now.context.flight))) c.requires.done in
+    oldest_done k.start k.stamp k.reorder c.args.flow.now c.args.context c.args.track.now d.execution (step_on (first_done c.args.track.now.context.flight)) k.core d.some d.stage d.outcome
 
 pub commit-requires-clause-idle : goal.commit-requires-clause-idle
 commit-requires-clause-idle g c =
     let k = c.requires.core in
-    let d = is_first_done c.args.track.now.context.flight (Goes c.args.step) c.requires.done in
-    oldest_idle k.start k.stamp k.reorder c.args.flow.now c.args.context c.args.track.now d.execution c.args.step k.core d.some d.stage
+    let d = is_first_done c.args.track.now.context.flight (Goes (step_on (first_done c.args.track.now.context.flight))) c.requires.done in
+    oldest_idle k.start k.stamp k.reorder c.args.flow.now c.args.context c.args.track.now d.execution (step_on (first_done c.args.track.now.context.flight)) k.core d.some d.stage
 
 pub retire-requires-clause-some : goal.retire-requires-clause-some
 retire-requires-clause-some g c =
     let k = c.requires.core in
-    let d = is_first_done c.args.track.now.context.flight (Goes c.args.step) c.requires.done in
-    oldest_renamed k.start k.stamp k.reorder c.args.flow.now c.args.context c.args.track.now d.execution c.args.step k.core d.some d.stage
+    let d = is_first_done c.args.track.now.context.flight (Goes (step_on (first_done c.args.track.now.context.flight))) c.requires.done in
+    oldest_renamed k.start k.stamp k.reorder c.args.flow.now c.args.context c.args.track.now d.execution (step_on (first_done c.args.track.now.context.flight)) k.core d.some d.stage
 
 pub retire-requires-clause-below : goal.retire-requires-clause-below
 retire-requires-clause-below g c =
     let k = c.requires.core in
-    let d = is_first_done c.args.track.now.context.flight (Goes c.args.step) c.requires.done in
-    oldest_below k.start k.stamp k.reorder c.args.flow.now c.args.context c.args.track.now d.execution c.args.step k.core d.some
+    let d = is_first_done c.args.track.now.context.flight (Goes (step_on (first_done c.args.track.now.context.flight))) c.requires.done in
+    oldest_below k.start k.stamp k.reorder c.args.flow.now c.args.context c.args.track.now d.execution (step_on (first_done c.args.track.now.context.flight)) k.core d.some
 
 pub retire-requires-clause-sized : goal.retire-requires-clause-sized
 retire-requires-clause-sized g c =
     let k = c.requires.core in
-    let d = is_first_done c.args.track.now.context.flight (Goes c.args.step) c.requires.done in
-    oldest_sized k.start k.stamp k.reorder c.args.flow.now c.args.context c.args.track.now d.execution c.args.step k.core d.some d.stage d.outcome
+    let d = is_first_done c.args.track.now.context.flight (Goes (step_on (first_done c.args.track.now.context.flight))) c.requires.done in
+    oldest_sized k.start k.stamp k.reorder c.args.flow.now c.args.context c.args.track.now d.execution (step_on (first_done c.args.track.now.context.flight)) k.core d.some d.stage d.outcome
 
 pub returns-then-count-target-clause-event : goal.returns-then-count-target-clause-event
 returns-then-count-target-clause-event g c =
-    parked_kept c.args.flow.now c.commit.new.self c.args.context c.args.track.now c.retire.new.self c.args.step c.count.result c.target.result c.requires.core.has_lane c.requires.done c.commit.ensures c.retire.ensures c.count.ensures c.target.ensures.value
+    parked_kept c.args.flow.now c.commit.new.self c.args.context c.args.track.now c.retire.new.self (step_on (first_done c.args.track.now.context.flight)) c.count.result c.target.result c.requires.core.has_lane c.requires.done c.commit.ensures c.retire.ensures c.count.ensures c.target.ensures.value
     c.cut_from.new.self c.cut_from.ensures c.if-count-target.true
 
 pub returns-else-count-target-clause-event : goal.returns-else-count-target-clause-event
 returns-else-count-target-clause-event g c =
-    running_kept c.args.flow.now c.commit.new.self c.args.context c.args.track.now c.retire.new.self c.args.step c.count.result c.target.result c.requires.core.has_lane c.requires.done c.commit.ensures c.retire.ensures c.count.ensures c.target.ensures.value
+    running_kept c.args.flow.now c.commit.new.self c.args.context c.args.track.now c.retire.new.self (step_on (first_done c.args.track.now.context.flight)) c.count.result c.target.result c.requires.core.has_lane c.requires.done c.commit.ensures c.retire.ensures c.count.ensures c.target.ensures.value
     c.if-count-target.false

@@ -1,4 +1,4 @@
-use Rattle.std.proofs.Common.{◌≡◌, ◌+◌, ◌<◌, ◌≤◌, length, arith, subst}
+use Rattle.std.proofs.Common.{◌<◌, ◌≤◌, length, arith, subst}
 use Rattle.std.specs.Prelude.{MatchOption}
 use Rattle.flight.specs.Flights.{NoneFrom, IsNext}
 use Rattle.flight.specs.Marked.{is_waiting}

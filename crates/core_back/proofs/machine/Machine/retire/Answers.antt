@@ -1,19 +1,14 @@
-use Rattle.std.proofs.Common.{◌≡◌, ◌+◌, ◌≤◌, length, refl, ap, ◌∙◌, arith}
+use Rattle.std.proofs.Common.{◌≡◌, ◌+◌, ◌≤◌, length, refl, ap, sym, subst, ◌∙◌, arith}
 use Rattle.core_view.specs.declared.outcome.Outcome.TheVariants.{Goes}
-use Rattle.core_view.specs.View.{Context, entry_at}
+use Rattle.core_view.specs.View.{Context}
 use Rattle.core_view.specs.Events.{retire_event}
 use Rattle.core_context.specs.Track.{Track}
 use Rattle.core_back.specs.Machine.{context_at}
-use Rattle.core_context.specs.Heads.{first_done}
+use Rattle.core_context.specs.Heads.{IsGoing, first_done, step_on}
 use Rattle.core_context.proofs.Laws.{is_first_done}
 use Rattle.core_back.proofs.InFlight.{in_flight_after, retire_fewer}
 use Rattle.core_back.proofs.Machines.{at_context, is_idle, machine_after_event, shown_after}
 use Rattle.core_back.proofs.machine.Machine.retire.Goals as goal
-
-pub entry_at-oldest-requires : goal.entry_at-oldest-requires
-entry_at-oldest-requires g c =
-    let h = at_context c.self.inside c.args.self.now c.args.context c.index.result c.index_mut-track.result.now c.self.view_is c.self.invariant (omega (arith, c.index.ensures)) c.index.ensures.value c.index_mut-track.ensures.value in
-    (is_first_done c.index_mut-track.result.now.context.flight (Goes c.args.step) (ap (λ (x : Context). first_done x.flight) h.context ∙ c.requires.done)).some
 
 pub retire-requires-clause-core : goal.retire-requires-clause-core
 retire-requires-clause-core g c =
@@ -23,7 +18,7 @@ retire-requires-clause-core g c =
 pub retire-requires-clause-done : goal.retire-requires-clause-done
 retire-requires-clause-done g c =
     let h = at_context c.self.inside c.args.self.now c.args.context c.index.result c.index_mut-track.result.now c.self.view_is c.self.invariant (omega (arith, c.index.ensures)) c.index.ensures.value c.index_mut-track.ensures.value in
-    ap (λ (x : Context). first_done x.flight) h.context ∙ c.requires.done
+    subst (λ (x : Context). IsGoing (first_done x.flight)) (sym h.context) c.requires.done
 
 pub invariant_of-self : goal.invariant_of-self
 invariant_of-self g c =
@@ -34,47 +29,41 @@ invariant_of-self g c =
 pub returns-clause-retired : goal.returns-clause-retired
 returns-clause-retired g c =
     let h = at_context c.self.inside c.args.self.now c.args.context c.index.result c.index_mut-track.result.now c.self.view_is c.self.invariant (omega (arith, c.index.ensures)) c.index.ensures.value c.index_mut-track.ensures.value in
-    let d = is_first_done c.index_mut-track.result.now.context.flight (Goes c.args.step) (ap (λ (x : Context). first_done x.flight) h.context ∙ c.requires.done) in
-    shown_after c.self.inside c.args.self.now c.args.context c.index.result c.retire.new.track _ c.self.view_is c.index.ensures.value (ap (λ (t : Track). t.context) c.retire.ensures.track ∙ ap (λ (x : Context). retire_event x c.args.step) h.context)
-
-pub returns-clause-entry : goal.returns-clause-entry
-returns-clause-entry g c =
-    let h = at_context c.self.inside c.args.self.now c.args.context c.index.result c.index_mut-track.result.now c.self.view_is c.self.invariant (omega (arith, c.index.ensures)) c.index.ensures.value c.index_mut-track.ensures.value in
-    let d = is_first_done c.index_mut-track.result.now.context.flight (Goes c.args.step) (ap (λ (x : Context). first_done x.flight) h.context ∙ c.requires.done) in
-    c.entry_at-oldest.ensures ∙ ap (λ (x : Context). entry_at x 0) h.context
+    let d = is_first_done c.index_mut-track.result.now.context.flight (Goes (step_on (first_done c.index_mut-track.result.now.context.flight))) (subst (λ (x : Context). IsGoing (first_done x.flight)) (sym h.context) c.requires.done) in
+    shown_after c.self.inside c.args.self.now c.args.context c.index.result c.retire.new.track _ c.self.view_is c.index.ensures.value (ap (λ (t : Track). t.context) c.retire.ensures.track ∙ ap (λ (x : Context). retire_event x (step_on (first_done x.flight))) h.context)
 
 pub overflow_sub-result : goal.overflow_sub-result
 overflow_sub-result g c =
     let h = at_context c.self.inside c.args.self.now c.args.context c.index.result c.index_mut-track.result.now c.self.view_is c.self.invariant (omega (arith, c.index.ensures)) c.index.ensures.value c.index_mut-track.ensures.value in
-    let d = is_first_done c.index_mut-track.result.now.context.flight (Goes c.args.step) (ap (λ (x : Context). first_done x.flight) h.context ∙ c.requires.done) in
+    let d = is_first_done c.index_mut-track.result.now.context.flight (Goes (step_on (first_done c.index_mut-track.result.now.context.flight))) (subst (λ (x : Context). IsGoing (first_done x.flight)) (sym h.context) c.requires.done) in
     let old : length c.index_mut-track.result.now.context.flight ≡ length (context_at c.args.self.now c.args.context).flight = ap (λ (x : Context). length x.flight) h.context in
-    let new : length c.retire.new.track.context.flight ≡ length (retire_event (context_at c.args.self.now c.args.context) c.args.step).flight =
-    ap (λ (t : Track). length t.context.flight) c.retire.ensures.track ∙ ap (λ (x : Context). length (retire_event x c.args.step).flight) h.context in
-    let fewer : length (retire_event (context_at c.args.self.now c.args.context) c.args.step).flight + 1 ≤ length (context_at c.args.self.now c.args.context).flight =
-    retire_fewer (context_at c.args.self.now c.args.context) c.args.step (omega (arith, d.some, old)) in
+    let new : length c.retire.new.track.context.flight ≡ length (retire_event (context_at c.args.self.now c.args.context) (step_on (first_done (context_at c.args.self.now c.args.context).flight))).flight =
+    ap (λ (t : Track). length t.context.flight) c.retire.ensures.track ∙ ap (λ (x : Context). length (retire_event x (step_on (first_done x.flight))).flight) h.context in
+    let fewer : length (retire_event (context_at c.args.self.now c.args.context) (step_on (first_done (context_at c.args.self.now c.args.context).flight))).flight + 1 ≤ length (context_at c.args.self.now c.args.context).flight =
+    retire_fewer (context_at c.args.self.now c.args.context) (step_on (first_done (context_at c.args.self.now c.args.context).flight)) (omega (arith, d.some, old)) in
     omega (arith, c.len-before.ensures.value, c.len.ensures.value, old, new, fewer)
 
 pub overflow_sub-result-2 : goal.overflow_sub-result-2
 overflow_sub-result-2 g c =
     let h = at_context c.self.inside c.args.self.now c.args.context c.index.result c.index_mut-track.result.now c.self.view_is c.self.invariant (omega (arith, c.index.ensures)) c.index.ensures.value c.index_mut-track.ensures.value in
-    let d = is_first_done c.index_mut-track.result.now.context.flight (Goes c.args.step) (ap (λ (x : Context). first_done x.flight) h.context ∙ c.requires.done) in
+    let d = is_first_done c.index_mut-track.result.now.context.flight (Goes (step_on (first_done c.index_mut-track.result.now.context.flight))) (subst (λ (x : Context). IsGoing (first_done x.flight)) (sym h.context) c.requires.done) in
     let old : length c.index_mut-track.result.now.context.flight ≡ length (context_at c.args.self.now c.args.context).flight = ap (λ (x : Context). length x.flight) h.context in
-    let new : length c.retire.new.track.context.flight ≡ length (retire_event (context_at c.args.self.now c.args.context) c.args.step).flight =
-    ap (λ (t : Track). length t.context.flight) c.retire.ensures.track ∙ ap (λ (x : Context). length (retire_event x c.args.step).flight) h.context in
-    let fewer : length (retire_event (context_at c.args.self.now c.args.context) c.args.step).flight + 1 ≤ length (context_at c.args.self.now c.args.context).flight =
-    retire_fewer (context_at c.args.self.now c.args.context) c.args.step (omega (arith, d.some, old)) in
+    let new : length c.retire.new.track.context.flight ≡ length (retire_event (context_at c.args.self.now c.args.context) (step_on (first_done (context_at c.args.self.now c.args.context).flight))).flight =
+    ap (λ (t : Track). length t.context.flight) c.retire.ensures.track ∙ ap (λ (x : Context). length (retire_event x (step_on (first_done x.flight))).flight) h.context in
+    let fewer : length (retire_event (context_at c.args.self.now c.args.context) (step_on (first_done (context_at c.args.self.now c.args.context).flight))).flight + 1 ≤ length (context_at c.args.self.now c.args.context).flight =
+    retire_fewer (context_at c.args.self.now c.args.context) (step_on (first_done (context_at c.args.self.now c.args.context).flight)) (omega (arith, d.some, old)) in
     omega (arith, c.len-before.ensures.value, c.len.ensures.value, old, new, fewer)
 
 pub returns-clause-dropped : goal.returns-clause-dropped
 returns-clause-dropped g c =
     let h = at_context c.self.inside c.args.self.now c.args.context c.index.result c.index_mut-track.result.now c.self.view_is c.self.invariant (omega (arith, c.index.ensures)) c.index.ensures.value c.index_mut-track.ensures.value in
-    let d = is_first_done c.index_mut-track.result.now.context.flight (Goes c.args.step) (ap (λ (x : Context). first_done x.flight) h.context ∙ c.requires.done) in
+    let d = is_first_done c.index_mut-track.result.now.context.flight (Goes (step_on (first_done c.index_mut-track.result.now.context.flight))) (subst (λ (x : Context). IsGoing (first_done x.flight)) (sym h.context) c.requires.done) in
     let old : length c.index_mut-track.result.now.context.flight ≡ length (context_at c.args.self.now c.args.context).flight = ap (λ (x : Context). length x.flight) h.context in
-    let new : length c.retire.new.track.context.flight ≡ length (retire_event (context_at c.args.self.now c.args.context) c.args.step).flight =
-    ap (λ (t : Track). length t.context.flight) c.retire.ensures.track ∙ ap (λ (x : Context). length (retire_event x c.args.step).flight) h.context in
-    let fewer : length (retire_event (context_at c.args.self.now c.args.context) c.args.step).flight + 1 ≤ length (context_at c.args.self.now c.args.context).flight =
-    retire_fewer (context_at c.args.self.now c.args.context) c.args.step (omega (arith, d.some, old)) in
-    in_flight_after c.self.inside c.args.self.now _ c.args.context (retire_event (context_at c.args.self.now c.args.context) c.args.step) _ c.self.view_is h.in_tracks (returns-clause-retired g c)
+    let new : length c.retire.new.track.context.flight ≡ length (retire_event (context_at c.args.self.now c.args.context) (step_on (first_done (context_at c.args.self.now c.args.context).flight))).flight =
+    ap (λ (t : Track). length t.context.flight) c.retire.ensures.track ∙ ap (λ (x : Context). length (retire_event x (step_on (first_done x.flight))).flight) h.context in
+    let fewer : length (retire_event (context_at c.args.self.now c.args.context) (step_on (first_done (context_at c.args.self.now c.args.context).flight))).flight + 1 ≤ length (context_at c.args.self.now c.args.context).flight =
+    retire_fewer (context_at c.args.self.now c.args.context) (step_on (first_done (context_at c.args.self.now c.args.context).flight)) (omega (arith, d.some, old)) in
+    in_flight_after c.self.inside c.args.self.now _ c.args.context (retire_event (context_at c.args.self.now c.args.context) (step_on (first_done (context_at c.args.self.now c.args.context).flight))) _ c.self.view_is h.in_tracks (returns-clause-retired g c)
     (omega (arith, c.len-before.ensures.value, c.len.ensures.value, old, new, fewer))
 
 pub returns-clause-bound : goal.returns-clause-bound
