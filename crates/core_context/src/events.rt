@@ -133,7 +133,7 @@ fn renamable<A: Allocator>(
         return None;
     }
     let operation = entry.operation;
-    if operation.destination().index() != 0 && flow.free_count() == 0 {
+    if flow.free_count() == 0 && operation.destination().index() != 0 {
         return None;
     }
     if operation.is_load() && !track.has_load_place() {

@@ -99,6 +99,11 @@ pub push_is : {U E : Type 0} (r : Result U E) (P : Type 0) (a b : ℕ) → (IsOk
 push_is (Ok u) P a b variant ok lt = ok
 push_is (Err e) P a b variant ok lt = let no_entry = variant.1 lt in absurd cc
 
+-- and is no error
+pub no_err : {U E : Type 0} (r : Result U E) (a b : ℕ) (e : E) → (IsOk r ↔ (a < b)) → r ≡ Err e → a < b → ⊥
+no_err (Ok u) a b e variant is lt = cc
+no_err (Err f) a b e variant is lt = let no_entry = variant.1 lt in absurd cc
+
 pub has_room : {A : Type 0} (d : Inside A) (now : Flow) (c k : ℕ) (found : Buffer Renamed) → Here d now c k found → length (lane now c).nodes < (lane now c).room → length found.items < found.capacity
 has_room d now c k found h room =
     let capacity : (lane now c).room ≡ found.capacity = ap (λ (l : Lane). l.room) h.lane_is in

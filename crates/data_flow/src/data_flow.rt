@@ -109,12 +109,14 @@ impl<A: Allocator> DataFlow<A> {
         let second = self.registers.source(context, operands.second.index());
         let destination = rename_in(&mut self.registers, context, operands.destination);
         let ring = &mut self.renamed[context.index()];
-        let _pushed = ring.push(Renamed {
+        let Ok(()) = ring.push(Renamed {
             operands,
             destination,
             first,
             second,
-        });
+        }) else {
+            unreachable!();
+        };
     }
 
     /// The youngest instruction of a context waits for issue.
@@ -136,13 +138,15 @@ impl<A: Allocator> DataFlow<A> {
         let newest = *ring.last().unwrap();
         let first = awaited(&self.registers, newest.first);
         let second = awaited(&self.registers, newest.second);
-        let _put = self.queue.put(Waiting {
+        let Ok(()) = self.queue.put(Waiting {
             context,
             stamp: newest.operands.stamp,
             guessed,
             speculative,
             sources: [first, second],
-        });
+        }) else {
+            unreachable!();
+        };
     }
 
     /// The instruction at a place has its result.
@@ -298,7 +302,7 @@ fn rename_in<A: Allocator>(
         return registers.source(context, 0);
     }
     let Ok(register) = registers.rename(context, destination.index()) else {
-        return registers.source(context, 0);
+        unreachable!();
     };
     register
 }

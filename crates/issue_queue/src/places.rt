@@ -54,6 +54,19 @@ fn mark(words: &mut [u64], index: usize, place: usize, flag: bool)
     words[index] = word_mask::assigned(words[index], place, flag);
 }
 
+/// The word with the bit of a place that it lacks, where told so.
+fn marked(word: u64, place: usize, flag: bool) -> u64
+    requires place { place < 64 }
+    requires free { has word place ≡ false }
+    ensures { (p : ℕ) → has result p ≡ (if p == place then flag else has word p) }
+{
+    if flag {
+        word_mask::assigned(word, place, true)
+    } else {
+        word
+    }
+}
+
 /// Clears the bits of a word in each of eight others.
 fn unmark(words: &mut [u64; 8], word: u64)
     ensures { (i p : ℕ) → i < 8 → has (slice_index words.new i) p ≡ (has (slice_index words.old i) p && not (has word p)) }
@@ -144,8 +157,8 @@ impl Places {
         self.slots.put(place, waiting);
         let entry = self.slots.at(place);
         self.valid = word_mask::assigned(self.valid, place, true);
-        self.supplied = word_mask::assigned(self.supplied, place, entry.is_supplied());
-        self.guesses = word_mask::assigned(self.guesses, place, entry.is_guessed());
+        self.supplied = marked(self.supplied, place, entry.is_supplied());
+        self.guesses = marked(self.guesses, place, entry.is_guessed());
         mark(&mut self.contexts, entry.context().index(), place, true);
         mark_sources(&mut self.waiters, entry, place, true);
     }

@@ -87,7 +87,9 @@ impl<A: Allocator> RenameMap<A> {
         let previous = self.current[rd as usize];
         self.current[rd as usize] = register;
         let rename = Rename { rd, register };
-        let _ = self.changes.try_push_back(Change { rename, previous });
+        let Ok(()) = self.changes.try_push_back(Change { rename, previous }) else {
+            unreachable!();
+        };
     }
 
     // The oldest rename becomes the committed register. The one that it replaces is returned.
