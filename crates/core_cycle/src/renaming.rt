@@ -15,6 +15,8 @@ use std::alloc::Allocator;
 
 /// Entries are renamed, one by one, at most as many as the rename width: each is the one with the least stamp of the
 /// contexts' oldest fetched entries that can be renamed then. What is renamed is listed in order.
+// It stays out of line: among the other parts of a cycle its loop has too few of the host's registers.
+#[inline(never)]
 pub(crate) fn rename<A: Allocator>(machine: &mut Machine<A>, renamed: &mut ArrayVec<EntryId, 8>)
     requires idle { machine.old.names ≡ [] }
     requires fresh { renamed.old.items ≡ [] }

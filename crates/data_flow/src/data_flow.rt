@@ -144,7 +144,8 @@ impl<A: Allocator> DataFlow<A> {
             guessed,
             speculative,
             sources: [first, second],
-        }) else {
+        })
+        else {
             unreachable!();
         };
     }
