@@ -1,6 +1,6 @@
 -- What the queues hold of a flight, after each event.
 use Rattle.std.proofs.Common.{◌≡◌, ◌≢◌, ℕ, zero, suc, ◌+◌, ◌<◌, ◌≤◌, Bool, true, false, ◌&&◌, cond, List, [], ◌∷◌, ◌++◌, length, get_or, drop, map, Option, Some, None, slice_get, refl, sym, ap, subst, ◌∙◌, arith}
-use Rattle.std.specs.Prelude.{All, set, ◌==◌, nat_lt, filter_map, if◌then◌else◌}
+use Rattle.std.specs.Prelude.{All, set, ◌==◌, ◌||◌, nat_lt, filter_map, if◌then◌else◌}
 use Rattle.std.specs.List.{cons_option}
 use Rattle.std.proofs.lemmas.Bool.{eq-eqb, ne_eqb}
 use Rattle.std.proofs.lemmas.Option.{get_or_from_slice_get, slice_get_within}
@@ -179,6 +179,17 @@ none_unless : {X : Type 0} (t u : Bool) (x : X) → u ≡ false → (if t && u t
 none_unless true u x h = rw h refl
 none_unless false u x h = refl
 
+slot_unless : {X : Type 0} (t u : Bool) (x : X) → t ≡ false → (if t && u then Some x else None) ≡ None
+slot_unless t u x h = rw h refl
+
+first_not : (t u : Bool) → (t || u) ≡ false → t ≡ false
+first_not true u h = absurd cc
+first_not false u h = refl
+
+second_not : (t u : Bool) → (t || u) ≡ false → u ≡ false
+second_not true u h = absurd cc
+second_not false u h = h
+
 load_fetched : (e : Entry) → e.stage ≡ Fetched → load_slot e ≡ None
 load_fetched e is = none_unless (is_load e.operation) (is_renamed e.stage) (record { stamp = e.stamp; span = span_read e.stage }) (ap is_renamed is)
 
@@ -214,23 +225,30 @@ loads_below k es = below_slots load_slot load_stamp load_own load_fetched k es
 pub stores_below : (k : ℕ) (es : List Entry) → below store_stamp k (stores_of es) ≡ stores_of (below (λ (e : Entry). e.stamp) k es)
 stores_below k es = below_slots store_slot store_stamp store_own store_fetched k es
 
-loads_retire : (es : List Entry) (e : Entry) → slice_get es 0 ≡ Some e → IsRising (λ (f : Entry). f.stamp) es → without_oldest load_stamp e.stamp (loads_of es) ≡ loads_of (drop 1 es)
+pub loads_retire : (es : List Entry) (e : Entry) → slice_get es 0 ≡ Some e → IsRising (λ (f : Entry). f.stamp) es → without_oldest load_stamp e.stamp (loads_of es) ≡ loads_of (drop 1 es)
 loads_retire es e is rising =
     ap (λ (f : Entry). without_oldest load_stamp f.stamp (loads_of es)) (sym (get_or_from_slice_get es 0 e e is))
     ∙ drop_oldest load_slot load_stamp load_own load_fetched 0 es e (slice_get_within es 0 e is) (growing_whole es rising)
 
-stores_retire : (es : List Entry) (e : Entry) → slice_get es 0 ≡ Some e → IsRising (λ (f : Entry). f.stamp) es → without_oldest store_stamp e.stamp (stores_of es) ≡ stores_of (drop 1 es)
+pub stores_retire : (es : List Entry) (e : Entry) → slice_get es 0 ≡ Some e → IsRising (λ (f : Entry). f.stamp) es → without_oldest store_stamp e.stamp (stores_of es) ≡ stores_of (drop 1 es)
 stores_retire es e is rising =
     ap (λ (f : Entry). without_oldest store_stamp f.stamp (stores_of es)) (sym (get_or_from_slice_get es 0 e e is))
     ∙ drop_oldest store_slot store_stamp store_own store_fetched 0 es e (slice_get_within es 0 e is) (growing_whole es rising)
 
--- the oldest entry retires
-pub retire_holds : (es left : List Entry) (e : Entry) (old new : Queues) → slice_get es 0 ≡ Some e → IsRising (λ (f : Entry). f.stamp) es → left ≡ drop 1 es
-    → new ≡ record old { loads = without_oldest load_stamp e.stamp old.loads; stores = without_oldest store_stamp e.stamp old.stores } → old.loads ≡ loads_of es → old.stores ≡ stores_of es → Holds new left
-retire_holds es left e old new is rising rest taken loads stores = record {
-  loads = ap (λ (q : Queues). q.loads) taken ∙ ap (without_oldest load_stamp e.stamp) loads ∙ loads_retire es e is rising ∙ sym (ap (λ (fs : List Entry). loads_of fs) rest);
-  stores = ap (λ (q : Queues). q.stores) taken ∙ ap (without_oldest store_stamp e.stamp) stores ∙ stores_retire es e is rising ∙ sym (ap (λ (fs : List Entry). stores_of fs) rest);
-}
+-- an entry that has no place in a queue
+pub loads_retire_other : (es : List Entry) (e : Entry) → slice_get es 0 ≡ Some e → (is_load e.operation || is_store e.operation) ≡ false → loads_of es ≡ loads_of (drop 1 es)
+loads_retire_other [] e is other = absurd cc
+loads_retire_other (f ∷ es) e is other =
+    let same : f ≡ e = cc in
+    let none : load_slot f ≡ None = ap load_slot same ∙ slot_unless (is_load e.operation) (is_renamed e.stage) (record { stamp = e.stamp; span = span_read e.stage }) (first_not (is_load e.operation) (is_store e.operation) other) in
+    ap (λ o. cons_option o (loads_of es)) none
+
+pub stores_retire_other : (es : List Entry) (e : Entry) → slice_get es 0 ≡ Some e → (is_load e.operation || is_store e.operation) ≡ false → stores_of es ≡ stores_of (drop 1 es)
+stores_retire_other [] e is other = absurd cc
+stores_retire_other (f ∷ es) e is other =
+    let same : f ≡ e = cc in
+    let none : store_slot f ≡ None = ap store_slot same ∙ slot_unless (is_store e.operation) (is_renamed e.stage) (record { stamp = e.stamp; bytes = bytes_done e.stage }) (second_not (is_load e.operation) (is_store e.operation) other) in
+    ap (λ o. cons_option o (stores_of es)) none
 
 -- ---- one more entry is fetched
 

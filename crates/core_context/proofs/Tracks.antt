@@ -1,6 +1,6 @@
 -- What the loops over a flight find, what its ring leaves, and what an entry squashes as it completes.
 use Rattle.std.proofs.Common.{◌≡◌, ◌≢◌, ℕ, suc, ◌+◌, ◌-◌, ◌<◌, ◌≤◌, Bool, true, false, cond, List, [], ◌∷◌, length, get_or, take, drop, slice_get, Option, Some, None, refl, sym, ap, subst, ◌∙◌, arith, add-one, length-take, length-drop, inl, inr}
-use Rattle.std.specs.Prelude.{set, nat_lt, not, min, find, option_map, if◌then◌else◌, ◌==◌, ◌&&◌}
+use Rattle.std.specs.Prelude.{set, is_some, nat_lt, not, min, find, option_map, if◌then◌else◌, ◌==◌, ◌&&◌}
 use Rattle.std.proofs.lemmas.Bool.{cases_eq, cases_lt, eq-eqb, lt-ltb, le-ltb, ltb-true, ltb-false}
 use Rattle.std.proofs.lemmas.List.{nil_from_length, take_all, length-set, get_or-drop, get_or-set_same, get_or-set_other, get_or_default}
 use Rattle.std.proofs.lemmas.List.Folds.{list_any_none, list_any_at}
@@ -15,11 +15,11 @@ use Rattle.core_view.specs.declared.outcome.Outcome.{Outcome}
 use Rattle.core_view.specs.declared.outcome.Outcome.TheVariants.{Goes, Stops}
 use Rattle.core_view.specs.declared.entry.Execution.{Execution}
 use Rattle.core_view.specs.declared.entry.Stage.{Stage}
-use Rattle.core_view.specs.declared.entry.Stage.TheVariants.{Issued, Done}
+use Rattle.core_view.specs.declared.entry.Stage.TheVariants.{Fetched, Queued, Issued, Done}
 use Rattle.core_view.specs.declared.entry.Entry.{Entry}
 use Rattle.core_view.specs.Operations.{stops_at_fetch, is_store}
 use Rattle.core_view.specs.Outcomes.{Image, bytes_written}
-use Rattle.core_view.specs.Flight.{is_queued, Seen, seen_past, pc_past, is_open, span_read, bytes_in, touches, clean_length, HasOutcome, IsSoundEntry, IsSound}
+use Rattle.core_view.specs.Flight.{is_queued, is_done, Seen, seen_past, pc_past, is_open, span_read, bytes_in, touches, clean_length, HasOutcome, IsSoundEntry, IsSound}
 use Rattle.core_view.specs.Events.{is_mispredicted, kept_length, completed_entry, complete_in}
 use Rattle.core_view.specs.Queues.{loads_of, conflict_in, conflict_of}
 use Rattle.core_view.specs.View.{no_entry}
@@ -60,6 +60,17 @@ set_read es fs i e change read is = is ∙ ap (λ (n : Entry). set es i (change 
 pub first_read : (es : List Entry) (e : Entry) → slice_get es 0 ≡ Some e → first_done es ≡ done_outcome e.stage
 first_read [] e h = absurd cc
 first_read (x ∷ es) e h = let same : x ≡ e = cc in ap (λ (f : Entry). done_outcome f.stage) same
+
+-- the oldest entry is done where it came to something
+pub first_is_done : (es : List Entry) → is_done (get_or es 0 no_entry).stage ≡ is_some (first_done es)
+first_is_done [] = refl
+first_is_done (e ∷ es) = by_stage e.stage
+  where
+    by_stage : (s : Stage) → is_done s ≡ is_some (done_outcome s)
+    by_stage Fetched = refl
+    by_stage Queued = refl
+    by_stage (Issued x) = refl
+    by_stage (Done x) = refl
 
 -- ---- the end of a flight
 

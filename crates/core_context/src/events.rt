@@ -34,8 +34,8 @@ pub fn retire<A: Allocator>(flow: &mut DataFlow<A>, track: &mut Track<A>, contex
     ensures track { track.new ≡ retired track.old (step_on (first_done track.old.context.flight)) }
     ensures event { IsEventAt context flow.old flow.new track.old track.new }
 {
-    flow.commit(context);
-    track.retire();
+    let destination = flow.commit(context);
+    track.retire(destination);
     if track.count() == track.target() {
         flow.cut_from(context, 0);
     }

@@ -1,8 +1,9 @@
 -- What the words and the hints of a flight show of its entries.
-use Rattle.std.proofs.Common.{◌≡◌, ◌≢◌, ℕ, ◌+◌, ◌%◌, ◌<◌, ◌≤◌, Bool, true, false, List, length, take, get_or, Some, None, is_some, refl, sym, ◌∙◌, ap, arith, inl, inr, ◌⊎◌}
+use Rattle.std.proofs.Common.{◌≡◌, ◌≢◌, ℕ, zero, suc, ◌+◌, ◌*◌, ◌%◌, ◌<◌, ◌≤◌, Bool, true, false, cond, List, [], ◌∷◌, length, take, get_or, Some, None, is_some, refl, sym, ◌∙◌, ap, arith, inl, inr, ◌⊎◌}
 use Rattle.std.specs.Prelude.{◌==◌, if◌then◌else◌}
 use Rattle.std.specs.Int.{bit_at}
 use Rattle.std.proofs.lemmas.Bool.{eqb-true}
+use Rattle.std.proofs.lemmas.Bool.Decides.{nat_tests}
 use Rattle.core_view.specs.declared.entry.Entry.{Entry}
 use Rattle.core_view.specs.declared.entry.Execution.{Execution}
 use Rattle.core_view.specs.declared.entry.Stage.{Stage}
@@ -70,3 +71,13 @@ word-next test es w r from place is within ahead fetched after renamed set clear
 pub word-past : (test : Entry → Bool) (es : List Entry) (w r from place : ℕ) → w ≡ word_of test (take r es) → r ≤ length es → IsAhead r es → ((e : Entry) → e.stage ≡ Fetched → test e ≡ false) →
     r ≤ place → ((i : ℕ) → from ≤ i → i < place → bit_at w i ≡ 0) → NoneFrom test es from
 word-past test es w r from place is within ahead fetched past clear = none-from test es from place r (word-none test es w r from place is within ahead fetched clear) past ahead fetched
+
+-- the first bit of a word
+pub first-bit : (test : Entry → Bool) (es : List Entry) (w r : ℕ) → w ≡ word_of test (take r es) → r ≤ length es → IsAhead r es → ((e : Entry) → e.stage ≡ Fetched → test e ≡ false) → (w % 2 == 1) ≡ test (entry_in es 0)
+first-bit test es w zero is within ahead fetched = ap (λ n. n % 2 == 1) is ∙ sym (fetched (entry_in es 0) (ahead 0 (omega arith)))
+first-bit test [] w (suc r) is within ahead fetched = absurd (omega arith)
+first-bit test (e ∷ es) w (suc r) is within ahead fetched = ap (λ n. n % 2 == 1) is ∙ low (test e) (word_of test (take r es))
+  where
+    low : (b : Bool) (n : ℕ) → ((cond b 1 0 + 2 * n) % 2 == 1) ≡ b
+    low true n = grind (arith, nat_tests)
+    low false n = grind (arith, nat_tests)

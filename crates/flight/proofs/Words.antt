@@ -14,9 +14,9 @@ use Rattle.flight.specs.declared.marks.Marks.{Marks}
 use Rattle.flight.specs.Marked.{word_of}
 use Rattle.flight.specs.Flights.{entry_in}
 
-pub four : (a b c d a' b' c' d' : ℕ) → a ≡ a' → b ≡ b' → c ≡ c' → d ≡ d' →
-    ◌≡◌ {A = Marks} record { waiting = a; waiting_loads = b; open_guesses = c; missed_loads = d } record { waiting = a'; waiting_loads = b'; open_guesses = c'; missed_loads = d' }
-four a b c d a' b' c' d' pa pb pc pd = rw pa (rw pb (rw pc (rw pd refl)))
+pub five : (a b c d e a' b' c' d' e' : ℕ) → a ≡ a' → b ≡ b' → c ≡ c' → d ≡ d' → e ≡ e' →
+    ◌≡◌ {A = Marks} record { waiting = a; waiting_loads = b; open_guesses = c; missed_loads = d; done = e } record { waiting = a'; waiting_loads = b'; open_guesses = c'; missed_loads = d'; done = e' }
+five a b c d e a' b' c' d' e' pa pb pc pd pe = rw pa (rw pb (rw pc (rw pd (rw pe refl))))
 
 bit-entry : (p : Entry → Bool) (es : List Entry) (i : ℕ) → i < length es → get_or (map p es) i false ≡ p (entry_in es i)
 bit-entry p [] i lt = absurd (omega arith)

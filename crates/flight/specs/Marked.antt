@@ -3,7 +3,7 @@ use Rattle.std.specs.Prelude.{ℕ, Bool, ◌&&◌, List, map}
 use Rattle.std.specs.Simd.Lanes.{mask_l}
 use Rattle.core_view.specs.declared.entry.Entry.{Entry}
 use Rattle.core_view.specs.Operations.{is_load}
-use Rattle.core_view.specs.Flight.{is_queued, is_open_guess, is_missed_load}
+use Rattle.core_view.specs.Flight.{is_queued, is_done, is_open_guess, is_missed_load}
 use Rattle.flight.specs.declared.marks.Marks.{Marks}
 
 abbrev pub is_waiting : Entry → Bool
@@ -11,6 +11,9 @@ is_waiting e = is_queued e.stage
 
 abbrev pub is_waiting_load : Entry → Bool
 is_waiting_load e = is_queued e.stage && is_load e.operation
+
+abbrev pub has_completed : Entry → Bool
+has_completed e = is_done e.stage
 
 -- a word with a bit an entry, bit 0 for the oldest
 abbrev pub word_of : (Entry → Bool) → List Entry → ℕ
@@ -23,4 +26,5 @@ marks_of es = record {
   waiting_loads = word_of is_waiting_load es;
   open_guesses = word_of is_open_guess es;
   missed_loads = word_of is_missed_load es;
+  done = word_of has_completed es;
 }

@@ -8,7 +8,7 @@ ghost use Rattle.core_view.specs.declared.entry.Stage.TheVariants.{Fetched, Queu
 ghost use Rattle.core_view.specs.Events.{due_at};
 ghost use Rattle.core_view.specs.declared.entry.Entry.{Entry};
 ghost use Rattle.core_view.specs.declared.entry.Execution.{Execution};
-ghost use Rattle.core_view.specs.Flight.{is_open_guess, is_missed_load};
+ghost use Rattle.core_view.specs.Flight.{is_done, is_open_guess, is_missed_load};
 ghost use Rattle.flight.specs.Marked.{is_waiting, is_waiting_load, word_of};
 ghost use Rattle.flight.specs.Flights.{entry_in, empty_flight, fetched_one, renamed_one, issued_one, finished_one, retired_one, none_left, cut_at, execution_of, IsIssued, guesses_ahead, is_due, NoneFrom, IsNext};
 
@@ -88,6 +88,14 @@ impl<A: Allocator> Flight<A> {
         ensures { option_copied result ≡ slice_get self.now.entries 0 }
     {
         self.ring.head()
+    }
+
+    /// Whether the oldest entry is done.
+    #[inline(always)]
+    pub fn is_head_done(&self) -> bool
+        ensures { result ≡ is_done (entry_in self.now.entries 0).stage }
+    {
+        self.marks.done % 2 == 1
     }
 
     /// The youngest entry.

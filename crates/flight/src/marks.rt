@@ -22,6 +22,8 @@ pub struct Marks {
     pub open_guesses: u64,
     /// It is a load that was issued, has not completed, and missed.
     pub missed_loads: u64,
+    /// It is done.
+    pub done: u64,
 }
 
 impl Marks {
@@ -34,6 +36,7 @@ impl Marks {
             waiting_loads: 0,
             open_guesses: 0,
             missed_loads: 0,
+            done: 0,
         }
     }
 
@@ -47,6 +50,7 @@ impl Marks {
         self.waiting_loads = push(self.waiting_loads, place, is_waiting_load(entry));
         self.open_guesses = push(self.open_guesses, place, is_open_guess(entry));
         self.missed_loads = push(self.missed_loads, place, is_missed_load(entry));
+        self.done = push(self.done, place, entry.stage.is_done());
     }
 
     /// With an entry at a place that has issued, where it waited.
@@ -69,6 +73,7 @@ impl Marks {
     {
         self.open_guesses = assign(self.open_guesses, place, false);
         self.missed_loads = assign(self.missed_loads, place, false);
+        self.done = assign(self.done, place, true);
     }
 
     /// Without the oldest entry.
@@ -80,6 +85,7 @@ impl Marks {
         self.waiting_loads = without_first(self.waiting_loads);
         self.open_guesses = without_first(self.open_guesses);
         self.missed_loads = without_first(self.missed_loads);
+        self.done = without_first(self.done);
     }
 
     /// Of the oldest entries.
@@ -91,6 +97,7 @@ impl Marks {
         self.waiting_loads = first(self.waiting_loads, count);
         self.open_guesses = first(self.open_guesses, count);
         self.missed_loads = first(self.missed_loads, count);
+        self.done = first(self.done, count);
     }
 }
 
