@@ -384,10 +384,13 @@ fn plain_result(entry: &Entry, cycle: u64) -> Option<u64>
     ensures store { IfSome result (λ _. is_store entry.now.operation ≡ false) }
     ensures result { IfSome result (λ value. result_in (execution_of entry.now.stage).outcome ≡ Some value) }
 {
-    if entry.operation.is_store() {
+    let Stage::Issued { execution } = &entry.stage else {
+        return None;
+    };
+    if execution.due != cycle || entry.operation.is_store() {
         return None;
     }
-    entry.stage.due(cycle)?.outcome.result()
+    execution.outcome.result()
 }
 
 /// How many entries from a place on are guessed.
