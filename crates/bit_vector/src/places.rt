@@ -1,6 +1,6 @@
 //! A word as the bits of a list, the first of which is bit 0. Its other bits are clear.
 
-ghost use Rattle.std.specs.Prelude.{◌≡◌, ℕ, ◌<◌, ◌≤◌, Bool, true, false, List, [], ◌∷◌, ◌++◌, length, take, drop, slice_set, count_by};
+ghost use Rattle.std.specs.Prelude.{◌≡◌, ℕ, ◌<◌, ◌≤◌, Bool, true, false, List, [], ◌∷◌, ◌++◌, length, take, drop, slice_set, count_by, IsTrue};
 ghost use Rattle.std.specs.Int.{bit_at};
 ghost use Rattle.std.specs.Simd.Lanes.{mask_l};
 
@@ -69,6 +69,16 @@ pub fn count(word: u64) -> usize
     ensures { (bits : List Bool) → word ≡ mask_l bits → result ≡ count_by (λ bit. bit) bits }
 {
     word.count_ones() as usize
+}
+
+/// Whether the bit of a place is set.
+#[inline(always)]
+pub fn has(word: u64, place: usize) -> bool
+    requires { place < 64 }
+    ensures clear { result ≡ false → bit_at word place ≡ 0 }
+    ensures set { IsTrue result → bit_at word place ≡ 1 }
+{
+    (word >> place) % 2 == 1
 }
 
 /// The first place from one on whose bit is set, or 64 where there is none.

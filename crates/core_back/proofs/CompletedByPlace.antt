@@ -58,16 +58,6 @@ due_step m n c i x e due =
     ∙ ap (λ (y : Context). completed_from m.view.cycle (suc i) y.flight) (set_here m.view.contexts c (complete_event (context_at m c) i x) i here.0)
     ∙ from_step m.view.cycle i (context_at m c).flight no_entry x here.0 here.1
 
-flight_twice : (xs : List Context) (c : ℕ) (es fs : List Entry) → (let ys = set xs c (with_flight (get_or xs c no_context) es) in set ys c (with_flight (get_or ys c no_context) fs)) ≡ set xs c (with_flight (get_or xs c no_context) fs)
-flight_twice [] c es fs = refl
-flight_twice (y ∷ ys) zero es fs = refl
-flight_twice (y ∷ ys) (suc c) es fs = ap (λ zs. y ∷ zs) (flight_twice ys c es fs)
-
 -- only the flight of a context has changed
 pub flight_same : (m : Machine) (c : ℕ) → m ≡ with_context m c (with_flight (context_at m c) (context_at m c).flight)
 flight_same m c = ap (with_contexts m) (sym (set-get_or m.view.contexts c no_context))
-
-pub flight_chain : (m n k : Machine) (c : ℕ) → n ≡ with_context m c (with_flight (context_at m c) (context_at n c).flight) → k ≡ with_context n c (with_flight (context_at n c) (context_at k c).flight)
-    → k ≡ with_context m c (with_flight (context_at m c) (context_at k c).flight)
-flight_chain m n k c e f =
-    f ∙ ap (λ (q : Machine). with_context q c (with_flight (context_at q c) (context_at k c).flight)) e ∙ ap (with_contexts m) (flight_twice m.view.contexts c (context_at n c).flight (context_at k c).flight)

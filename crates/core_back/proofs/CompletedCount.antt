@@ -78,7 +78,7 @@ come_step m n c i x e due =
 
 -- ---- all contexts
 
-pub sum_to : (ℕ → ℕ) → ℕ → ℕ
+unfoldable pub sum_to : (ℕ → ℕ) → ℕ → ℕ
 sum_to f zero = 0
 sum_to f (suc k) = sum_to f k + f k
 
@@ -87,7 +87,7 @@ mapped_now f zero xs = refl
 mapped_now f (suc k) [] = refl
 mapped_now f (suc k) (x ∷ xs) = mapped_now f k xs
 
-map_at : (f : Context → Context) (xs : List Context) (c : ℕ) → c < length xs → get_or (map f xs) c no_context ≡ f (get_or xs c no_context)
+pub map_at : (f : Context → Context) (xs : List Context) (c : ℕ) → c < length xs → get_or (map f xs) c no_context ≡ f (get_or xs c no_context)
 map_at f [] c lt = absurd (omega arith)
 map_at f (x ∷ xs) zero lt = refl
 map_at f (x ∷ xs) (suc c) lt = map_at f xs c (omega (arith, lt))

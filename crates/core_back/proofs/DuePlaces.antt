@@ -1,15 +1,17 @@
--- Entries that are due complete, one due place after another.
-use Rattle.std.proofs.Common.{◌≡◌, ℕ, zero, suc, ◌+◌, ◌-◌, ◌<◌, ◌≤◌, false, List, [], ◌∷◌, length, get_or, Option, Some, None, is_some, refl, sym, ap, subst, ◌∙◌, arith, add-one}
+-- One entry of a context that is due completes: the oldest.
+use Rattle.std.proofs.Common.{◌≡◌, ℕ, zero, suc, ◌+◌, ◌<◌, false, List, [], ◌∷◌, length, get_or, Option, Some, None, is_some, refl, sym, ap, subst, ◌∙◌, arith, add-one, inl, inr}
+use Rattle.std.proofs.lemmas.Bool.{cases_eq}
 use Rattle.core_view.specs.declared.entry.Execution.{Execution}
 use Rattle.core_view.specs.declared.entry.Entry.{Entry}
-use Rattle.core_view.specs.View.{no_entry}
-use Rattle.core_view.specs.Events.{with_flight, due_at, completed_at, completed_from}
+use Rattle.core_view.specs.View.{Context, no_entry}
+use Rattle.core_view.specs.Events.{with_flight, due_at, completed_at, completed_from, complete_in, complete_event}
 use Rattle.core_view.proofs.Completed.{from_end}
-use Rattle.flight.specs.Flights.{is_due, NoneFrom}
+use Rattle.flight.specs.Flights.{execution_of, is_due, NoneFrom, IsNext}
 use Rattle.core_back.specs.Machine.{Machine, context_at, with_context, due_in}
 use Rattle.core_back.specs.Coming.{to_come, number_of}
-use Rattle.core_back.proofs.CompletedCount.{come_none, come_end}
-use Rattle.core_back.proofs.CompletedByPlace.{due_none, flight_same, flight_chain}
+use Rattle.core_back.specs.Completing.{IsTurn}
+use Rattle.core_back.proofs.CompletedCount.{come_none, come_end, come_step}
+use Rattle.core_back.proofs.CompletedByPlace.{due_none, due_here, due_step, flight_same, set_here}
 
 is_none : (o : Option Execution) → is_some o ≡ false → o ≡ None
 is_none None h = refl
@@ -21,74 +23,77 @@ not_due cycle (e ∷ es) zero h = is_none (due_at cycle e.stage) h
 not_due cycle (e ∷ es) (suc i) h = not_due cycle es i h
 
 -- what stays at each place of some stays over all of them
-pass_over : {X : Type 0} (f : ℕ → X) (n k : ℕ) → ((i : ℕ) → n ≤ i → i < n + k → f (suc i) ≡ f i) → f (n + k) ≡ f n
-pass_over f n zero h = let same : n + 0 ≡ n = omega arith in ap f same
-pass_over f n (suc k) h = let one : n + suc k ≡ suc (n + k) = omega arith in ap f one ∙ h (n + k) (omega arith) (omega arith) ∙ pass_over f n k (λ i from lt. h i from (omega (arith, lt)))
+pass_to : {X : Type 0} (f : ℕ → X) (m : ℕ) → ((i : ℕ) → i < m → f (suc i) ≡ f i) → f m ≡ f 0
+pass_to f zero h = refl
+pass_to f (suc m) h = h m (omega arith) ∙ pass_to f m (λ i lt. h i (omega (arith, lt)))
 
-pass_to : {X : Type 0} (f : ℕ → X) (n m : ℕ) → n ≤ m → ((i : ℕ) → n ≤ i → i < m → f (suc i) ≡ f i) → f m ≡ f n
-pass_to f n m le h = let at : m ≡ n + (m - n) = omega (arith, le) in ap f at ∙ pass_over f n (m - n) (λ i from lt. h i from (omega (arith, lt, le)))
+-- no entry before a place is due
+abbrev NoneBefore : ℕ → List Entry → ℕ → Type 0
+NoneBefore cycle es m = (i : ℕ) → i < m → is_due cycle (get_or es i no_entry) ≡ false
 
--- no entry of these places is due
-abbrev NoneBetween : ℕ → List Entry → ℕ → ℕ → Type 0
-NoneBetween cycle es n m = (i : ℕ) → n ≤ i → i < m → is_due cycle (get_or es i no_entry) ≡ false
+from_pass : (cycle : ℕ) (es : List Entry) (m : ℕ) → NoneBefore cycle es m → completed_from cycle m es ≡ completed_at cycle es
+from_pass cycle es m none = pass_to (λ k. completed_from cycle k es) m (λ i lt. ap (λ k. completed_from cycle k es) (sym (add-one i)) ∙ due_none cycle es i (not_due cycle es i (none i lt)))
 
-from_pass : (cycle : ℕ) (es : List Entry) (n m : ℕ) → n ≤ m → NoneBetween cycle es n m → completed_from cycle m es ≡ completed_from cycle n es
-from_pass cycle es n m le none = pass_to (λ k. completed_from cycle k es) n m le (λ i from lt. ap (λ k. completed_from cycle k es) (sym (add-one i)) ∙ due_none cycle es i (not_due cycle es i (none i from lt)))
+come_pass : (cycle : ℕ) (es : List Entry) (m : ℕ) → NoneBefore cycle es m → to_come cycle m es ≡ to_come cycle 0 es
+come_pass cycle es m none = pass_to (λ k. to_come cycle k es) m (λ i lt. come_none cycle es i (not_due cycle es i (none i lt)))
 
-come_pass : (cycle : ℕ) (es : List Entry) (n m : ℕ) → n ≤ m → NoneBetween cycle es n m → to_come cycle m es ≡ to_come cycle n es
-come_pass cycle es n m le none = pass_to (λ k. to_come cycle k es) n m le (λ i from lt. come_none cycle es i (not_due cycle es i (none i from lt)))
+-- where none is due, all stay, and none completes
+pub none_due : (cycle : ℕ) (es : List Entry) → NoneFrom (is_due cycle) es 0 → completed_at cycle es ≡ es
+none_due cycle es none = sym (from_pass cycle es (length es) (λ i lt. none i (omega arith))) ∙ from_end cycle (length es) es (omega arith)
 
--- the entries of a context before a place that are due have completed, of so many, and have cut so many
-pub record IsSoFar (first m : Machine) (c place len completed cut : ℕ) : Type 0 where
-  pub others : m ≡ with_context first c (with_flight (context_at first c) (context_at m c).flight)
-  pub so_far : completed_from first.view.cycle place (context_at m c).flight ≡ completed_at first.view.cycle (context_at first c).flight
-  pub cut_ : cut + length (context_at m c).flight ≡ len
-  pub coming : completed + to_come first.view.cycle place (context_at m c).flight ≡ number_of first.view.cycle (context_at first c)
+pub none_comes : (cycle : ℕ) (x : Context) → NoneFrom (is_due cycle) x.flight 0 → number_of cycle x ≡ 0
+none_comes cycle x none = sym (come_pass cycle x.flight (length x.flight) (λ i lt. none i (omega arith))) ∙ come_end cycle (length x.flight) x.flight (omega arith)
 
-pub so_far_first : (m : Machine) (c len : ℕ) → len ≡ length (context_at m c).flight → IsSoFar m m c 0 len 0 0
-so_far_first m c len is = record { others = flight_same m c; so_far = refl; cut_ = omega (arith, is); coming = omega arith }
+-- what stands before the place where an entry completes
+before_same : (es : List Entry) (i : ℕ) (x : Execution) (j : ℕ) → j < i → get_or (complete_in es i x) j no_entry ≡ get_or es j no_entry
+before_same [] i x j lt = refl
+before_same (e ∷ es) zero x j lt = absurd (omega arith)
+before_same (e ∷ es) (suc i) x zero lt = refl
+before_same (e ∷ es) (suc i) x (suc j) lt = before_same es i x j (omega (arith, lt))
 
--- places where nothing is due are passed over
-pub so_far_pass : (first m : Machine) (c n p len completed cut : ℕ) → IsSoFar first m c n len completed cut → n ≤ p → ((i : ℕ) → n ≤ i → i < p → is_due m.view.cycle (get_or (context_at m c).flight i no_entry) ≡ false) → IsSoFar first m c p len completed cut
-so_far_pass first m c n p len completed cut h le none =
-    let cycle : m.view.cycle ≡ first.view.cycle = ap (λ (k : Machine). k.view.cycle) h.others in
-    let idle : NoneBetween first.view.cycle (context_at m c).flight n p = subst (λ k. NoneBetween k (context_at m c).flight n p) cycle none in
-    record {
-      others = h.others;
-      so_far = from_pass first.view.cycle (context_at m c).flight n p le idle ∙ h.so_far;
-      cut_ = h.cut_;
-      coming = omega (arith, h.coming, come_pass first.view.cycle (context_at m c).flight n p le idle);
-    }
+done_here : (cycle : ℕ) (es : List Entry) (i : ℕ) (x : Execution) → is_due cycle (get_or (complete_in es i x) i no_entry) ≡ false
+done_here cycle [] i x = refl
+done_here cycle (e ∷ es) zero x = refl
+done_here cycle (e ∷ es) (suc i) x = done_here cycle es i x
 
--- the entry at a place completes, if it is due
-pub so_far_step : (first m k : Machine) (c p len completed cut one more : ℕ) → IsSoFar first m c p len completed cut
-    → k ≡ with_context m c (with_flight (context_at m c) (context_at k c).flight) → completed_from m.view.cycle (p + 1) (context_at k c).flight ≡ completed_from m.view.cycle p (context_at m c).flight
-    → more + length (context_at k c).flight ≡ length (context_at m c).flight → one + to_come m.view.cycle (p + 1) (context_at k c).flight ≡ to_come m.view.cycle p (context_at m c).flight
-    → IsSoFar first k c (p + 1) len (completed + one) (cut + more)
-so_far_step first m k c p len completed cut one more h others goes_on cuts counted =
-    let cycle : m.view.cycle ≡ first.view.cycle = ap (λ (k : Machine). k.view.cycle) h.others in
-    let now = subst (λ n. one + to_come n (p + 1) (context_at k c).flight ≡ to_come n p (context_at m c).flight) cycle counted in
-    record {
-      others = flight_chain first m k c h.others others;
-      so_far = subst (λ n. completed_from n (p + 1) (context_at k c).flight ≡ completed_from n p (context_at m c).flight) cycle goes_on ∙ h.so_far;
-      cut_ = omega (arith, cuts, h.cut_);
-      coming = omega (arith, now, h.coming);
-    }
+-- nothing completes in a turn where nothing is due
+pub idle_turn : (m n : Machine) (c : ℕ) → n ≡ m → NoneFrom (is_due m.view.cycle) (context_at m c).flight 0 → IsTurn m n c 0 0
+idle_turn m n c same none = subst (λ k. IsTurn m k c 0 0) (sym same) (record {
+  others = flight_same m c;
+  goes_on = refl;
+  fewer = omega arith;
+  counted = omega arith;
+  one = omega arith;
+  last = λ h. none;
+})
 
--- past all places
-pub so_far_all : (first m : Machine) (c p len completed cut : ℕ) → IsSoFar first m c p len completed cut → length (context_at m c).flight ≤ p
-    → (m ≡ with_context first c (with_flight (context_at first c) (completed_at first.view.cycle (context_at first c).flight)))
-    × (cut + length (completed_at first.view.cycle (context_at first c).flight) ≡ len) × (completed ≡ number_of first.view.cycle (context_at first c))
-so_far_all first m c p len completed cut h le =
-    let all = sym (from_end first.view.cycle p (context_at m c).flight le) ∙ h.so_far in
-    let same : length (context_at m c).flight ≡ length (completed_at first.view.cycle (context_at first c).flight) = ap (λ (es : List Entry). length es) all in
-    let none = come_end first.view.cycle p (context_at m c).flight le in (
-      h.others ∙ ap (λ (es : List Entry). with_context first c (with_flight (context_at first c) es)) all,
-      omega (arith, h.cut_, same),
-      omega (arith, h.coming, none),
-    )
+-- the first entry that is due completes
+pub one_turn : (m n : Machine) (c place cut : ℕ) → IsNext (is_due m.view.cycle) (context_at m c).flight 0 place
+    → n ≡ with_context m c (complete_event (context_at m c) place (execution_of (get_or (context_at m c).flight place no_entry).stage))
+    → cut + length (context_at n c).flight ≡ length (context_at m c).flight → IsTurn m n c 1 cut
+one_turn m n c place cut next event fewer = record {
+  others = event ∙ ap (λ (es : List Entry). with_context m c (with_flight (context_at m c) es)) (sym flight);
+  goes_on = sym (from_pass m.view.cycle (context_at n c).flight (place + 1) none_after) ∙ due_step m n c place x event due ∙ from_pass m.view.cycle (context_at m c).flight place none_before;
+  fewer = fewer;
+  counted = omega (arith, come_step m n c place x event due, come_pass m.view.cycle (context_at n c).flight (place + 1) none_after, come_pass m.view.cycle (context_at m c).flight place none_before);
+  one = omega arith;
+  last = λ h. absurd (omega (arith, h));
+}
+  where
+    x : Execution
+    x = execution_of (get_or (context_at m c).flight place no_entry).stage
 
--- nothing is due from a place on
-pub so_far_none : (first m : Machine) (c p len completed cut : ℕ) → IsSoFar first m c p len completed cut → NoneFrom (is_due m.view.cycle) (context_at m c).flight p
-    → IsSoFar first m c (p + length (context_at m c).flight) len completed cut
-so_far_none first m c p len completed cut h none = so_far_pass first m c p (p + length (context_at m c).flight) len completed cut h (omega arith) (λ i from lt. none i from)
+    due : due_in m.view.cycle (context_at m c).flight place ≡ Some x
+    due = due_here m.view.cycle (context_at m c).flight place next.within next.passes
+
+    flight : (context_at n c).flight ≡ complete_in (context_at m c).flight place x
+    flight = ap (λ (k : Machine). (context_at k c).flight) event ∙ ap (λ (y : Context). y.flight) (set_here m.view.contexts c (complete_event (context_at m c) place x) place next.within)
+
+    none_before : NoneBefore m.view.cycle (context_at m c).flight place
+    none_before i lt = next.first i (omega arith) lt
+
+    none_after : NoneBefore m.view.cycle (context_at n c).flight (place + 1)
+    none_after i lt = ap (λ (es : List Entry). is_due m.view.cycle (get_or es i no_entry)) flight ∙ elim (cases_eq i place) [
+      | inl here ↦ ap (λ k. is_due m.view.cycle (get_or (complete_in (context_at m c).flight place x) k no_entry)) here ∙ done_here m.view.cycle (context_at m c).flight place x
+      | inr other ↦ let before : i < place = omega (arith, lt, other) in ap (is_due m.view.cycle) (before_same (context_at m c).flight place x i before) ∙ none_before i before
+    ]

@@ -17,3 +17,4 @@ pub mod Options
 pub mod Laws
 pub mod IssueViews
 pub mod DuePlaces
+pub mod CompletedTurns

@@ -7,3 +7,4 @@ pub mod Renamable
 pub mod First
 pub mod Turn
 pub mod Coming
+pub mod Completing

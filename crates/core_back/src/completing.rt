@@ -1,12 +1,11 @@
 //! The part of a cycle in which entries complete.
 
-ghost use Rattle.std.specs.Prelude.{◌≡◌, ◌+◌, ◌<◌, ◌≤◌, true, [], length, map};
-ghost use Rattle.core_view.specs.Events.{with_flight, completed_at, completed_from};
-ghost use Rattle.core_view.specs.View.{entry_at};
-ghost use Rattle.flight.specs.Flights.{is_due};
+ghost use Rattle.std.specs.Prelude.{◌≡◌, ℕ, ◌+◌, ◌<◌, ◌≤◌, true, false, [], map, IsTrue};
+ghost use Rattle.flight.specs.Flights.{is_due, NoneFrom};
 ghost use Rattle.lawful_cycle.specs.Complete.{IsComplete};
-ghost use Rattle.core_back.specs.Coming.{to_come, number_of};
-ghost use Rattle.core_back.specs.Machine.{IsAlike, context_at, in_flight, with_context, with_contexts, completed_context};
+ghost use Rattle.word_mask.specs.Mask.{has};
+ghost use Rattle.core_back.specs.Completing.{IsTurn};
+ghost use Rattle.core_back.specs.Machine.{IsAlike, context_at, in_flight, with_contexts, completed_context};
 
 use crate::machine::Machine;
 use join_law::Ctx;
@@ -21,7 +20,8 @@ pub struct Completion {
     pub cut: usize,
 }
 
-/// All entries that are due complete. One that an older one squashes doesn't.
+/// All entries that are due complete. One that an older one squashes doesn't. Each turn is for one entry of the first
+/// context that is left, so that no jump depends on how many a context has.
 pub fn complete<A: Allocator>(machine: &mut Machine<A>) -> Completion
     requires { machine.old.names ≡ [] }
     ensures alike { IsAlike machine.old machine.new }
@@ -32,51 +32,80 @@ pub fn complete<A: Allocator>(machine: &mut Machine<A>) -> Completion
     ensures cut_bound { result.cut ≤ 640 }
     ensures lawful { IsComplete machine.old.view machine.new.view result.completed }
 {
+    // There are eight contexts, with few entries each.
+    let _cycle = machine.cycle();
     let mut completed = 0;
     let mut cut = 0;
-    for context in Ctx::all() {
-        let done = complete_context(machine, context);
+    let mut left = hinted(machine);
+    while left != 0 {
+        let context = first_context(left);
+        let done = complete_next(machine, context);
         completed += done.completed;
         cut += done.cut;
+        let more = may_have_more(machine, context, done.completed);
+        left = word_mask::assigned(left, context.index(), more);
     }
     Completion { completed, cut }
 }
 
-/// Those of a context, oldest first.
-fn complete_context<A: Allocator>(machine: &mut Machine<A>, context: Ctx) -> Completion
-    requires { machine.old.names ≡ [] }
-    ensures completed { let x = context_at machine.old context in
-        machine.new ≡ with_context machine.old context (with_flight x (completed_at machine.old.view.cycle x.flight)) }
-    ensures contexts { length machine.old.view.contexts ≡ 8 }
-    ensures cut { let x = context_at machine.old context in result.cut + length (completed_at machine.old.view.cycle x.flight) ≡ length x.flight }
-    ensures bound { result.completed ≤ 80 }
-    ensures cut_bound { result.cut ≤ 80 }
-    ensures number { result.completed ≡ number_of machine.old.view.cycle (context_at machine.old context) }
+/// A word with a bit for each context an entry of which may be due.
+#[inline(always)]
+fn hinted<A: Allocator>(machine: &Machine<A>) -> u64
+    ensures known { (c : ℕ) → has result c ≡ true → c < 8 }
+    ensures none { (c : ℕ) → c < 8 → has result c ≡ false → NoneFrom (is_due machine.now.view.cycle) (context_at machine.now c).flight 0 }
 {
-    // `len` ensures that there are few entries.
-    let _len = machine.len(context);
-    let mut completed = 0;
-    let mut cut = 0;
-    let mut from = 0;
-    while let Some(place) = machine.next_due(context, from) {
-        let squashed = complete_place(machine, context, place);
-        completed += 1;
-        cut += squashed;
-        from = place + 1;
+    let mut word = 0;
+    for context in Ctx::all() {
+        word = word_mask::assigned(word, context.index(), machine.may_be_due(context));
     }
-    Completion { completed, cut }
+    word
 }
 
-/// The entry of a context at a place, which is due, completes. Returns how many it squashes.
-fn complete_place<A: Allocator>(machine: &mut Machine<A>, context: Ctx, place: usize) -> usize
+/// The first context of a word.
+#[inline(always)]
+fn first_context(word: u64) -> Ctx
+    requires some { 0 < word }
+    requires known { (c : ℕ) → has word c ≡ true → c < 8 }
+    ensures { has word result ≡ true }
+{
+    Ctx::new(word_mask::lowest(word)).unwrap()
+}
+
+/// Whether one more entry of a context may be due, after so many completed.
+#[inline(always)]
+fn may_have_more<A: Allocator>(machine: &Machine<A>, context: Ctx, completed: usize) -> bool
+    ensures more { IsTrue result → 0 < completed }
+    ensures none { result ≡ false → 0 < completed → NoneFrom (is_due machine.now.view.cycle) (context_at machine.now context).flight 0 }
+{
+    completed != 0 && machine.may_be_due(context)
+}
+
+/// The oldest entry of a context that is due completes, if there is one.
+#[inline(always)]
+fn complete_next<A: Allocator>(machine: &mut Machine<A>, context: Ctx) -> Completion
     requires idle { machine.old.names ≡ [] }
-    requires place { place < length (context_at machine.old context).flight }
-    requires due { is_due machine.old.view.cycle (entry_at (context_at machine.old context) place) ≡ true }
-    ensures others { machine.new ≡ with_context machine.old context (with_flight (context_at machine.old context) (context_at machine.new context).flight) }
-    ensures goes_on { let now = machine.old.view.cycle in
-        completed_from now (place + 1) (context_at machine.new context).flight ≡ completed_from now place (context_at machine.old context).flight }
-    ensures cut { result + length (context_at machine.new context).flight ≡ length (context_at machine.old context).flight }
-    ensures counted { 1 + to_come machine.old.view.cycle (place + 1) (context_at machine.new context).flight ≡ to_come machine.old.view.cycle place (context_at machine.old context).flight }
+    ensures { IsTurn machine.old machine.new context result.completed result.cut }
 {
-    machine.complete(context, place)
+    let Some(_place) = machine.complete_plain(context) else {
+        return complete_found(machine, context);
+    };
+    Completion {
+        completed: 1,
+        cut: 0,
+    }
+}
+
+/// The same, by a search.
+fn complete_found<A: Allocator>(machine: &mut Machine<A>, context: Ctx) -> Completion
+    requires idle { machine.old.names ≡ [] }
+    ensures { IsTurn machine.old machine.new context result.completed result.cut }
+{
+    let Some(place) = machine.next_due(context, 0) else {
+        return Completion {
+            completed: 0,
+            cut: 0,
+        };
+    };
+    let cut = machine.complete(context, place);
+    Completion { completed: 1, cut }
 }

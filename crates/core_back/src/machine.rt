@@ -240,6 +240,29 @@ impl<A: Allocator> Machine<A> {
         dropped
     }
 
+    /// Whether an entry of a context may be due in this cycle.
+    #[inline(always)]
+    pub fn may_be_due(&self, context: Ctx) -> bool
+        ensures { result ≡ false → NoneFrom (is_due self.now.view.cycle) (context_at self.now context).flight 0 }
+    {
+        let track = &self.tracks[context.index()];
+        track.may_be_due(self.cycle)
+    }
+
+    /// The oldest entry of a context that is due in this cycle completes, if its hint comes first and it is plain. It
+    /// squashes nothing. Returns its place.
+    #[inline(always)]
+    pub fn complete_plain(&mut self, context: Ctx) -> Option<usize>
+        requires idle { self.old.names ≡ [] }
+        ensures none { result ≡ None → self.new ≡ self.old }
+        ensures next { IfSome result (IsNext (is_due self.old.view.cycle) (context_at self.old context).flight 0) }
+        ensures completed { IfSome result (λ place. self.new ≡ with_context self.old context (complete_event (context_at self.old context) place (execution_of (entry_at (context_at self.old context) place).stage))) }
+        ensures kept { IfSome result (λ _. length (context_at self.new context).flight ≡ length (context_at self.old context).flight) }
+    {
+        let track = &mut self.tracks[context.index()];
+        events::complete_plain(&mut self.flow, track, context, self.cycle)
+    }
+
     /// The first place from one on of a context's flight whose entry is due in this cycle.
     pub fn next_due(&mut self, context: Ctx, from: usize) -> Option<usize>
         requires { from ≤ 64 }

@@ -17,7 +17,7 @@ use Rattle.core_view.specs.declared.entry.Execution.{Execution}
 use Rattle.core_view.specs.declared.entry.Stage.{Stage}
 use Rattle.core_view.specs.declared.entry.Stage.TheVariants.{Fetched, Queued, Issued, Done}
 use Rattle.core_view.specs.declared.entry.Entry.{Entry}
-use Rattle.core_view.specs.Operations.{stops_at_fetch, is_store}
+use Rattle.core_view.specs.Operations.{stops_at_fetch, is_guessed, is_store}
 use Rattle.core_view.specs.Outcomes.{Image, bytes_written}
 use Rattle.core_view.specs.Flight.{is_queued, is_done, Seen, seen_past, pc_past, is_open, span_read, bytes_in, touches, clean_length, HasOutcome, IsSoundEntry, IsSound}
 use Rattle.core_view.specs.Events.{is_mispredicted, kept_length, completed_entry, complete_in}
@@ -161,6 +161,11 @@ below_at stamp xs k x growing is =
         ]
 
 -- ---- a completion
+
+-- what isn't guessed isn't guessed wrongly
+pub guessed_right : (e : Entry) (o : Outcome) → is_guessed e.operation ≡ false → is_mispredicted_by e o ≡ false
+guessed_right e (Goes step) h = ap (λ b. b && not (e.followed == step.next)) h
+guessed_right e (Stops why) h = refl
 
 -- how many entries are left
 abbrev left_in : List Entry → ℕ → Execution → ℕ

@@ -14,7 +14,7 @@ ghost use Rattle.core_context.specs.Issuable.{IsAnswered, IsMarked, AreLetGo, mu
 ghost use Rattle.core_context.specs.Track.{is_last, retired, stopped, completed, renamed_one};
 ghost use Rattle.core_context.specs.Cores.{operands_of, AllFetched};
 ghost use Rattle.core_context.specs.Heads.{IsGoing, first_done, step_on};
-ghost use Rattle.flight.specs.Flights.{execution_of, IsIssued};
+ghost use Rattle.flight.specs.Flights.{execution_of, is_due, IsIssued, IsNext};
 ghost use Rattle.core_context.specs.Left.{IsIdleCore, IsEventAt};
 ghost use Rattle.core_context.specs.Renamable.{IsPastFront, IsRenamable};
 ghost use Rattle.core_context.specs.Steps.{retired_flow, settled_flow, completed_flow, renamed_flow, IsRemarked};
@@ -52,8 +52,30 @@ pub fn stop<A: Allocator>(flow: &mut DataFlow<A>, track: &mut Track<A>, context:
     flow.cut_from(context, 0);
 }
 
+/// The oldest entry that is due in a cycle completes, if its hint comes first and it is plain. It squashes nothing.
+/// Returns its place.
+#[inline(always)]
+pub fn complete_plain<A: Allocator>(
+    flow: &mut DataFlow<A>,
+    track: &mut Track<A>,
+    context: Ctx,
+    cycle: u64,
+) -> Option<usize>
+    requires core { IsIdleCore flow.old context track.old }
+    ensures none { result ≡ None → (flow.new ≡ flow.old) × (track.new ≡ track.old) }
+    ensures next { IfSome result (IsNext (is_due cycle) track.old.context.flight 0) }
+    ensures track { IfSome result (λ place. track.new ≡ completed track.old place (execution_of (entry_at track.old.context place).stage)) }
+    ensures kept { IfSome result (λ _. length track.new.context.flight ≡ length track.old.context.flight) }
+    ensures event { IsEventAt context flow.old flow.new track.old track.new }
+{
+    let finished = track.finish_plain(cycle)?;
+    flow.finish(context, finished.place, finished.value);
+    Some(finished.place)
+}
+
 /// The entry at a place, which is issued, completes, and squashes what it doesn't keep. Returns how many entries are
 /// squashed.
+#[inline(never)]
 pub fn complete<A: Allocator>(
     flow: &mut DataFlow<A>,
     track: &mut Track<A>,

@@ -151,6 +151,7 @@ impl<A: Allocator> DataFlow<A> {
     }
 
     /// The instruction at a place has its result.
+    #[inline(always)]
     pub fn finish(&mut self, context: Ctx, place: usize, value: u64)
         requires { place < length (lane self.old context).nodes }
         ensures { self.new ≡ with_lane self.old context (with_result (lane self.old context) place value) }

@@ -101,7 +101,7 @@ slots-differ : (base i place : ℕ) → i < 64 → place < 64 → i ≢ place �
 slots-differ base i place a b other = omega arith
 
 -- the bit of an entry that isn't due in any cycle of a word is cleared there
-pub hinted-cleared : (words : List ℕ) (base place r cycle w : ℕ) (es : List Entry) → IsHinted words base es → IsAhead r es → r ≤ 64 → place < r → length words ≡ 64 →
+pub hinted-cleared : (words : List ℕ) (base place r cycle w : ℕ) (es : List Entry) → IsHinted words base es → IsAhead r es → r ≤ 64 → place < 64 → length words ≡ 64 →
     ((x : Execution) → (entry_in es place).stage ≡ Issued x → (x.due % 64) ≢ (cycle % 64)) →
     ((j : ℕ) → j < 64 → j ≢ (base + place) % 64 → bit_at w j ≡ bit_at (get_or words (cycle % 64) 0) j) → IsHinted (set words (cycle % 64) w) base es
 hinted-cleared words base place r cycle w es h ahead few renamed size idle others i y is = by-word (eq-or (y.due % 64) (cycle % 64)) (eq-or i place)
@@ -159,7 +159,7 @@ flight-issued es fs e place r base m n words x w f within size queued is made ma
     (hinted-issued words base place es e x f.hinted (omega (arith, f.within)) size stage w bit more))
 
 -- the bit of an entry that isn't due in any cycle of a word is cleared there
-pub flight-cleared : (es : List Entry) (place r base cycle w : ℕ) (m : Marks) (words : List ℕ) → IsFlight es r base m words → place < r → length words ≡ 64 →
+pub flight-cleared : (es : List Entry) (place r base cycle w : ℕ) (m : Marks) (words : List ℕ) → IsFlight es r base m words → place < 64 → length words ≡ 64 →
     ((x : Execution) → (entry_in es place).stage ≡ Issued x → (x.due % 64) ≢ (cycle % 64)) →
     ((j : ℕ) → j < 64 → j ≢ (base + place) % 64 → bit_at w j ≡ bit_at (get_or words (cycle % 64) 0) j) → IsFlight es r base m (set words (cycle % 64) w)
 flight-cleared es place r base cycle w m words f renamed size idle others = record {
@@ -179,7 +179,7 @@ flight-finished es fs e x y place r base cycle w m n words f issued done made ma
     let long : length (take r es) ≡ r = length-take-le r es f.within in
     let word : n ≡ marks_of (set (take r es) place e) = marks (take r es) f.marked (omega arith) (omega (arith, f.few)) (ap (λ (e : Entry). e.stage) (get_or-take r es place no_entry within) ∙ issued) in
     let put = flight-put es e place r base m n words words f within word (hinted-still words base es (set es place e) f.hinted (still within)) in
-    rw made (flight-cleared (set es place e) place r base cycle w n words put within size (λ z is. absurd (idle z (sym (ap (λ (e : Entry). e.stage) (get_or-set_same es place e no_entry (omega (arith, f.within)))) ∙ is))) others)
+    rw made (flight-cleared (set es place e) place r base cycle w n words put (omega (arith, within, f.few)) size (λ z is. absurd (idle z (sym (ap (λ (e : Entry). e.stage) (get_or-set_same es place e no_entry (omega (arith, f.within)))) ∙ is))) others)
   where
     idle : (z : Execution) → e.stage ≡ Issued z → ⊥
     idle z is = done-issued y z (sym done ∙ is)

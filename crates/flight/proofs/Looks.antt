@@ -1,6 +1,6 @@
 -- What the words and the hints of a flight show of its entries.
 use Rattle.std.proofs.Common.{◌≡◌, ◌≢◌, ℕ, zero, suc, ◌+◌, ◌*◌, ◌%◌, ◌<◌, ◌≤◌, Bool, true, false, cond, List, [], ◌∷◌, length, take, get_or, Some, None, is_some, refl, sym, ◌∙◌, ap, arith, inl, inr, ◌⊎◌}
-use Rattle.std.specs.Prelude.{◌==◌, if◌then◌else◌}
+use Rattle.std.specs.Prelude.{◌==◌, if◌then◌else◌, ◌&&◌, not}
 use Rattle.std.specs.Int.{bit_at}
 use Rattle.std.proofs.lemmas.Bool.{eqb-true}
 use Rattle.std.proofs.lemmas.Bool.Decides.{nat_tests}
@@ -9,8 +9,10 @@ use Rattle.core_view.specs.declared.entry.Execution.{Execution}
 use Rattle.core_view.specs.declared.entry.Stage.{Stage}
 use Rattle.core_view.specs.declared.entry.Stage.TheVariants.{Fetched, Queued, Issued, Done}
 use Rattle.core_view.specs.Events.{due_at}
+use Rattle.core_view.specs.Flight.{is_open_guess, is_done}
+use Rattle.core_view.specs.Operations.{is_guessed}
 use Rattle.flight.specs.Marked.{word_of}
-use Rattle.flight.specs.Flights.{entry_in, IsHinted, IsAhead, NoneFrom, IsNext, is_due}
+use Rattle.flight.specs.Flights.{entry_in, IsHinted, IsAhead, NoneFrom, IsNext, IsIssued, is_due}
 use Rattle.flight.proofs.Words.{bit-clear, bit-set}
 
 -- ---- cases of places
@@ -40,6 +42,27 @@ stage-not-due words slot cycle (Issued x) h clear = go (x.due == cycle) refl
 -- an entry whose slot has no bit in the word of a cycle isn't due then
 pub not-due : (words : List ℕ) (base cycle i : ℕ) (es : List Entry) → IsHinted words base es → bit_at (get_or words (cycle % 64) 0) ((base + i) % 64) ≡ 0 → is_due cycle (entry_in es i) ≡ false
 not-due words base cycle i es h clear = stage-not-due words ((base + i) % 64) cycle (entry_in es i).stage (h i) clear
+
+-- what is due is issued
+pub due-issued : (cycle : ℕ) (s : Stage) → is_some (due_at cycle s) ≡ true → IsIssued s
+due-issued cycle Fetched d = absurd cc
+due-issued cycle Queued d = absurd cc
+due-issued cycle (Issued x) d = refl
+due-issued cycle (Done x) d = absurd cc
+
+-- an entry that is due is a guess where its bit of open guesses is set
+pub unguessed : (cycle : ℕ) (e : Entry) → is_due cycle e ≡ true → is_open_guess e ≡ false → is_guessed e.operation ≡ false
+unguessed cycle e due closed = go e.stage due closed
+  where
+    and-true : (b : Bool) → (b && true) ≡ false → b ≡ false
+    and-true true is = is
+    and-true false is = is
+
+    go : (s : Stage) → is_some (due_at cycle s) ≡ true → (is_guessed e.operation && not (is_done s)) ≡ false → is_guessed e.operation ≡ false
+    go Fetched d is = absurd cc
+    go Queued d is = absurd cc
+    go (Done x) d is = absurd cc
+    go (Issued x) d is = and-true (is_guessed e.operation) is
 
 -- ---- along a loop
 

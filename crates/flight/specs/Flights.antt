@@ -1,5 +1,5 @@
 -- A flight and what each event makes of it.
-use Rattle.std.specs.Prelude.{◌≡◌, ℕ, ◌+◌, ◌-◌, ◌%◌, ◌<◌, ◌≤◌, min, Bool, true, false, is_some, List, [], ◌∷◌, ◌++◌, length, take, drop, slice_set, slice_index_or, count_by}
+use Rattle.std.specs.Prelude.{◌≡◌, ℕ, ◌+◌, ◌-◌, ◌%◌, ◌<◌, ◌≤◌, min, Bool, true, false, is_some, Some, List, [], ◌∷◌, ◌++◌, length, take, drop, slice_set, slice_index_or, count_by}
 use Rattle.std.specs.Int.{bit_at}
 use Rattle.reorder_buffer.specs.Growing.{below}
 use Rattle.core_view.specs.declared.entry.Execution.{Execution}
@@ -9,8 +9,10 @@ use Rattle.core_view.specs.declared.entry.Stage.{Stage}
 use Rattle.core_view.specs.declared.entry.Stage.TheVariants.{Fetched, Queued, Issued, Done}
 use Rattle.core_view.specs.declared.entry.Entry.{Entry}
 use Rattle.core_view.specs.View.{no_entry}
-use Rattle.core_view.specs.Operations.{is_guessed}
+use Rattle.core_view.specs.Operations.{is_guessed, is_store}
+use Rattle.core_view.specs.Flight.{result_in}
 use Rattle.core_view.specs.Events.{with_stage, renamed_stage, completed_entry, due_at}
+use Rattle.flight.specs.declared.finished.Finished.{Finished}
 use Rattle.flight.specs.declared.marks.Marks.{Marks}
 use Rattle.flight.specs.Marked.{marks_of}
 
@@ -85,6 +87,14 @@ pub record IsNext (test : Entry → Bool) (es : List Entry) (from place : ℕ) :
   pub within : place < length es
   pub passes : test (entry_in es place) ≡ true
   pub first : (i : ℕ) → from ≤ i → i < place → test (entry_in es i) ≡ false
+
+-- the first entry that is due in a cycle is plain, no guess and no store, and has this result
+pub record IsPlain (cycle : ℕ) (es : List Entry) (f : Finished) : Type 0 where
+  pub next : IsNext (is_due cycle) es 0 f.place
+  pub issued : IsIssued (entry_in es f.place).stage
+  pub guessed : is_guessed (entry_in es f.place).operation ≡ false
+  pub store : is_store (entry_in es f.place).operation ≡ false
+  pub result : result_in (execution_of (entry_in es f.place).stage).outcome ≡ Some f.value
 
 -- ---- what is true of a flight
 

@@ -1,6 +1,6 @@
 //! The entries of a context in flight.
 
-ghost use Rattle.std.specs.Prelude.{◌≡◌, ◌≢◌, ℕ, ◌+◌, ◌-◌, ◌<◌, ◌≤◌, ◌%◌, Bool, true, false, [], ◌∷◌, ◌++◌, length, take, drop, slice_get, slice_set, option_copied, IfOk, IfSome, IsTrue, MatchOption, All, count_by};
+ghost use Rattle.std.specs.Prelude.{◌≡◌, ◌≢◌, ℕ, ◌+◌, ◌-◌, ◌<◌, ◌≤◌, ◌%◌, Bool, true, false, [], ◌∷◌, ◌++◌, length, take, drop, slice_get, slice_set, option_copied, None, Some, IfOk, IfSome, IsTrue, MatchOption, All, count_by};
 ghost use Rattle.std.specs.List.{list_any};
 ghost use Rattle.circular_buffer.specs.Buffer.{buffer, last_item};
 ghost use Rattle.reorder_buffer.specs.Growing.{IsGrowing};
@@ -8,12 +8,14 @@ ghost use Rattle.core_view.specs.declared.entry.Stage.TheVariants.{Fetched, Queu
 ghost use Rattle.core_view.specs.Events.{due_at};
 ghost use Rattle.core_view.specs.declared.entry.Entry.{Entry};
 ghost use Rattle.core_view.specs.declared.entry.Execution.{Execution};
-ghost use Rattle.core_view.specs.Flight.{is_done, is_open_guess, is_missed_load};
+ghost use Rattle.core_view.specs.Flight.{is_done, is_open_guess, is_missed_load, result_in};
+ghost use Rattle.core_view.specs.Operations.{is_store};
 ghost use Rattle.flight.specs.Marked.{is_waiting, is_waiting_load, word_of};
-ghost use Rattle.flight.specs.Flights.{entry_in, empty_flight, fetched_one, renamed_one, issued_one, finished_one, retired_one, none_left, cut_at, execution_of, IsIssued, guesses_ahead, is_due, NoneFrom, IsNext};
+ghost use Rattle.flight.specs.Flights.{entry_in, empty_flight, fetched_one, renamed_one, issued_one, finished_one, retired_one, none_left, cut_at, execution_of, IsIssued, guesses_ahead, is_due, NoneFrom, IsNext, IsPlain};
 
+use crate::finished::Finished;
 use crate::marks::Marks;
-use bit_vector::{clear_slot, count, next, set_slot, turn};
+use bit_vector::{clear_slot, count, has, next, set_slot, turn};
 use core_view::{Entry, Execution, Stage};
 use reorder_buffer::Ring;
 use std::alloc::{AllocError, Allocator, Global};
@@ -154,6 +156,7 @@ impl<A: Allocator> Flight<A> {
     }
 
     /// The entry at a place, which is issued, completes. Nothing is cut.
+    #[inline(always)]
     pub fn finish(&mut self, place: usize)
         requires place { place < length self.old.entries }
         requires issued { IsIssued (entry_in self.old.entries place).stage }
@@ -266,6 +269,30 @@ impl<A: Allocator> Flight<A> {
         }
     }
 
+    /// Whether an entry may be due in a cycle.
+    #[inline(always)]
+    pub fn may_be_due(&self, cycle: u64) -> bool
+        ensures { result ≡ false → (i : ℕ) → is_due cycle (entry_in self.now.entries i) ≡ false }
+    {
+        self.hints[(cycle % 64) as usize] != 0
+    }
+
+    /// The oldest entry that is due in a cycle completes, if its hint comes first and it is plain. Nothing is cut.
+    #[inline(always)]
+    pub fn finish_plain(&mut self, cycle: u64) -> Option<Finished>
+        ensures none { result ≡ None → self.new ≡ self.old }
+        ensures plain { IfSome result (IsPlain cycle self.old.entries) }
+        ensures done { IfSome result (λ f. self.new ≡ finished_one self.old f.place (execution_of (entry_in self.old.entries f.place).stage)) }
+    {
+        let place = self.next_hint(cycle, 0);
+        if place >= self.renamed_count() || has(self.marks.open_guesses, place) {
+            return None;
+        }
+        let value = plain_result(at(&self.ring, place), cycle)?;
+        self.finish(place);
+        Some(Finished { place, value })
+    }
+
     /// The first place from one on whose entry is due in a cycle. Bits of what was cut are cleared on the way.
     pub fn next_due(&mut self, cycle: u64, from: usize) -> Option<usize>
         requires { from ≤ 64 }
@@ -273,12 +300,11 @@ impl<A: Allocator> Flight<A> {
         ensures renamed { IfSome result (λ place. place < self.old.renamed) }
         ensures same { self.new ≡ self.old }
     {
-        if self.has_no_hint(cycle) {
-            return None;
-        }
+        // What is not renamed, as all from place 64 on, is fetched.
+        let _ring = &self.ring;
         let mut place = self.next_hint(cycle, from);
-        while place < self.renamed_count() {
-            if at(&self.ring, place).stage.due(cycle).is_some() {
+        while place < 64 {
+            if self.is_due(cycle, place) {
                 return Some(place);
             }
             self.clear_hint(cycle, place);
@@ -287,12 +313,14 @@ impl<A: Allocator> Flight<A> {
         None
     }
 
-    /// Whether no entry may be due in a cycle.
+    /// Whether the entry at a place is renamed and due in a cycle.
     #[inline]
-    fn has_no_hint(&self, cycle: u64) -> bool
-        ensures { IsTrue result → (i : ℕ) → is_due cycle (entry_in self.now.entries i) ≡ false }
+    fn is_due(&self, cycle: u64, place: usize) -> bool
+        ensures value { result ≡ is_due cycle (entry_in self.now.entries place) }
+        ensures renamed { IsTrue result → place < self.now.renamed }
+        ensures within { IsTrue result → place < length self.now.entries }
     {
-        self.hints[(cycle % 64) as usize] == 0
+        place < self.renamed_count() && at(&self.ring, place).stage.due(cycle).is_some()
     }
 
     /// The first place from one on that may be due in a cycle, or 64.
@@ -306,14 +334,21 @@ impl<A: Allocator> Flight<A> {
         next(turn(self.hints[(cycle % 64) as usize], self.base), from)
     }
 
+    /// Whether the entry at a place is issued and due a number of times 64 cycles from a cycle.
+    #[inline]
+    fn is_due_in_round(&self, cycle: u64, place: usize) -> bool
+        ensures { result ≡ false → (x : Execution) → (entry_in self.now.entries place).stage ≡ Issued x → x.due % 64 ≢ cycle % 64 }
+    {
+        place < self.renamed_count() && is_due_in_round(at(&self.ring, place), cycle)
+    }
+
     /// The entry at a place that isn't due in a cycle loses its bit there, unless it is due so many times 64 later.
     #[inline]
     fn clear_hint(&mut self, cycle: u64, place: usize)
-        requires { place < self.old.renamed }
+        requires { place < 64 }
         ensures { self.new ≡ self.old }
     {
-        let _len = self.ring.len();
-        if is_due_in_round(at(&self.ring, place), cycle) {
+        if self.is_due_in_round(cycle, place) {
             return;
         }
         let word = (cycle % 64) as usize;
@@ -348,6 +383,22 @@ fn set_in<A: Allocator>(ring: &mut Ring<Entry, A>, place: usize, entry: Entry)
     ensures { ring.new ≡ buffer (slice_set ring.old.items place entry) ring.old.capacity }
 {
     ring.set(place, entry);
+}
+
+/// The result of an entry that is due in a cycle, if it is no store and doesn't stop.
+#[inline(always)]
+fn plain_result(entry: &Entry, cycle: u64) -> Option<u64>
+    ensures due { IfSome result (λ _. is_due cycle entry.now ≡ true) }
+    ensures store { IfSome result (λ _. is_store entry.now.operation ≡ false) }
+    ensures result { IfSome result (λ value. result_in (execution_of entry.now.stage).outcome ≡ Some value) }
+{
+    let Stage::Issued { execution } = &entry.stage else {
+        return None;
+    };
+    if execution.due != cycle || entry.operation.is_store() {
+        return None;
+    }
+    execution.outcome.result()
 }
 
 /// How many entries from a place on are guessed.

@@ -2,8 +2,10 @@
 //! what is asked in each cycle.
 #![tactic(auto)]
 
+mod finished;
 mod flight;
 mod marks;
 
+pub use finished::Finished;
 pub use flight::Flight;
 pub use marks::Marks;

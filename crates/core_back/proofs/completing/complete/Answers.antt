@@ -1,41 +1,56 @@
-use Rattle.std.proofs.Common.{arith, ap, sym, subst, ◌∙◌, ◌≡◌, ◌+◌, ◌<◌, get_or, length, List, ℕ, refl}
-use Rattle.core_back.specs.Machine.{Machine, context_at, with_context, with_contexts, completed_context}
-use Rattle.core_back.specs.Coming.{number_of}
-use Rattle.core_back.proofs.CompletedCount.{sum_to, sum_first, sum_next, number_now, complete_lawful}
-use Rattle.core_back.proofs.InFlight.{in_flight-with_context}
-use Rattle.core_back.proofs.ContextByContext.{mapped_all, mapped_alike, mapped_length, mapped_next, nth_context}
+use Rattle.std.proofs.Common.{◌≡◌, ℕ, sym, ap, subst, ◌∙◌, arith}
+use Rattle.std.specs.Prelude.{◌==◌, if◌then◌else◌}
+use Rattle.word_mask.specs.Mask.{has}
+use Rattle.core_back.specs.Machine.{with_contexts, completed_context}
+use Rattle.core_back.proofs.ContextByContext.{mapped_all, mapped_alike}
+use Rattle.core_back.proofs.CompletedCount.{complete_lawful}
+use Rattle.core_back.proofs.CompletedTurns.{turned_first, turned_next, turned_cut, turned_all, turned_number, less_left, none_left, has_none, total_most, in_flight_most}
 use Rattle.core_back.proofs.completing.complete.Goals as goal
 
-pub loop-context-preserved : goal.loop-context-preserved
-loop-context-preserved g c =
-    let place : get_or c.all-context-items.result c.loop-context.context-index c.context-item.result ≡ c.loop-context.context-index =
-    ap (λ (xs : List ℕ). get_or xs c.loop-context.context-index c.context-item.result) c.all-context-items.ensures ∙ nth_context c.loop-context.context-index c.context-item.result c.loop-context-test.true in
-    let count = mapped_length (completed_context c.args.machine.now.view.cycle) c.loop-context.context-index c.args.machine.now.view.contexts in
-    let step = subst (λ i. c.complete_context-done.new.machine ≡ with_context c.loop-context.machine i (completed_context c.loop-context.machine.view.cycle (context_at c.loop-context.machine i))) place c.complete_context-done.ensures.completed in
-    let lost = subst (λ i. c.complete_context-done.result.cut + length (completed_context c.loop-context.machine.view.cycle (context_at c.loop-context.machine i)).flight ≡ length (context_at c.loop-context.machine i).flight) place c.complete_context-done.ensures.cut in
-    let here : c.loop-context.context-index < length c.loop-context.machine.view.contexts = omega (arith, c.loop-context-test.true, c.complete_context-done.ensures.contexts) in
-    let fewer = in_flight-with_context c.loop-context.machine c.complete_context-done.new.machine c.loop-context.context-index (completed_context c.loop-context.machine.view.cycle (context_at c.loop-context.machine c.loop-context.context-index)) c.complete_context-done.result.cut step here lost in
-    record {
-      so_far = mapped_next c.args.machine.now c.loop-context.machine c.complete_context-done.new.machine c.loop-context.context-index c.loop-context.invariant.so_far step;
-      contexts = λ some. sym (ap (λ (m : Machine). length m.view.contexts) c.loop-context.invariant.so_far ∙ count) ∙ c.complete_context-done.ensures.contexts;
-      number = sum_next (λ d. number_of c.args.machine.now.view.cycle (context_at c.args.machine.now d)) c.loop-context.context-index c.loop-context.completed c.complete_context-done.result.completed c.loop-context.invariant.number
-          (subst (λ i. c.complete_context-done.result.completed ≡ number_of c.loop-context.machine.view.cycle (context_at c.loop-context.machine i)) place c.complete_context-done.ensures.number
-          ∙ number_now c.args.machine.now c.loop-context.machine c.loop-context.context-index c.loop-context.invariant.so_far);
-      cut = omega (arith, c.loop-context.invariant.cut, fewer);
-      count = omega (arith, c.loop-context.invariant.count, c.complete_context-done.ensures.bound);
-      cut_count = omega (arith, c.loop-context.invariant.cut_count, c.complete_context-done.ensures.cut_bound);
-    }
+pub loop-left-init : goal.loop-left-init
+loop-left-init g c = turned_first c.args.machine.now c.hinted-left.result c.cycle-cycle.ensures.contexts c.hinted-left.ensures.known c.hinted-left.ensures.none
+
+pub overflow_add-completed : goal.overflow_add-completed
+overflow_add-completed g c = omega (arith, c.loop-left.invariant.number, total_most c.args.machine.now.view.cycle c.args.machine.now c.cycle-cycle.ensures.few, c.complete_next-done.ensures.one)
+
+pub overflow_add-cut : goal.overflow_add-cut
+overflow_add-cut g c =
+    let most = in_flight_most c.args.machine.now c.cycle-cycle.ensures.contexts c.cycle-cycle.ensures.few in
+    omega (
+      arith,
+      most,
+      turned_cut c.args.machine.now c.loop-left.machine c.complete_next-done.new.machine c.loop-left.left c.first_context-context.result c.loop-left.completed c.loop-left.cut _ _ c.loop-left.invariant c.complete_next-done.ensures
+          (c.loop-left.invariant.known c.first_context-context.result c.first_context-context.ensures),
+    )
+
+pub loop-left-smaller : goal.loop-left-smaller
+loop-left-smaller g c =
+    let word = subst (λ i. (p : ℕ) → has c.assigned-left.result p ≡ (if p == i then c.may_have_more-more.result else has c.loop-left.left p)) c.index.ensures.value c.assigned-left.ensures in
+    less_left c.args.machine.now c.loop-left.machine c.complete_next-done.new.machine c.loop-left.left c.assigned-left.result c.first_context-context.result c.loop-left.completed c.loop-left.cut c.complete_next-done.result.completed c.complete_next-done.result.cut c.may_have_more-more.result
+    c.loop-left.invariant c.complete_next-done.ensures c.first_context-context.ensures word c.may_have_more-more.ensures.more
+
+pub loop-left-preserved : goal.loop-left-preserved
+loop-left-preserved g c =
+    let word = subst (λ i. (p : ℕ) → has c.assigned-left.result p ≡ (if p == i then c.may_have_more-more.result else has c.loop-left.left p)) c.index.ensures.value c.assigned-left.ensures in
+    turned_next c.args.machine.now c.loop-left.machine c.complete_next-done.new.machine c.loop-left.left c.assigned-left.result c.first_context-context.result c.loop-left.completed c.loop-left.cut c.complete_next-done.result.completed c.complete_next-done.result.cut c.may_have_more-more.result
+    c.loop-left.invariant c.complete_next-done.ensures c.first_context-context.ensures word
+    (λ none. none_left c.loop-left.machine c.complete_next-done.new.machine c.first_context-context.result c.complete_next-done.result.completed c.complete_next-done.result.cut c.complete_next-done.ensures (c.may_have_more-more.ensures.none none))
+
+pub returns-clause-completed : goal.returns-clause-completed
+returns-clause-completed g c =
+    turned_all c.args.machine.now c.loop-left.machine c.loop-left.left c.loop-left.completed c.loop-left.cut c.cycle-cycle.ensures.contexts c.loop-left.invariant (λ d. ap (λ w. has w d) c.loop-left-test.false ∙ has_none d)
 
 pub returns-clause-alike : goal.returns-clause-alike
-returns-clause-alike g c = mapped_alike c.args.machine.now c.loop-context.machine c.loop-context.context-index c.loop-context.invariant.so_far
+returns-clause-alike g c =
+    mapped_alike c.args.machine.now c.loop-left.machine 8 (returns-clause-completed g c ∙ ap (with_contexts c.args.machine.now) (sym (mapped_all (completed_context c.args.machine.now.view.cycle) 8 c.args.machine.now.view.contexts (omega (arith, c.cycle-cycle.ensures.contexts)))))
+
+pub returns-clause-bound : goal.returns-clause-bound
+returns-clause-bound g c = omega (arith, c.loop-left.invariant.number, total_most c.args.machine.now.view.cycle c.args.machine.now c.cycle-cycle.ensures.few)
+
+pub returns-clause-cut_bound : goal.returns-clause-cut_bound
+returns-clause-cut_bound g c = omega (arith, c.loop-left.invariant.fewer, in_flight_most c.args.machine.now c.cycle-cycle.ensures.contexts c.cycle-cycle.ensures.few)
 
 pub returns-clause-lawful : goal.returns-clause-lawful
 returns-clause-lawful g c =
-    let end : c.loop-context.context-index ≡ 8 = omega (arith, c.loop-context-test.false, c.loop-context.auto.context-index-end) in
-    let count : length c.args.machine.now.view.contexts ≡ 8 = c.loop-context.invariant.contexts (omega (arith, end)) in
-    complete_lawful c.args.machine.now c.loop-context.machine c.loop-context.completed count
-    (c.loop-context.invariant.so_far ∙ ap (with_contexts c.args.machine.now) (mapped_all (completed_context c.args.machine.now.view.cycle) c.loop-context.context-index c.args.machine.now.view.contexts (omega (arith, end, count))))
-    (subst (λ k. c.loop-context.completed ≡ sum_to (λ d. number_of c.args.machine.now.view.cycle (context_at c.args.machine.now d)) k) end c.loop-context.invariant.number)
-
-pub loop-context-init : goal.loop-context-init
-loop-context-init g c = record { so_far = refl; contexts = λ some. absurd (omega (arith, some)); number = sum_first (λ d. number_of c.args.machine.now.view.cycle (context_at c.args.machine.now d)); cut = omega arith; count = omega arith; cut_count = omega arith }
+    complete_lawful c.args.machine.now c.loop-left.machine c.loop-left.completed c.cycle-cycle.ensures.contexts (returns-clause-completed g c)
+    (turned_number c.args.machine.now c.loop-left.machine c.loop-left.left c.loop-left.completed c.loop-left.cut c.loop-left.invariant (λ d. ap (λ w. has w d) c.loop-left-test.false ∙ has_none d))

@@ -3,7 +3,7 @@ use Rattle.std.specs.Int.{bit_at}
 use Rattle.std.proofs.lemmas.Nat.Bits.{bit_at-zero}
 use Rattle.flight.specs.Flights.{Flight, entry_in, is_due}
 use Rattle.flight.proofs.Looks.{not-due}
-use Rattle.flight.proofs.flight.Flight.has_no_hint.Goals as goal
+use Rattle.flight.proofs.flight.Flight.may_be_due.Goals as goal
 
 pub returns : goal.returns
 returns g c none i =

@@ -1,0 +1,45 @@
+use Rattle.std.proofs.Common.{length, refl, ap, subst, ◌∙◌, arith}
+use Rattle.std.specs.Prelude.{IfSome}
+use Rattle.core_view.specs.View.{Context, entry_at}
+use Rattle.core_view.specs.Events.{complete_event}
+use Rattle.flight.specs.Flights.{execution_of, is_due, IsNext}
+use Rattle.core_context.specs.Track.{Track}
+use Rattle.core_back.specs.Machine.{Machine, context_at}
+use Rattle.core_back.proofs.Machines.{at_context, is_idle, machine_after_event, shown_after, shown_same, shown_length}
+use Rattle.core_back.proofs.Options.{some_of}
+use Rattle.core_back.proofs.machine.Machine.complete_plain.Goals as goal
+
+pub complete_plain-requires : goal.complete_plain-requires
+complete_plain-requires g c =
+    let h = at_context c.self.inside c.args.self.now c.args.context c.index.result c.index_mut-track.result.now c.self.view_is c.self.invariant (omega (arith, c.index.ensures)) c.index.ensures.value c.index_mut-track.ensures.value in
+    record { core = is_idle c.self.inside c.args.self.now c.args.context c.index_mut-track.result.now c.self.view_is c.requires.idle (omega (arith, c.index.ensures)) h }
+
+pub invariant_of-self : goal.invariant_of-self
+invariant_of-self g c =
+    let h = at_context c.self.inside c.args.self.now c.args.context c.index.result c.index_mut-track.result.now c.self.view_is c.self.invariant (omega (arith, c.index.ensures)) c.index.ensures.value c.index_mut-track.ensures.value in
+    machine_after_event c.self.inside _ c.args.self.now c.args.context c.index.result c.index_mut-track.result.now c.complete_plain.new.track c.complete_plain.new.flow c.self.view_is c.self.invariant c.requires.idle (omega (arith, c.index.ensures)) h c.complete_plain.ensures.event
+    c.index.ensures.value refl refl refl refl refl refl refl refl refl
+
+pub returns-clause-none : goal.returns-clause-none
+returns-clause-none g c none =
+    let h = at_context c.self.inside c.args.self.now c.args.context c.index.result c.index_mut-track.result.now c.self.view_is c.self.invariant (omega (arith, c.index.ensures)) c.index.ensures.value c.index_mut-track.ensures.value in
+    shown_same c.self.inside c.args.self.now c.args.context c.index.result c.complete_plain.new.track c.self.view_is c.index.ensures.value (ap (λ (u : Track). u.context) (c.complete_plain.ensures.none none).1 ∙ h.context)
+
+pub returns-clause-next : goal.returns-clause-next
+returns-clause-next g c =
+    let h = at_context c.self.inside c.args.self.now c.args.context c.index.result c.index_mut-track.result.now c.self.view_is c.self.invariant (omega (arith, c.index.ensures)) c.index.ensures.value c.index_mut-track.ensures.value in
+    subst (λ k. IfSome c.complete_plain.result (IsNext (is_due k) (context_at c.args.self.now c.args.context).flight 0)) (ap (λ (v : Machine). v.view.cycle) c.self.view_is)
+    (subst (λ (x : Context). IfSome c.complete_plain.result (IsNext (is_due c.self.inside.cycle) x.flight 0)) h.context c.complete_plain.ensures.next)
+
+pub returns-clause-completed : goal.returns-clause-completed
+returns-clause-completed g c =
+    let h = at_context c.self.inside c.args.self.now c.args.context c.index.result c.index_mut-track.result.now c.self.view_is c.self.invariant (omega (arith, c.index.ensures)) c.index.ensures.value c.index_mut-track.ensures.value in
+    some_of c.complete_plain.result c.complete_plain.ensures.track (λ place is. shown_after c.self.inside c.args.self.now c.args.context c.index.result c.complete_plain.new.track _ c.self.view_is c.index.ensures.value
+    (ap (λ (t : Track). t.context) is ∙ ap (λ (x : Context). complete_event x place (execution_of (entry_at x place).stage)) h.context))
+
+pub returns-clause-kept : goal.returns-clause-kept
+returns-clause-kept g c =
+    let h = at_context c.self.inside c.args.self.now c.args.context c.index.result c.index_mut-track.result.now c.self.view_is c.self.invariant (omega (arith, c.index.ensures)) c.index.ensures.value c.index_mut-track.ensures.value in
+    let as_shown = ap (λ (x : Context). length x.flight) h.context in
+    some_of c.complete_plain.result c.complete_plain.ensures.kept (λ place kept.
+    let same = shown_length c.self.inside c.args.context c.index.result c.complete_plain.new.track h.in_tracks c.index.ensures.value 0 (length (context_at c.args.self.now c.args.context).flight) (omega (arith, kept, as_shown)) in omega (arith, same))
