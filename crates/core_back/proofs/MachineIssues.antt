@@ -5,7 +5,7 @@ use Rattle.std.proofs.lemmas.List.Elements.{All-filter}
 use Rattle.std.proofs.lemmas.Bool.{cases_lt, lt-ltb, or_parts}
 use Rattle.std.proofs.lemmas.Bool.Decides.{nat_tests}
 use Rattle.std.specs.Arc.{arc_value}
-use Rattle.std.proofs.lemmas.List.{get_or-set_same, get_or-set_other, get_or_past, length-set, map-set}
+use Rattle.std.proofs.lemmas.List.{get_or_read, get_or-set_same, get_or-set_other, get_or_past, length-set, map-set}
 use Rattle.core_view.specs.declared.note.EntryId.{EntryId}
 use Rattle.origin_set.specs.Start.{start}
 use Rattle.core_view.specs.View.{Context, entry_at, seen_at}
@@ -16,7 +16,7 @@ use Rattle.core_view.specs.declared.entry.Stage.TheVariants.{Queued}
 use Rattle.core_back.specs.declared.machine.Machine.TheInside.{Inside}
 use Rattle.data_flow.specs.Flow.{Flow, lane, queued, waits_in, sources_at, released}
 use Rattle.core_context.specs.Track.{Track, issued}
-use Rattle.core_context.specs.Issuable.{may_issue_at, IsMarked, AreLetGo, AreHeld, IsClear}
+use Rattle.core_context.specs.Issuable.{may_issue_at, IsMarked, AreLetGo, AreHeld, HoldsNone, IsClear}
 use Rattle.data_tags.specs.declared.delay.Kind.{Kind}
 use Rattle.data_tags.specs.declared.delay.Lag.{Lag}
 use Rattle.lawful_cycle.specs.Delays.{kind_of, address_in, IsLagOf}
@@ -26,7 +26,7 @@ use Rattle.core_context.specs.Steps.{IsRemarked}
 use Rattle.core_context.specs.Cores.{is_selected, IsCore}
 use Rattle.core_back.specs.Machine.{Machine, context_at, with_context, no_track}
 use Rattle.core_back.specs.Shown.{machine_of, IsMachine, AreApart, IsSuppliedIn}
-use Rattle.core_context.proofs.Laws.{remarked_twice, remarked_lane, held_kept, issued_clear, released_remarked, released_all, let_go_marked, core_sources, issue_core, issue_other, eight-remarked, node_count}
+use Rattle.core_context.proofs.Laws.{remarked_twice, remarked_lane, held_kept, issued_clear, released_remarked, released_all, let_go_marked, core_answered, core_sources, issue_core, issue_other, eight-remarked, node_count}
 use Rattle.core_back.proofs.Machines.{At, at_context, idle_names, room_after}
 use Rattle.core_back.proofs.Selections.{first_apart, rest_apart, ready_place, name_selected, remarked_core, select_core, select_waiters, select_apart, select_supplied, select_free, select_clear, select_idle}
 use Rattle.core_back.proofs.Chosen.{is_chosen}
@@ -50,6 +50,10 @@ some_names (n ∷ names) empty is no_names = omega arith
 -- the place that was found is that of the stamp
 pub found_place : (t : Track) (k : ℕ) (found : Option ℕ) (i : ℕ) → IfSome found (λ j. (j < length t.context.flight) × ((entry_at t.context j).stamp ≡ k)) → found ≡ Some i → (i < length t.context.flight) × ((entry_at t.context i).stamp ≡ k)
 found_place t k found i h is = subst (λ (o : Option ℕ). IfSome o (λ j. (j < length t.context.flight) × ((entry_at t.context j).stamp ≡ k))) is h
+
+-- a context is that of its number
+pub numbered : (found : Option ℕ) (c number : ℕ) → IfSome found (λ d. d ≡ number) → found ≡ Some c → c ≡ number
+numbered found c number h is = subst (λ (o : Option ℕ). IfSome o (λ d. d ≡ number)) is h
 
 -- what was read has the values that there are
 pub some_sources : (sources read : Option (ℕ × ℕ)) → sources ≡ read → is_some read ≡ true → is_some sources ≡ true
@@ -241,6 +245,13 @@ context_of cs i d is lt = rw is (by_place i lt)
     by_place (suc (suc (suc (suc (suc (suc (suc zero))))))) lt = refl
     by_place (suc (suc (suc (suc (suc (suc (suc (suc i)))))))) lt = absurd (omega arith)
 
+-- one more context of which none has to wait
+pub unheld_next : (ts : List Track) (n : ℕ) (t : Track) → n < length ts → t ≡ get_or ts n t → HoldsNone t → ((c : ℕ) → c < n → HoldsNone (get_or ts c no_track)) → (c : ℕ) → c < n + 1 → HoldsNone (get_or ts c no_track)
+unheld_next ts n t within read none before c lt = elim (cases_lt c n) [
+  | inl first ↦ before c first
+  | inr from ↦ let last : c ≡ n = omega (arith, lt, from) in subst (λ i. HoldsNone (get_or ts i no_track)) (sym last) (subst HoldsNone (get_or_read ts n t within read no_track) none)
+]
+
 module _ {A : Type 0} where
   -- the loads of the first contexts were asked of, and nothing but what is held has changed
   pub record IsHeldTo (m h : Inside A) (n : ℕ) : Type 0 where
@@ -268,6 +279,21 @@ module _ {A : Type 0} where
     held = λ c lt. absurd (omega (arith, lt));
     rest = λ c le k. let_go_marked h.flow (released_all m.flow h.flow is) c k;
     none = λ unheld. released_all m.flow h.flow is;
+  }
+
+  -- the first contexts, of which none has to wait, are asked of already
+  pub held_to_first : (m h : Inside A) (n : ℕ) → IsMachine m → n ≤ 8 → ((c : ℕ) → c < n → HoldsNone (get_or m.tracks.items c no_track)) → IsHeldTo m h 0 → IsHeldTo m h n
+  held_to_first m h n ok few none first = record {
+    origins = first.origins;
+    flow = first.flow;
+    tracks = first.tracks;
+    cycle = first.cycle;
+    stamp = first.stamp;
+    room = first.room;
+    profile = first.profile;
+    held = λ c lt. none c lt h.flow c (λ i under. core_answered (ok.cores c (omega (arith, lt, few))) i (omega (arith, under))) (first.rest c (omega arith));
+    rest = λ c le. first.rest c (omega arith);
+    none = first.none;
   }
 
   -- the machine as it was before

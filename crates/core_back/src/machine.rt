@@ -1,6 +1,6 @@
 //! Eight contexts, and the data flow that they share.
 
-ghost use Rattle.std.specs.Prelude.{◌≡◌, ℕ, ◌+◌, ◌-◌, ◌<◌, ◌≤◌, ◌^◌, ◌&&◌, ◌==◌, false, not, length, count_by, slice_get, slice_index, [], IfOk, IfSome, MatchOption, Some, None};
+ghost use Rattle.std.specs.Prelude.{◌≡◌, ℕ, ◌+◌, ◌-◌, ◌<◌, ◌≤◌, ◌^◌, ◌&&◌, ◌==◌, false, not, length, count_by, slice_get, slice_index, slice_index_or, [], IfOk, IfSome, MatchOption, Some, None};
 ghost use Rattle.core_view.specs.declared.outcome.Outcome.TheVariants.{Stops};
 ghost use Rattle.core_view.specs.Events.{retire_event, stop_event, complete_event};
 ghost use Rattle.core_view.specs.Operations.{is_guessed};
@@ -9,9 +9,10 @@ ghost use Rattle.lawful_cycle.specs.Rename.{CanRename};
 ghost use Rattle.core_view.specs.Flight.{is_queued, is_missed_load};
 ghost use Rattle.lawful_cycle.specs.Fetch.{is_fetched, is_eligible, oldest_place};
 ghost use Rattle.origin_set.specs.Start.{start};
-ghost use Rattle.core_back.specs.Machine.{IsAlike, context_at, in_flight, with_context, with_cycle, IsNextOf};
+ghost use Rattle.core_back.specs.Machine.{IsAlike, context_at, in_flight, with_context, with_cycle, no_track, IsNextOf};
 ghost use Rattle.flight.specs.Flights.{execution_of, IsIssued as IsIssuedStage, is_due, NoneFrom, IsNext};
 ghost use Rattle.core_context.specs.Heads.{IsGoing, first_done, step_on};
+ghost use Rattle.core_context.specs.Issuable.{HoldsNone};
 ghost use Rattle.core_back.specs.Selected.{IsChosen};
 ghost use Rattle.core_back.specs.Issued.{IsIssued};
 ghost use Rattle.core_back.specs.Fetched.{IsRenamed, IsFetched};
@@ -298,8 +299,9 @@ impl<A: Allocator> Machine<A> {
     {
         events::release(&mut self.flow, self.holds);
         self.holds = false;
-        for context in Ctx::all() {
-            let track = &self.tracks[context.index()];
+        for index in unheld_count(self.tracks.as_slice())..8 {
+            let context = Ctx::new(index).unwrap();
+            let track = &self.tracks[index];
             let held = events::hold_loads(&mut self.flow, track, context);
             self.holds = self.holds || held;
         }
@@ -446,6 +448,21 @@ impl<A: Allocator> Machine<A> {
         self.cycle += 1;
         self.fetch_room = 8;
     }
+}
+
+/// How many of eight contexts come before the first of which a load may have to wait for an older store.
+#[inline(always)]
+fn unheld_count<A: Allocator>(tracks: &[Track<A>]) -> usize
+    requires { length tracks.now ≡ 8 }
+    ensures few { result ≤ 8 }
+    ensures none { (c : ℕ) → c < result → HoldsNone (slice_index_or tracks.now c no_track) }
+{
+    for index in 0..8usize {
+        if events::may_hold(&tracks[index]) {
+            return index;
+        }
+    }
+    8
 }
 
 /// An entry that issued, and its lag.

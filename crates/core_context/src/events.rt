@@ -10,7 +10,7 @@ ghost use Rattle.core_view.specs.Flight.{seen_of, IsSound, is_open_guess as is_o
 ghost use Rattle.core_view.specs.Operations.{destination_of, stops_at_fetch, is_load, is_store};
 ghost use Rattle.core_view.specs.Queues.{loads_of, stores_of};
 ghost use Rattle.core_view.specs.View.{entry_at};
-ghost use Rattle.core_context.specs.Issuable.{IsAnswered, IsMarked, AreLetGo, must_wait, AreHeld};
+ghost use Rattle.core_context.specs.Issuable.{IsAnswered, IsMarked, AreLetGo, must_wait, AreHeld, HoldsNone};
 ghost use Rattle.core_context.specs.Track.{is_last, retired, stopped, completed, renamed_one};
 ghost use Rattle.core_context.specs.Cores.{operands_of, AllFetched};
 ghost use Rattle.core_context.specs.Heads.{IsGoing, first_done, step_on};
@@ -272,6 +272,15 @@ pub fn release<A: Allocator>(flow: &mut DataFlow<A>, holds: bool)
     }
 }
 
+/// Whether a load of a context may have to wait for an older store: one waits for issue, and a store is renamed.
+#[inline]
+pub fn may_hold<A: Allocator>(track: &Track<A>) -> bool
+    ensures { result ≡ false → HoldsNone track.now }
+{
+    let loads = track.next_queued_load(0).is_some();
+    loads & !track.has_no_store()
+}
+
 /// Tells the queue which loads of a context, which are all let go, have to wait for an older store. Returns whether one
 /// has to.
 pub fn hold_loads<A: Allocator>(flow: &mut DataFlow<A>, track: &Track<A>, context: Ctx) -> bool
@@ -283,10 +292,7 @@ pub fn hold_loads<A: Allocator>(flow: &mut DataFlow<A>, track: &Track<A>, contex
     ensures others { (d k : ℕ) (b : Bool) → d ≢ context → IsMarked flow.old d k b → IsMarked flow.new d k b }
     ensures none { result ≡ false → flow.new ≡ flow.old }
 {
-    if track.has_no_store() {
-        return false;
-    }
-    if track.next_queued_load(0).is_none() {
+    if !may_hold(track) {
         return false;
     }
     let mut holds = false;

@@ -14,7 +14,7 @@ ghost use Rattle.flight.specs.Marked.{is_waiting, is_waiting_load, word_of};
 ghost use Rattle.flight.specs.Flights.{entry_in, empty_flight, fetched_one, renamed_one, issued_one, finished_one, retired_one, none_left, cut_at, execution_of, IsIssued, guesses_ahead, is_due, NoneFrom, IsNext, IsPlain};
 
 use crate::finished::Finished;
-use crate::marks::Marks;
+use crate::marks::{Marks, is_waiting};
 use bit_vector::{clear_slot, count, has, next, set_slot, turn};
 use core_view::{Entry, Execution, Stage};
 use reorder_buffer::Ring;
@@ -33,6 +33,8 @@ pub struct Flight<A: Allocator = Global> {
     base: usize,
     // A word a cycle modulo 64, with a bit a slot: what is due then has its bit.
     hints: [u64; 64],
+    // The slot of what was renamed last of a stamp modulo 256.
+    slots: [u8; 256],
 }
 
 impl<A: Allocator> Model for Flight<A> {
@@ -64,6 +66,7 @@ impl<A: Allocator> Flight<A> {
             guessed: 0,
             base: 0,
             hints: [0; 64],
+            slots: [0; 256],
         })
     }
 
@@ -137,6 +140,7 @@ impl<A: Allocator> Flight<A> {
         let entry = at(&self.ring, self.renamed).renamed(cycle);
         set_in(&mut self.ring, self.renamed, entry);
         self.marks.push(self.renamed, &entry);
+        self.slots[(entry.stamp % 256) as usize] = ((self.base + self.renamed) % 64) as u8;
         self.renamed += 1;
         self.guessed -= usize::from(entry.operation.is_guessed());
     }
@@ -233,6 +237,23 @@ impl<A: Allocator> Flight<A> {
         ensures here { result < self.now.renamed → is_open_guess (entry_in self.now.entries result) ≡ true }
     {
         next(self.marks.open_guesses, 0)
+    }
+
+    /// The place of the entry with a stamp that waits for issue, where the slot that is known of the stamp is its own.
+    #[inline(always)]
+    pub fn known_waiting(&self, stamp: u64) -> Option<usize>
+        ensures within { IfSome result (λ place. place < length self.now.entries) }
+        ensures stamp { IfSome result (λ place. (entry_in self.now.entries place).stamp ≡ stamp) }
+        ensures waits { IfSome result (λ place. is_waiting (entry_in self.now.entries place) ≡ true) }
+    {
+        let slot = usize::from(self.slots[(stamp % 256) as usize]);
+        let place = (slot + 64 - self.base) % 64;
+        let entry = self.get(place)?;
+        if entry.stamp == stamp && is_waiting(entry) {
+            Some(place)
+        } else {
+            None
+        }
     }
 
     /// The first place from one on whose entry waits for issue.

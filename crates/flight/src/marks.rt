@@ -103,7 +103,7 @@ impl Marks {
 
 /// Whether an entry waits for issue.
 #[inline]
-fn is_waiting(entry: &Entry) -> bool
+pub(crate) fn is_waiting(entry: &Entry) -> bool
     ensures { result ≡ is_waiting entry.now }
 {
     matches!(entry.stage, Stage::Queued)

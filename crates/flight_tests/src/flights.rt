@@ -20,6 +20,7 @@ fn a_load_waits_and_is_cut(rt: HostRuntime) -> Result<(), Fail> {
     flight.push(Entry::new(7, 1, 0x1000, load(), 0x1004));
     flight.rename(5);
     assert_eq!(rt; flight.next_waiting_load(0), Some(0));
+    assert_eq!(rt; flight.known_waiting(7), Some(0));
     let Some(entry) = flight.get(0) else {
         return Err("no entry".into());
     };

@@ -1,27 +1,14 @@
-use Rattle.std.proofs.Common.{◌≡◌, ℕ, ◌<◌, ◌∙◌, ◌||◌, Bool, true, false, not, Option, Some, None, refl, sym, ap, subst, length, arith}
-use Rattle.std.specs.Prelude.{MatchOption, is_some}
+use Rattle.std.proofs.Common.{◌<◌, ◌∙◌, ◌||◌, sym, ap, subst, length, arith}
+use Rattle.std.specs.Prelude.{MatchOption}
 use Rattle.flight.specs.Marked.{is_waiting_load}
 use Rattle.flight.specs.Flights.{NoneFrom, IsNext}
 use Rattle.data_flow.specs.Flow.{Lane}
-use Rattle.core_context.proofs.HeldLoads.{none_stored_held, remarked_lane, held_first, held_next, held_skip, held_all}
+use Rattle.core_context.proofs.HeldLoads.{remarked_lane, held_first, held_next, held_skip, held_all}
 use Rattle.core_context.proofs.events.hold_loads.Goals as goal
 use Rattle.core_context.proofs.events.hold_loads.Goals.{then-holds, else-holds}
 
--- nothing is found where the test says so
-none_found : (o : Option ℕ) (none : Bool) → is_some o ≡ not none → none ≡ true → o ≡ None
-none_found None none is holds = refl
-none_found (Some x) none is holds = absurd (let bad : true ≡ false = is ∙ ap not holds in cc)
-
-pub returns-then-has_no_store-clause-held : goal.returns-then-has_no_store-clause-held
-returns-then-has_no_store-clause-held g c = none_stored_held c.args.flow.now c.args.context c.args.track.now c.requires.answered c.requires.let_go (c.has_no_store.ensures c.if-has_no_store.true)
-
-pub returns-then-is_none-clause-held : goal.returns-then-is_none-clause-held
-returns-then-is_none-clause-held g c =
-    let t = c.args.track.now in
-    let found = c.next_queued_load.result in
-    let none : NoneFrom is_waiting_load t.context.flight 0 = subst (λ o. MatchOption o (NoneFrom is_waiting_load t.context.flight 0) (λ place. IsNext is_waiting_load t.context.flight 0 place)) (none_found found c.is_none.result c.is_none.ensures c.if-is_none.true) c.next_queued_load.ensures.next in
-    held_all c.args.flow.now c.args.flow.now c.args.context t t.renamed false
-    (held_skip c.args.flow.now c.args.flow.now c.args.context t 0 t.renamed false (held_first c.args.flow.now c.args.context t c.requires.let_go) (omega arith) (λ i from lt. none i from)) (omega arith)
+pub returns-then-not-may_hold-clause-held : goal.returns-then-not-may_hold-clause-held
+returns-then-not-may_hold-clause-held g c = c.may_hold.ensures c.if-not-may_hold.true c.args.flow.now c.args.context c.requires.answered c.requires.let_go
 
 pub loop-turn-init : goal.loop-turn-init
 loop-turn-init g c = record { below = held_first c.args.flow.now c.args.context c.args.track.now c.requires.let_go; past = omega arith; within = omega arith }
@@ -50,7 +37,7 @@ loop-turn-preserved g c =
 pub returns-in_default-clause-held : goal.returns-in_default-clause-held
 returns-in_default-clause-held g c =
     let t = c.args.track.now in
-    let none : NoneFrom is_waiting_load t.context.flight c.loop-turn.from = subst (λ o. MatchOption o (NoneFrom is_waiting_load t.context.flight c.loop-turn.from) (λ place. IsNext is_waiting_load t.context.flight c.loop-turn.from place)) c.in_default.is c.next_queued_load-in-loop-turn.ensures.next in
+    let none : NoneFrom is_waiting_load t.context.flight c.loop-turn.from = subst (λ o. MatchOption o (NoneFrom is_waiting_load t.context.flight c.loop-turn.from) (λ place. IsNext is_waiting_load t.context.flight c.loop-turn.from place)) c.in_default.is c.next_queued_load.ensures.next in
     held_all c.args.flow.now c.loop-turn.flow c.args.context t t.renamed c.loop-turn.holds
     (held_skip c.args.flow.now c.loop-turn.flow c.args.context t c.loop-turn.from t.renamed c.loop-turn.holds c.loop-turn.invariant.below c.loop-turn.invariant.within (λ i from lt. none i from)) (omega arith)
 

@@ -1,5 +1,5 @@
 use Rattle.core_back.proofs.MachineIssues.{IsHeldFrom}
 use Rattle.core_back.proofs.machine.Machine.select.Given as goal
 
-abbrev pub invariant-loop-context : goal.invariant-loop-context
-invariant-loop-context g l = IsHeldFrom l.fn.self l.self-inside l.context-index
+abbrev pub invariant-loop-index : goal.invariant-loop-index
+invariant-loop-index g l = IsHeldFrom l.fn.self l.self-inside l.index

@@ -16,6 +16,6 @@ invariant_of-self g c =
     let made = ap (λ (b : Buffer Entry). b.items) c.set_in.ensures in (
       c.self.invariant.0,
       flight-finished es _ c.completed-entry.result _ c.in-Issued.execution c.args.place c.self.inside.renamed c.self.inside.base c.in-Issued.execution.due c.clear_slot.result _ _ c.self.inside.hints c.self.invariant.1 issued done made
-          (λ (xs : List Entry) is at few was. c.finish.ensures xs c.completed-entry.result _ c.in-Issued.execution is at few was done) c.self.told c.clear_slot.ensures.others,
+          (λ (xs : List Entry) is at few was. c.finish.ensures xs c.completed-entry.result _ c.in-Issued.execution is at few was done) c.self.told.0 c.clear_slot.ensures.others,
       set-kept _ _ _ _ _ _ c.self.invariant.2 made within,
     )

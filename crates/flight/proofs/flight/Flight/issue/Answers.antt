@@ -11,4 +11,4 @@ pub invariant_of-self : goal.invariant_of-self
 invariant_of-self g c =
     let queued = rw (← c.self.view_is) at c.requires.queued in
     let within : c.args.place < c.self.inside.renamed = queued-renamed c.self.inside.ring.items c.self.inside.renamed c.args.place c.self.invariant.1.ahead queued in
-    (c.self.invariant.0, flight-issued _ _ c.issued-entry.result c.args.place _ _ _ _ _ c.args.execution c.set_slot.result c.self.invariant.1 within c.self.told queued (c.issued-entry.ensures ∙ ap (λ (e : Entry). with_stage e (Issued c.args.execution)) c.at.ensures) (ap (λ (b : Buffer Entry). b.items) c.set_in.ensures) c.issue.ensures c.set_slot.ensures.set c.set_slot.ensures.others, set-kept _ _ _ _ _ _ c.self.invariant.2 (ap (λ (b : Buffer Entry). b.items) c.set_in.ensures) within)
+    (c.self.invariant.0, flight-issued _ _ c.issued-entry.result c.args.place _ _ _ _ _ c.args.execution c.set_slot.result c.self.invariant.1 within c.self.told.0 queued (c.issued-entry.ensures ∙ ap (λ (e : Entry). with_stage e (Issued c.args.execution)) c.at.ensures) (ap (λ (b : Buffer Entry). b.items) c.set_in.ensures) c.issue.ensures c.set_slot.ensures.set c.set_slot.ensures.others, set-kept _ _ _ _ _ _ c.self.invariant.2 (ap (λ (b : Buffer Entry). b.items) c.set_in.ensures) within)

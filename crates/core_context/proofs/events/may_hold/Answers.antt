@@ -1,0 +1,5 @@
+use Rattle.core_context.proofs.HeldLoads.{holds_none}
+use Rattle.core_context.proofs.events.may_hold.Goals as goal
+
+pub returns : goal.returns
+returns g c = holds_none c.args.track.now c.next_queued_load.result c.is_some-loads.result c.has_no_store.result c.next_queued_load.ensures.next c.is_some-loads.ensures c.has_no_store.ensures
