@@ -60,6 +60,7 @@ impl ContextTables {
     }
 
     /// The guess for an instruction that was fetched. A call pushes the address after it, a return pops.
+    #[inline(always)]
     pub(crate) fn guess(&mut self, pc: u64, insn: &Insn) -> u64
         ensures value { result ≡ guessed self.old pc insn.now }
         ensures state { self.new ≡ after_fetch self.old pc insn.now }

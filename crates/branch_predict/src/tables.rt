@@ -55,6 +55,7 @@ impl<A: Allocator> Guess for Tables<A> {
 
     ghost may_answer = { λ s context pc insn next. stated pc insn next };
 
+    #[inline(always)]
     fn guess(&mut self, context: Ctx, pc: u64, insn: &Insn) -> u64
         ensures answer { IsTrue (stated pc insn.now result) }
         ensures value { result ≡ guessed (predictor_of self.old context) pc insn.now }

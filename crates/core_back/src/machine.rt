@@ -1,6 +1,6 @@
 //! Eight contexts, and the data flow that they share.
 
-ghost use Rattle.std.specs.Prelude.{◌≡◌, ℕ, ◌+◌, ◌-◌, ◌<◌, ◌≤◌, ◌^◌, ◌&&◌, ◌==◌, false, not, length, count_by, slice_get, slice_index, slice_index_or, [], IfOk, IfSome, MatchOption, Some, None};
+ghost use Rattle.std.specs.Prelude.{◌≡◌, ℕ, ◌+◌, ◌-◌, ◌<◌, ◌≤◌, ◌^◌, ◌&&◌, ◌==◌, false, not, length, count_by, slice_get, slice_index, slice_index_or, [], IfOk, IfSome, MatchOption, Some, None, true};
 ghost use Rattle.core_view.specs.declared.outcome.Outcome.TheVariants.{Stops};
 ghost use Rattle.core_view.specs.Events.{retire_event, stop_event, complete_event};
 ghost use Rattle.core_view.specs.Operations.{is_guessed};
@@ -416,6 +416,14 @@ impl<A: Allocator> Machine<A> {
     {
         let asked = &self.tracks[context.index()];
         asked.can_fetch()
+    }
+
+    /// Whether a context runs and its front list has room: no other can fetch.
+    pub fn has_front_room(&self, context: Ctx) -> bool
+        ensures { is_eligible (context_at self.now context) ≡ true → result ≡ true }
+    {
+        let track = &self.tracks[context.index()];
+        track.has_front_room()
     }
 
     /// One more entry of a context is fetched, if it can be, and followed where a guess says. Returns its stamp, and

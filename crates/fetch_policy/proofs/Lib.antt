@@ -1,5 +1,7 @@
 pub mod Before
 pub mod EachContext
+pub mod Leasts
+pub mod Looks
 pub mod NextBelow
 pub mod Picked
 pub mod WithoutPlaces

@@ -1,4 +1,5 @@
 pub mod Keys
 pub mod Lawful
+pub mod Least
 pub mod Places
 pub mod Counts

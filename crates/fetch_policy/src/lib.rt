@@ -2,11 +2,13 @@
 #![tactic(auto)]
 
 mod choice;
+mod least;
 mod named;
 mod policies;
 mod view;
 
 pub use choice::{choose, choose_by_keys};
+pub use least::{NO_KEY, first_by_key};
 pub use named::NamedPick;
 pub use policies::{Brcount, Icount, Iqposn, Misscount, Pick, RoundRobin};
 pub use view::{Count, FetchContext, FetchView};
