@@ -10,11 +10,13 @@ pub mod CompletedByPlace
 pub mod ContextByContext
 pub mod Renamable
 pub mod RetiredFronts
+pub mod RetireSteps
 pub mod RetireTurns
 pub mod CompletedCount
 pub mod NextOutcomes
 pub mod Options
 pub mod Laws
 pub mod IssueViews
+pub mod DoneTurns
 pub mod DuePlaces
 pub mod CompletedTurns

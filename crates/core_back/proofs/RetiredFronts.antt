@@ -22,7 +22,7 @@ use Rattle.lawful_cycle.specs.Retire.{goes_on, is_done_on, stop_in, stop_done, s
 use Rattle.core_view.specs.declared.note.EntryId.{EntryId}
 use Rattle.core_back.specs.Machine.{Machine, context_at, with_context, with_contexts, no_context}
 use Rattle.core_context.specs.Heads.{done_outcome, first_done}
-use Rattle.core_back.specs.Turn.{TurnsBy, stopped_by, ended, id_of}
+use Rattle.core_back.specs.Turn.{TurnsBy, reached, IsOnWay, stopped_by, ended, id_of}
 
 -- ---- the front entry
 
@@ -69,23 +69,6 @@ gone_more k es step more h gone =
     rw (take_more es k no_entry more) (All-push (λ (e : Entry). is_done_on e.stage ≡ true) (take k es) (get_or es k no_entry) gone (front_goes k es step h))
 
 -- ---- a context on its way
-
--- k entries have retired, and nothing is stopped yet
-abbrev pub reached : Context → ℕ → State → Context
-reached x k s = record {
-  status = if x.count + k == x.target then Parked else x.status;
-  count = x.count + k;
-  target = x.target;
-  state = s;
-  flight = if x.count + k == x.target then [] else drop k x.flight;
-}
-
-pub record IsOnWay (x y : Context) (k : ℕ) : Type 0 where
-  pub at : y ≡ reached x k y.state
-  pub front : k ≤ length x.flight
-  pub gone : All (λ e. is_done_on e.stage ≡ true) (take k x.flight)
-  pub within : x.status ≡ Running → x.count + k ≤ x.target
-  pub none : k ≡ 0 → y ≡ x
 
 same_context : (y : Context) (status : Status) (count target : ℕ) (state : State) (flight : List Entry) → y.status ≡ status → y.count ≡ count → y.target ≡ target → y.state ≡ state → y.flight ≡ flight
     → y ≡ record { status = status; count = count; target = target; state = state; flight = flight }

@@ -1,5 +1,6 @@
 -- What a context's turn to retire makes of it.
-use Rattle.std.specs.Prelude.{◌≡◌, ℕ, ◌+◌, ◌≤◌, true, List, ◌++◌, length, map, take, All, Option, Some, None}
+use Rattle.std.specs.Prelude.{◌≡◌, ℕ, ◌+◌, ◌≤◌, ◌==◌, Bool, true, false, if◌then◌else◌, List, [], ◌++◌, length, map, take, drop, All, Option, Some, None}
+use Rattle.hart_step.specs.State.{State}
 use Rattle.core_view.specs.declared.entry.Entry.{Entry}
 use Rattle.core_view.specs.declared.note.EntryId.{EntryId}
 use Rattle.core_view.specs.declared.status.Status.{Status}
@@ -47,3 +48,34 @@ pub record IsTurn (m n : Machine) (c width left : ℕ) (old new : List EntryId) 
   pub listed : new ≡ old ++ map (id_of c) (take number (context_at m c).flight)
   -- a done entry is kept only where nothing is left
   pub kept : KeepsDone (context_at n c) → left ≡ 0
+
+-- ---- a context in its turn
+
+-- k entries have retired, and nothing is stopped yet
+abbrev pub reached : Context → ℕ → State → Context
+reached x k s = record {
+  status = if x.count + k == x.target then Parked else x.status;
+  count = x.count + k;
+  target = x.target;
+  state = s;
+  flight = if x.count + k == x.target then [] else drop k x.flight;
+}
+
+pub record IsOnWay (x y : Context) (k : ℕ) : Type 0 where
+  pub at : y ≡ reached x k y.state
+  pub front : k ≤ length x.flight
+  pub gone : All (λ e. is_done_on e.stage ≡ true) (take k x.flight)
+  pub within : x.status ≡ Running → x.count + k ≤ x.target
+  pub none : k ≡ 0 → y ≡ x
+
+-- of a context whose turn began with so much room, k entries have retired, and so much is left
+pub record IsInTurn (b n : Machine) (c k room left : ℕ) (old new : List EntryId) : Type 0 where
+  pub after : n ≡ with_context b c (context_at n c)
+  pub taken : left + k ≡ room
+  pub way : IsOnWay (context_at b c) (context_at n c) k
+  pub listed : new ≡ old ++ map (id_of c) (take k (context_at b c).flight)
+
+-- once one more had its turn, the context goes on, or its turn is over
+abbrev pub GoesOn : Bool → Machine → Machine → ℕ → ℕ → ℕ → ℕ → List EntryId → List EntryId → Type 0
+GoesOn true b n c k room left old new = IsInTurn b n c k room left old new
+GoesOn false b n c k room left old new = IsTurn b n c room left old new

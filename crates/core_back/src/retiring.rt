@@ -1,14 +1,20 @@
 //! The part of a cycle in which entries retire.
 
-ghost use Rattle.std.specs.Prelude.{◌≡◌, ◌+◌, ◌<◌, ◌≤◌, []};
+ghost use Rattle.std.specs.Prelude.{◌≡◌, ℕ, ◌+◌, ◌<◌, ◌≤◌, List, [], IsTrue, None};
+ghost use Rattle.std.specs.Int.{bit_at};
+ghost use Rattle.hart_step.specs.State.{State};
+ghost use Rattle.core_view.specs.declared.note.EntryId.{EntryId};
+ghost use Rattle.core_view.specs.View.{IsLive};
+ghost use Rattle.core_context.specs.Heads.{first_done};
 ghost use Rattle.arrayvec.specs.ArrayVec.{array_vec_len};
 ghost use Rattle.fetch_policy.specs.Lawful.{turn as turn_of};
 ghost use Rattle.lawful_cycle.specs.Retire.{IsRetire};
-ghost use Rattle.core_back.specs.Machine.{IsAlike, in_flight, context_at, with_context};
-ghost use Rattle.core_back.specs.Turn.{IsTurn, ended};
+ghost use Rattle.core_back.specs.Machine.{Machine as MachineView, IsAlike, in_flight, context_at, with_context};
+ghost use Rattle.core_back.specs.Turn.{IsInTurn, GoesOn, ended};
 
 use crate::machine::Machine;
 use arrayvec::ArrayVec;
+use bit_vector::{next, push};
 use branch_predict::Guess;
 use core_view::{Entry, EntryId, Operation, Outcome};
 use join_law::Ctx;
@@ -34,88 +40,113 @@ pub fn retire<A: Allocator, G: Guess>(
     ensures lawful { IsRetire machine.old.view machine.new.view retired.new.items }
 {
     let first = machine.cycle();
+    let done = done_in_turn(machine, first);
     let mut left = usize::from(machine.profile().retire_width);
     let mut dropped = 0;
-    for turn in 0..8u64 {
+    let mut turn = next(done, 0);
+    while turn < 8 {
         let context = context_in_turn(first, turn);
-        let after = retire_context(machine, guess, context, left, retired);
+        let after = retire_oldest(machine, guess, context, left, retired);
         left = after.left;
         dropped += after.dropped;
+        // A context that goes on is the next again.
+        turn = next(done, turn + usize::from(!after.goes_on));
     }
     // `cycle` ensures that each context is live.
     let _live = machine.cycle();
     dropped
 }
 
-/// What is left once a context has had its turn: so much of the width. So many of its entries were dropped.
+/// A bit a turn: whether the oldest entry of the context whose turn it is is done.
+#[inline(always)]
+fn done_in_turn<A: Allocator>(machine: &Machine<A>, cycle: u64) -> u64
+    ensures { (t c : ℕ) → t < 8 → c < 8 → turn_of cycle c ≡ t → bit_at result t ≡ 0 → first_done (context_at machine.now c).flight ≡ None }
+{
+    let mut word = 0;
+    for turn in 0..8usize {
+        let context = context_in_turn(cycle, turn);
+        word = push(word, turn, machine.is_head_done(context));
+    }
+    word
+}
+
+/// What is left of the width once the oldest entry of a context had its turn, how many entries were dropped, and whether
+/// the next one of the context has its turn then.
 #[derive(Clone, Copy)]
 struct Turn {
     left: usize,
     dropped: usize,
+    goes_on: bool,
 }
 
 /// The context whose turn comes in a cycle after so many others.
-fn context_in_turn(cycle: u64, turn: u64) -> Ctx
+fn context_in_turn(cycle: u64, turn: usize) -> Ctx
     requires { turn < 8 }
     ensures small { result < 8 }
     ensures turn { turn_of cycle result ≡ turn }
 {
-    let number = (cycle % 8 + turn) % 8;
+    let number = (cycle % 8 + turn as u64) % 8;
     Ctx::new(number as usize).unwrap()
 }
 
-/// The oldest entries of a context retire, at most so many.
-fn retire_context<A: Allocator, G: Guess>(
+/// The oldest entry of a context retires, where something is left of the width, or stops the context.
+#[inline(always)]
+fn retire_oldest<A: Allocator, G: Guess>(
     machine: &mut Machine<A>,
     guess: &mut G,
     context: Ctx,
-    width: usize,
+    left: usize,
     retired: &mut ArrayVec<EntryId, 16>,
 ) -> Turn
     requires idle { machine.old.names ≡ [] }
-    requires room { array_vec_len retired.old + width ≤ 16 }
+    requires room { array_vec_len retired.old + left ≤ 16 }
     ensures alike { IsAlike machine.old machine.new }
     ensures idle { machine.new.names ≡ [] }
     ensures width { array_vec_len retired.new + result.left ≤ 16 }
-    ensures turn { IsTurn machine.old machine.new context width result.left retired.old.items retired.new.items }
+    ensures turn { (s : State) (stamp : ℕ) (b : MachineView) (k room : ℕ) (old : List EntryId) → IsLive s stamp (context_at b context) → IsInTurn b machine.old context k room left old retired.old.items →
+        GoesOn result.goes_on b machine.new context (k + 1) room result.left old retired.new.items }
+    ensures fewer { result.left ≤ left }
+    ensures one_fewer { IsTrue result.goes_on → result.left + 1 ≡ left }
     ensures keeps { G.may_answer guess.new ≡ G.may_answer guess.old }
     ensures dropped { result.dropped + array_vec_len retired.new + in_flight machine.new ≡ array_vec_len retired.old + in_flight machine.old }
-    ensures bound { result.dropped ≤ 1360 }
+    ensures bound { result.dropped ≤ 80 }
 {
-    // `retired` ensures that the context is live.
-    let _live = machine.retired(context);
-    let mut dropped = 0;
-    for done in 0..width {
-        match machine.head(context) {
-            Some(Outcome::Goes { step }) => {
-                let oldest = machine.oldest(context);
-                learn(guess, context, oldest, step.next);
-                retired.push(EntryId {
-                    context,
-                    stamp: oldest.stamp,
-                });
-                let cut = machine.retire(context);
-                dropped += cut;
-            }
-            Some(Outcome::Stops { why }) => {
-                let stopped = machine.stop(context, why);
-                return Turn {
-                    left: width - done,
-                    dropped: dropped + stopped,
-                };
-            }
-            None => {
-                return Turn {
-                    left: width - done,
-                    dropped,
-                };
+    if left == 0 {
+        let stopped = stop_done(machine, context);
+        return Turn {
+            left,
+            dropped: stopped,
+            goes_on: false,
+        };
+    }
+    match machine.head(context) {
+        Some(Outcome::Goes { step }) => {
+            let oldest = machine.oldest(context);
+            learn(guess, context, oldest, step.next);
+            retired.push(EntryId {
+                context,
+                stamp: oldest.stamp,
+            });
+            let cut = machine.retire(context);
+            Turn {
+                left: left - 1,
+                dropped: cut,
+                goes_on: machine.is_head_done(context),
             }
         }
-    }
-    let rest = stop_done(machine, context);
-    Turn {
-        left: 0,
-        dropped: dropped + rest,
+        Some(Outcome::Stops { why }) => {
+            let stopped = machine.stop(context, why);
+            Turn {
+                left,
+                dropped: stopped,
+                goes_on: false,
+            }
+        }
+        None => Turn {
+            left,
+            dropped: 0,
+            goes_on: false,
+        },
     }
 }
 

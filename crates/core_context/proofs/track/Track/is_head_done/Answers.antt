@@ -1,6 +1,5 @@
-use Rattle.std.proofs.Common.{sym, ap, ◌∙◌}
+use Rattle.std.proofs.Common.{ap, ◌∙◌}
 use Rattle.std.specs.Prelude.{is_some}
-use Rattle.core_view.specs.View.{Context}
 use Rattle.core_context.specs.Track.{Track}
 use Rattle.core_context.specs.Heads.{first_done}
 use Rattle.core_context.proofs.Tracks.{first_is_done}
