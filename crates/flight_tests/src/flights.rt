@@ -25,7 +25,9 @@ fn a_load_waits_and_is_cut(rt: HostRuntime) -> Result<(), Fail> {
         return Err("no entry".into());
     };
     assert!(rt; !entry.stage.is_done());
+    assert!(rt; !flight.may_be_due(70));
     assert_eq!(rt; flight.next_due(70, 0), None);
+    assert!(rt; flight.finish_plain(70).is_none());
     flight.cut_from(7);
     assert_eq!(rt; flight.len(), 0);
     Ok(())
