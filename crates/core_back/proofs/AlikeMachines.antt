@@ -1,7 +1,6 @@
 -- Events keep the origin, the profile, the cycle, what may be fetched, and the targets.
-use Rattle.std.proofs.Common.{◌≡◌, ℕ, zero, suc, ◌≤◌, Bool, true, List, [], ◌∷◌, length, get_or, refl, sym, ap, ◌∙◌, arith}
-use Rattle.std.specs.Prelude.{◌==◌, set}
-use Rattle.std.proofs.lemmas.Bool.Decides.{nat_tests}
+use Rattle.std.proofs.Common.{◌≡◌, ℕ, zero, suc, ◌≤◌, Bool, List, [], ◌∷◌, length, get_or, refl, ap, ◌∙◌, arith}
+use Rattle.std.specs.Prelude.{set}
 use Rattle.core_view.specs.declared.note.Issue.{Issue}
 use Rattle.core_view.specs.declared.note.EntryId.{EntryId}
 use Rattle.core_view.specs.View.{Context}
@@ -41,7 +40,3 @@ issue_alike m n i is =
 pub none_left : (names : List EntryId) → length names ≤ 0 → names ≡ []
 none_left [] le = refl
 none_left (n ∷ ns) le = absurd (omega arith)
-
--- a list that is empty by the test has no name
-pub no_names : (names : List EntryId) (empty : Bool) → empty ≡ (length names == 0) → empty ≡ true → names ≡ []
-no_names names empty is true_is = none_left names (let e : (length names == 0) ≡ true = sym is ∙ true_is in grind (arith, nat_tests, e))

@@ -42,11 +42,6 @@ first_and_rest : (names : List EntryId) (n : EntryId) → 0 < length names → n
 first_and_rest [] n some is = absurd (omega arith)
 first_and_rest (m ∷ names) n some is = ap (λ x. x ∷ names) (sym is)
 
--- there is a first name where the list isn't empty
-pub some_names : (names : List EntryId) (empty : Bool) → empty ≡ (length names == 0) → empty ≡ false → 0 < length names
-some_names [] empty is no_names = absurd (let bad : true ≡ false = sym is ∙ no_names in cc)
-some_names (n ∷ names) empty is no_names = omega arith
-
 -- the place that was found is that of the stamp
 pub found_place : (t : Track) (k : ℕ) (found : Option ℕ) (i : ℕ) → IfSome found (λ j. (j < length t.context.flight) × ((entry_at t.context j).stamp ≡ k)) → found ≡ Some i → (i < length t.context.flight) × ((entry_at t.context i).stamp ≡ k)
 found_place t k found i h is = subst (λ (o : Option ℕ). IfSome o (λ j. (j < length t.context.flight) × ((entry_at t.context j).stamp ≡ k))) is h

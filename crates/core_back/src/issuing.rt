@@ -33,10 +33,7 @@ pub fn issue<A: Allocator, O: Order, D: Delay>(
     // `cycle` ensures that each context is live, so its stamps grow.
     let _live = machine.cycle();
     machine.select(order, width);
-    for _place in 0..width {
-        if machine.is_idle() {
-            return;
-        }
+    for _place in 0..machine.selected_count() {
         issued.push(machine.issue_next(delay));
     }
 }

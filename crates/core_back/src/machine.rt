@@ -317,12 +317,12 @@ impl<A: Allocator> Machine<A> {
         self.selected = Selection::new(self.flow.select(order, width));
     }
 
-    /// Whether no entry is selected that has not issued yet.
+    /// How many entries are selected that have not issued yet.
     #[inline(always)]
-    pub fn is_idle(&self) -> bool
-        ensures { result ≡ (length self.now.names == 0) }
+    pub fn selected_count(&self) -> usize
+        ensures { result ≡ length self.now.names }
     {
-        self.selected.is_empty()
+        self.selected.len()
     }
 
     /// The first of the selected entries issues, after the lag that a delay gives.

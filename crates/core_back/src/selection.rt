@@ -1,6 +1,6 @@
 //! What was selected and has not issued yet.
 
-ghost use Rattle.std.specs.Prelude.{◌≡◌, ◌<◌, ◌==◌, length, drop, slice_index_or};
+ghost use Rattle.std.specs.Prelude.{◌≡◌, ◌<◌, length, drop, slice_index_or};
 
 use arrayvec::ArrayVec;
 use core_view::EntryId;
@@ -34,12 +34,12 @@ impl Selection {
         Selection { entries, issued: 0 }
     }
 
-    /// Whether all have issued.
+    /// How many have not issued.
     #[inline(always)]
-    pub(crate) fn is_empty(&self) -> bool
-        ensures { result ≡ (length self.now == 0) }
+    pub(crate) fn len(&self) -> usize
+        ensures { result ≡ length self.now }
     {
-        self.issued == self.entries.len()
+        self.entries.len() - self.issued
     }
 
     /// Takes the first.

@@ -6,8 +6,7 @@ use Rattle.core_view.specs.declared.note.EntryId.{EntryId}
 use Rattle.core_back.specs.Machine.{Machine, context_at}
 use Rattle.core_back.specs.Issued.{IsIssued}
 use Rattle.core_back.proofs.InFlight.{in_flight_same, in_flight_issued}
-use Rattle.core_back.proofs.AlikeMachines.{alike_chain, issue_alike, none_left, no_names}
-use Rattle.core_back.proofs.MachineIssues.{some_names}
+use Rattle.core_back.proofs.AlikeMachines.{alike_chain, issue_alike, none_left}
 use Rattle.core_back.proofs.IssueViews.{issuing_first, issuing_next, issuing_done}
 use Rattle.core_back.proofs.issuing.issue.Goals as goal
 
@@ -18,7 +17,8 @@ loop-place-init g c =
       alike = record { origin = ap (λ (m : Machine). m.origin) e; profile = ap (λ (m : Machine). m.view.profile) e; cycle = ap (λ (m : Machine). m.view.cycle) e; room = ap (λ (m : Machine). m.fetch_room) e; targets = λ d lt. ap (λ (m : Machine). (context_at m d).target) e };
       issuing = issuing_first (g.O.Order.key_of c.args.order.now) (g.D.Delay.may_answer c.args.delay.now) c.from-width.result c.args.machine.now c.select.new.self c.args.issued.now.items c.cycle-live.ensures.contexts (ap (λ (m : Machine). m.view) e) c.requires.fresh c.select.ensures.choice;
       profile = c.from-width.ensures ∙ ap (λ (p : Profile). p.issue_width) c.profile.ensures;
-      left = omega (arith, c.select.ensures.most);
+      left = omega (arith, c.selected_count-place-end.ensures);
+      most = omega (arith, c.select.ensures.most, c.selected_count-place-end.ensures);
       flights = in_flight_same c.args.machine.now c.select.new.self (ap (λ (m : Machine). m.view.contexts) e);
       room = omega (arith, ap length c.requires.fresh);
       keeps = refl;
@@ -30,10 +30,10 @@ pub issue_next-requires-clause-cycle : goal.issue_next-requires-clause-cycle
 issue_next-requires-clause-cycle g c = omega (arith, c.loop-place.invariant.alike.cycle, c.requires.cycle)
 
 pub issue_next-requires-clause-some : goal.issue_next-requires-clause-some
-issue_next-requires-clause-some g c = some_names c.loop-place.machine.names c.is_idle.result c.is_idle.ensures c.if-is_idle.false
+issue_next-requires-clause-some g c = omega (arith, c.loop-place.invariant.left, c.loop-place-test.true)
 
 pub push-requires : goal.push-requires
-push-requires g c = omega (arith, c.loop-place.invariant.room, c.loop-place-test.true, c.loop-place.invariant.width)
+push-requires g c = omega (arith, c.loop-place.invariant.room, c.loop-place-test.true, c.loop-place.invariant.most, c.loop-place.invariant.width)
 
 pub loop-place-preserved : goal.loop-place-preserved
 loop-place-preserved g c =
@@ -46,6 +46,7 @@ loop-place-preserved g c =
       profile = c.loop-place.invariant.profile;
       flights = in_flight_issued c.loop-place.machine c.issue_next.new.self c.issue_next.result step ∙ c.loop-place.invariant.flights;
       left = omega (arith, c.loop-place.invariant.left, ap (λ (ns : List EntryId). length ns) step.names);
+      most = c.loop-place.invariant.most;
       room = omega (arith, c.loop-place.invariant.room, c.push.ensures.len);
       keeps = c.issue_next.ensures.keeps ∙ c.loop-place.invariant.keeps;
       greatest = c.issue_next.ensures.keeps_greatest ∙ c.loop-place.invariant.greatest;
@@ -66,11 +67,6 @@ returns-clause-keeps_greatest g c = c.loop-place.invariant.greatest
 
 pub returns-clause-flights : goal.returns-clause-flights
 returns-clause-flights g c = c.loop-place.invariant.flights
-
-pub returns-then-is_idle-clause-lawful : goal.returns-then-is_idle-clause-lawful
-returns-then-is_idle-clause-lawful g c =
-    issuing_done (g.O.Order.key_of c.args.order.now) (g.D.Delay.may_answer c.args.delay.now) c.from-width.result c.args.machine.now c.loop-place.machine c.loop-place.issued.items c.loop-place.invariant.issuing c.loop-place.invariant.profile
-    (no_names c.loop-place.machine.names c.is_idle.result c.is_idle.ensures c.if-is_idle.true)
 
 pub returns-clause-lawful : goal.returns-clause-lawful
 returns-clause-lawful g c =

@@ -9,7 +9,8 @@ invariant-loop-place g l = record {
   alike : IsAlike l.fn.machine l.machine;
   issuing : IsIssuing (g.O.Order.key_of l.order) (g.D.Delay.may_answer l.fn.delay) l.width l.fn.machine l.machine l.issued.items;
   profile : l.width ≡ l.fn.machine.view.profile.issue_width;
-  left : length l.machine.names + l._place ≤ l.width;
+  left : length l.machine.names + l._place ≡ l._place-end;
+  most : l._place-end ≤ l.width;
   width : l.width ≤ 8;
   flights : in_flight l.machine ≡ in_flight l.fn.machine;
   room : array_vec_len l.issued ≤ l._place;
