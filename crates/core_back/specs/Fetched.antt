@@ -28,6 +28,7 @@ pub record IsFetched (may_answer : ℕ → ℕ → Insn → ℕ → Bool) (old n
   pub open_ : is_open (context_at old c).flight ≡ true
   pub follows : let x = context_at old c in let pc = pc_past x.state.pc x.flight in IsFollowedBy (may_answer c pc) (operation_at x.state.memory pc) pc followed
   pub stamp_is : f.stamp ≡ old.view.stamp
+  pub next_is : f.next ≡ followed
   pub eligible : is_eligible (context_at old c) ≡ true
   -- whether the block ends after it
   pub ends : let x = context_at old c in let pc = pc_past x.state.pc x.flight in f.ends ≡ ends_block (fetched_entry old.view.stamp old.view.cycle pc (operation_at x.state.memory pc) followed)

@@ -6,8 +6,8 @@ ghost use Rattle.core_view.specs.Events.{retire_event, stop_event, complete_even
 ghost use Rattle.core_view.specs.Operations.{is_guessed};
 ghost use Rattle.core_view.specs.View.{entry_at, IsLive, IsSoundView};
 ghost use Rattle.lawful_cycle.specs.Rename.{CanRename};
-ghost use Rattle.core_view.specs.Flight.{is_queued, is_missed_load};
-ghost use Rattle.lawful_cycle.specs.Fetch.{is_fetched, is_eligible, oldest_place};
+ghost use Rattle.core_view.specs.Flight.{is_queued, is_missed_load, pc_past};
+ghost use Rattle.lawful_cycle.specs.Fetch.{is_fetched, is_eligible, front_room, oldest_place};
 ghost use Rattle.origin_set.specs.Start.{start};
 ghost use Rattle.core_back.specs.Machine.{IsAlike, context_at, in_flight, with_context, with_cycle, no_track, IsNextOf};
 ghost use Rattle.flight.specs.Flights.{execution_of, IsIssued as IsIssuedStage, is_due, NoneFrom, IsNext};
@@ -435,25 +435,46 @@ impl<A: Allocator> Machine<A> {
         track.has_front_room()
     }
 
-    /// One more entry of a context is fetched, if it can be, and followed where a guess says. Returns its stamp, and
-    /// whether it ends its block.
-    pub fn try_fetch<G: Guess>(&mut self, context: Ctx, guess: &mut G) -> Option<Fetch>
+    /// How many more entries a context's front list has room for.
+    pub fn front_room(&self, context: Ctx) -> usize
+        ensures { result ≡ front_room (context_at self.now context) }
+    {
+        let track = &self.tracks[context.index()];
+        track.front_room()
+    }
+
+    /// The pc at which fetch goes on in a context.
+    pub fn fetch_pc(&self, context: Ctx) -> u64
+        ensures { let x = context_at self.now context in result ≡ pc_past x.state.pc x.flight }
+    {
+        let track = &self.tracks[context.index()];
+        track.fetch_pc()
+    }
+
+    /// One more entry of a context that may fetch is fetched, at the pc where fetch goes on, and followed where a guess
+    /// says. Returns its stamp, and where fetch goes on after it.
+    #[inline(always)]
+    pub fn fetch_at<G: Guess>(&mut self, context: Ctx, pc: u64, guess: &mut G) -> Fetch
         requires idle { self.old.names ≡ [] }
         requires room { 0 < self.old.fetch_room }
         requires cycle { self.old.view.cycle < 2 ^ 56 }
-        ensures none { result ≡ None → self.new ≡ self.old }
-        ensures closed { result ≡ None → is_eligible (context_at self.old context) ≡ false }
-        ensures fetched { IfSome result (IsFetched (G.may_answer guess.old) self.old self.new context) }
-        ensures flights { IfSome result (λ _. in_flight self.new ≡ in_flight self.old + 1) }
+        requires eligible { is_eligible (context_at self.old context) ≡ true }
+        requires pc { let x = context_at self.old context in pc ≡ pc_past x.state.pc x.flight }
+        ensures fetched { IsFetched (G.may_answer guess.old) self.old self.new context result }
+        ensures flights { in_flight self.new ≡ in_flight self.old + 1 }
         ensures idle { self.new.names ≡ [] }
         ensures keeps { G.may_answer guess.new ≡ G.may_answer guess.old }
     {
         let track = &mut self.tracks[context.index()];
         let stamp = self.stamp;
-        let ends = fetch(track, context, guess, stamp, self.cycle)?;
+        let onward = fetch(track, context, pc, guess, stamp, self.cycle);
         self.stamp += 1;
         self.fetch_room -= 1;
-        Some(Fetch { stamp, ends })
+        Fetch {
+            stamp,
+            next: onward.pc,
+            ends: onward.ends,
+        }
     }
 
     /// The next cycle begins.

@@ -7,5 +7,5 @@ mod fetching;
 mod lags;
 mod track;
 
-pub use fetching::fetch;
+pub use fetching::{Onward, fetch};
 pub use track::Track;

@@ -7,7 +7,7 @@ mod named;
 mod policies;
 mod view;
 
-pub use choice::{choose, choose_by_keys};
+pub use choice::choose;
 pub use least::{NO_KEY, first_by_key};
 pub use named::NamedPick;
 pub use policies::{Brcount, Icount, Iqposn, Misscount, Pick, RoundRobin};
