@@ -21,7 +21,7 @@ use Rattle.core_cycle.specs.Fronts.{IsFront, AreFronts, IsLeast, IsOldest, front
 -- ---- one front
 
 -- an entry that can be renamed is past the front delay
-is_past_front : (v : View) (c : ℕ) (e : Entry) → CanRename v c e → IsPastFront v c e
+pub is_past_front : (v : View) (c : ℕ) (e : Entry) → CanRename v c e → IsPastFront v c e
 is_past_front v c e can = record { oldest = can.oldest; age = can.age }
 
 -- a context has one entry that is past the front delay and may be renamed next

@@ -6,6 +6,7 @@ pub mod Picked
 pub mod EightOf
 pub mod AheadCounts
 pub mod KeptFronts
+pub mod FrontWords
 pub mod Renamings
 pub mod Whole
 pub mod ShownPicks

@@ -1,12 +1,16 @@
 //! Which contexts may have an entry to rename next, and which of them has the oldest.
 
-ghost use Rattle.std.specs.Prelude.{◌≡◌, ℕ, ◌+◌, ◌<◌, ◌≤◌, ◌^◌, [], None, replicate, IfSome, slice_index, slice_set};
+ghost use Rattle.std.specs.Prelude.{true, false, ◌≡◌, ℕ, ◌+◌, ◌<◌, ◌≤◌, ◌^◌, [], None, replicate, IfSome, slice_index, slice_set};
+ghost use Rattle.word_mask.specs.Mask.{has};
+ghost use Rattle.core_view.specs.declared.entry.Entry.{Entry};
+ghost use Rattle.lawful_cycle.specs.Rename.{CanRename};
 ghost use Rattle.core_cycle.specs.Fronts.{AreFronts, IsOldest};
 
 use core_back::Machine;
 use join_law::Ctx;
 use std::alloc::Allocator;
 use std::marker::Model;
+use word_mask::{added, cleared, lowest};
 
 /// The stamps of the contexts' oldest fetched entries, where these are past the front delay: no others can be renamed.
 /// The greatest number, which is no entry's stamp, stands for none.
@@ -40,7 +44,11 @@ impl Fronts {
         ensures { AreFronts machine.now.view result }
     {
         let mut fronts = Fronts::none();
-        for context in Ctx::all() {
+        let mut left = with_fetched(machine);
+        while left != 0 {
+            let place = lowest(left);
+            left = cleared(left, place);
+            let context = context_of(place);
             fronts.set(context, machine.front(context));
         }
         fronts
@@ -64,6 +72,18 @@ impl Fronts {
         }
         None
     }
+}
+
+/// A bit of each context that has fetched entries. It is asked without a jump, and most cycles leave some out.
+fn with_fetched<A: Allocator>(machine: &Machine<A>) -> u64
+    ensures few { (c : ℕ) → has result c ≡ true → c < 8 }
+    ensures none { (c : ℕ) → has result c ≡ false → (e : Entry) → ¬ (CanRename machine.now.view c e) }
+{
+    let mut word = 0u64;
+    for context in Ctx::all() {
+        word = added(word, context.index(), machine.has_fetched(context));
+    }
+    word
 }
 
 /// The place of the least of eight numbers.

@@ -1,22 +1,43 @@
-use Rattle.std.proofs.Common.{ℕ, ◌≡◌, ◌+◌, ◌<◌, List, ◌∙◌, sym, ap, subst, get_or, arith, None, Option, length}
+use Rattle.std.proofs.Common.{ℕ, ◌≡◌, ◌<◌, false, List, ◌∙◌, sym, ap, subst, get_or, arith, None, Option, length}
 use Rattle.std.specs.Prelude.{set}
 use Rattle.std.proofs.lemmas.List.{length-set}
-use Rattle.core_back.proofs.Laws.{nth_context}
+use Rattle.word_mask.specs.Mask.{has}
+use Rattle.word_mask.proofs.Laws.{has_zero}
 use Rattle.core_cycle.specs.Fronts.{IsFront}
-use Rattle.core_cycle.proofs.KeptFronts.{front_asked, one_more_front}
+use Rattle.core_cycle.proofs.KeptFronts.{front_asked}
+use Rattle.core_cycle.proofs.FrontWords.{few_cleared, fronts_cleared}
 use Rattle.core_cycle.proofs.fronts.Fronts.of.Goals as goal
 
-pub loop-context-preserved : goal.loop-context-preserved
-loop-context-preserved g c =
-    let item = get_or c.all-context-items.result c.loop-context.context-index c.context-item.result in
-    let here : item ≡ c.loop-context.context-index = ap (λ (xs : List ℕ). get_or xs c.loop-context.context-index c.context-item.result) c.all-context-items.ensures ∙ nth_context c.loop-context.context-index c.context-item.result c.loop-context-test.true in
-    let asked = front_asked c.args.machine.now.view item c.front.result c.front.ensures.front c.front.ensures.none in
-    let i = c.loop-context.invariant in
+pub loop-left-init : goal.loop-left-init
+loop-left-init g c = record {
+  few = c.with_fetched-left.ensures.few;
+  fronts = λ k no_bit e can. absurd (c.with_fetched-left.ensures.none k no_bit e can);
+  eight = ap (λ (fs : List (Option ℕ)). length fs) c.none-fronts.ensures;
+}
+
+pub context_of-context-requires : goal.context_of-context-requires
+context_of-context-requires g c = c.loop-left.invariant.few c.lowest-place.result c.lowest-place.ensures.set
+
+pub loop-left-preserved : goal.loop-left-preserved
+loop-left-preserved g c =
+    let i = c.loop-left.invariant in
+    let v = c.args.machine.now.view in
+    let fronts = c.loop-left.fronts in
+    let left = c.loop-left.left in
+    let less = c.cleared-left.result in
+    let place = c.lowest-place.result in
+    let front = c.front.result in
+    let bits = c.cleared-left.ensures.bits in
     let eight = i.eight in
-    let last = c.loop-context-test.true in
-    let after = c.set.ensures ∙ ap (λ k. set c.loop-context.fronts k c.front.result) here in
+    let small : place < 8 = i.few place c.lowest-place.ensures.set in
+    let asked = front_asked v c.context_of-context.result front c.front.ensures.front c.front.ensures.none in
+    let after = c.set.ensures ∙ ap (λ k. set fronts k front) c.context_of-context.ensures in
     record {
-      below = subst (λ (fs : List (Option ℕ)). (d : ℕ) → d < c.loop-context.context-index + 1 → IsFront c.args.machine.now.view d (get_or fs d None)) (sym after)
-          (one_more_front c.args.machine.now.view c.loop-context.fronts c.loop-context.context-index c.front.result i.below (omega (arith, eight, last)) (subst (λ k. IsFront c.args.machine.now.view k c.front.result) here asked));
-      eight = ap (λ (fs : List (Option ℕ)). length fs) after ∙ length-set c.loop-context.fronts c.loop-context.context-index c.front.result ∙ eight;
+      few = few_cleared left less place bits i.few;
+      fronts = subst (λ (fs : List (Option ℕ)). (c : ℕ) → has less c ≡ false → IsFront v c (get_or fs c None)) (sym after)
+          (fronts_cleared left less place bits v fronts front (omega (arith, eight, small)) i.fronts (subst (λ k. IsFront v k front) c.context_of-context.ensures asked));
+      eight = ap (λ (fs : List (Option ℕ)). length fs) after ∙ length-set fronts place front ∙ eight;
     }
+
+pub returns : goal.returns
+returns g c = record { each = λ k. c.loop-left.invariant.fronts k (ap (λ w. has w k) c.loop-left-test.false ∙ has_zero k) }
