@@ -1,6 +1,6 @@
 -- What a context's parts say of renaming is what the flights say.
-use Rattle.std.proofs.Common.{◌≡◌, ℕ, zero, suc, ◌+◌, ◌<◌, ◌≤◌, Bool, true, false, not, ◌&&◌, cond, List, [], ◌∷◌, length, get_or, take, drop, slice_get, Option, Some, None, map, refl, sym, ap, subst, ◌∙◌, arith}
-use Rattle.std.specs.Prelude.{◌==◌, IfSome, find, filter_map, count_by, sum_by, if◌then◌else◌}
+use Rattle.std.proofs.Common.{◌≡◌, ℕ, zero, suc, ◌+◌, ◌^◌, ◌<◌, ◌≤◌, Bool, true, false, not, ◌&&◌, cond, List, [], ◌∷◌, length, get_or, take, drop, slice_get, Option, Some, None, map, refl, sym, ap, subst, ◌∙◌, arith}
+use Rattle.std.specs.Prelude.{◌==◌, ◌↔◌, IsTrue, IfSome, find, filter_map, count_by, sum_by, if◌then◌else◌}
 use Rattle.std.specs.List.{cons_option}
 use Rattle.std.proofs.lemmas.List.{length-take-le, get_or-map}
 use Rattle.std.proofs.lemmas.List.Sums.{sum_by-cons}
@@ -11,7 +11,7 @@ use Rattle.core_view.specs.Queues.{is_renamed, AllRenamed, load_slot, store_slot
 use Rattle.core_view.specs.View.{Context, entry_at, no_entry}
 use Rattle.data_flow.specs.Flow.{Lane, no_lane, lane, takes, taken_in, taken}
 use Rattle.lawful_cycle.specs.Views.{eight, context_in}
-use Rattle.core_view.specs.Flight.{is_queued}
+use Rattle.core_view.specs.Flight.{is_queued, IsStampedBelow}
 use Rattle.lawful_cycle.specs.Rename.{renamed_by, of_all, has_register, HasRoom, oldest_fetched, CanRename}
 use Rattle.core_profile.specs.declared.profile.Profile.{Profile}
 use Rattle.core_back.specs.declared.machine.Machine.TheInside.{Inside}
@@ -33,6 +33,12 @@ oldest_is zero [] renamed fetched = refl
 oldest_is zero (e ∷ es) renamed fetched = rw fetched.0 refl
 oldest_is (suc n) [] renamed fetched = refl
 oldest_is (suc n) (e ∷ es) renamed fetched = rw renamed.0 (oldest_is n es renamed.1 fetched)
+
+-- each stamp is below one that they are all below
+stamped_below : (next : ℕ) (es : List Entry) (i : ℕ) → IsStampedBelow next es → i < length es → (get_or es i no_entry).stamp < next
+stamped_below next [] i below within = absurd (omega (arith, within))
+stamped_below next (e ∷ es) zero below within = below.0
+stamped_below next (e ∷ es) (suc i) below within = stamped_below next es i below.1 (omega (arith, within))
 
 -- ---- counts of renamed entries
 
@@ -229,6 +235,18 @@ module _ {A : Type 0} where
         stamp_is = ap (λ (f : Entry). f.stamp) here;
         age = rw here (omega (arith, age, h.cycle));
       })
+
+  -- a context that has renamed all its entries has none
+  pub none_fetched : (m : Inside A) (now : Machine) (c : ℕ) (t : Track) → HasOldest m now c t → (answer : Bool) → IsTrue answer ↔ (t.renamed < length t.context.flight) → answer ≡ false → (e : Entry) → ¬ (IsPastFront now.view c e)
+  none_fetched m now c t h answer is none = not_past_front m now c t h (λ stamp front. not_both (is.1 front.some) none)
+    where
+      not_both : answer ≡ true → answer ≡ false → ⊥
+      not_both yes_is no_is = cc
+
+  -- the stamp is that of an entry, and so below the next one
+  pub front_below : (m : Inside A) (now : Machine) (c : ℕ) (t : Track) (answer : Option ℕ) → m.stamp < 2 ^ 64 → At m now c t → IfSome answer (IsTrackPastFront t m.profile m.cycle) → IfSome answer (λ stamp. stamp + 1 < 2 ^ 64)
+  front_below m now c t None fits h is = tt
+  front_below m now c t (Some stamp) fits h is = let below = stamped_below m.stamp t.context.flight t.renamed h.core.live.flight.below is.some in omega (arith, below, is.stamp_is, fits)
 
   pub may_not_rename : (m : Inside A) (now : Machine) (c : ℕ) (t : Track) → IsCounted m now c t → ((stamp : ℕ) → ¬ (IsRenamable m.flow t m.profile m.cycle stamp)) → (e : Entry) → ¬ (CanRename now.view c e)
   may_not_rename m now c t h not_one e can = not_one e.stamp (is_renamable m now c t e h can)

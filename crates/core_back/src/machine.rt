@@ -342,12 +342,31 @@ impl<A: Allocator> Machine<A> {
         issue_of(name, lag)
     }
 
+    /// Whether a context has an entry that is fetched and not yet renamed: without one, none can be.
+    pub fn has_fetched(&self, context: Ctx) -> bool
+        ensures { result ≡ false → (e : Entry) → ¬ (IsPastFront self.now.view context e) }
+    {
+        let track = &self.tracks[context.index()];
+        track.has_fetched()
+    }
+
+    /// The stamp of the entry that is fetched next.
+    fn next_stamp(&self) -> u64
+        ensures value { result ≡ self.now.view.stamp }
+        ensures bound { result < 2 ^ 64 }
+    {
+        self.stamp
+    }
+
     /// The stamp of the oldest fetched entry of a context, if it was fetched as many cycles ago as the front delay says:
     /// no other entry of the context can be renamed.
     pub fn front(&self, context: Ctx) -> Option<u64>
         ensures front { IfSome result (IsPastFrontStamp self.now.view context) }
+        ensures bound { IfSome result (λ stamp. stamp + 1 < 2 ^ 64) }
         ensures none { result ≡ None → (e : Entry) → ¬ (IsPastFront self.now.view context e) }
     {
+        // The stamps of the entries are below the next one.
+        let _next = self.next_stamp();
         let track = &self.tracks[context.index()];
         events::front(track, self.cycle, &self.profile)
     }

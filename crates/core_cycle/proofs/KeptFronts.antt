@@ -1,8 +1,8 @@
 -- What is known of the contexts' fronts as they are asked, and after an entry is renamed.
 use Rattle.std.proofs.Common.{◌≡◌, ◌≢◌, ℕ, ◌+◌, ◌<◌, ◌≤◌, Bool, true, false, List, length, get_or, Option, Some, None, refl, sym, ap, ◌∙◌, subst, arith, inl, inr}
-use Rattle.std.specs.Prelude.{set, cond, ◌&&◌, not, ◌==◌, count_by, IfSome}
-use Rattle.std.proofs.lemmas.Bool.{cases_lt, cases_eq}
-use Rattle.std.proofs.lemmas.List.{get_or-set_same, get_or-set_other, get_or_past}
+use Rattle.std.specs.Prelude.{set, cond, map, slice_index, unwrap_or, ◌^◌, ◌&&◌, not, ◌==◌, count_by, IfSome}
+use Rattle.std.proofs.lemmas.Bool.{cases_lt, cases_eq, lt-ltb, le-ltb}
+use Rattle.std.proofs.lemmas.List.{get_or-map, get_or-set_same, get_or-set_other, get_or_past}
 use Rattle.std.proofs.lemmas.List.Sums.{sum_by-set, sum_by-le-sum_by}
 use Rattle.core_profile.specs.declared.profile.Profile.{Profile}
 use Rattle.core_view.specs.declared.entry.Entry.{Entry}
@@ -16,12 +16,12 @@ use Rattle.lawful_cycle.specs.Rename.{CanRename, IsNext, of_all, renamed_by, has
 use Rattle.core_back.specs.Machine.{Machine, context_at, no_context}
 use Rattle.core_back.specs.Fetched.{IsRenamed}
 use Rattle.core_back.specs.Renamable.{IsPastFront, IsPastFrontStamp}
-use Rattle.core_cycle.specs.Fronts.{IsFront, AreFronts, IsLeastBelow, IsNextBelow}
+use Rattle.core_cycle.specs.Fronts.{IsFront, AreFronts, IsLeast, IsOldest, front_of}
 
 -- ---- one front
 
 -- an entry that can be renamed is past the front delay
-is_past_front : (v : View) (c : ℕ) (e : Entry) → CanRename v c e → IsPastFront v c e
+pub is_past_front : (v : View) (c : ℕ) (e : Entry) → CanRename v c e → IsPastFront v c e
 is_past_front v c e can = record { oldest = can.oldest; age = can.age }
 
 -- a context has one entry that is past the front delay and may be renamed next
@@ -123,23 +123,61 @@ module _ (m n : Machine) (c stamp : ℕ) (one : IsRenamed m n c stamp) where
       ]
 
   -- where the oldest front's context is renamed, its entry is the next of all
-  pub least_is_next : (fronts : List (Option ℕ)) (stamp_before : ℕ) → AreFronts m.view fronts → IsLeastBelow fronts 8 (record { context = c; stamp = stamp_before }) → IsNext m.view (record { context = c; stamp = stamp })
-  least_is_next fronts stamp_before are h = record {
+  pub least_is_next : (fronts : List (Option ℕ)) → AreFronts m.view fronts → IsLeast fronts c → IsNext m.view (record { context = c; stamp = stamp })
+  least_is_next fronts are h = record {
     entry = entry_at (context_at m c) one.place;
     can = one.can;
     stamp = one.stamp_is;
     least = λ d f can. let le = h.least d f.stamp can.context (are.each d f can) in omega (arith, le, same_stamp);
   }
     where
-      same_stamp : (entry_at (context_at m c) one.place).stamp ≡ stamp_before
+      same_stamp : (entry_at (context_at m c) one.place).stamp ≡ h.stamp
       same_stamp = of_some (sym (are.each c (entry_at (context_at m c) one.place) one.can) ∙ h.front)
         where
-          of_some : Some (entry_at (context_at m c) one.place).stamp ≡ Some stamp_before → (entry_at (context_at m c) one.place).stamp ≡ stamp_before
+          of_some : Some (entry_at (context_at m c) one.place).stamp ≡ Some h.stamp → (entry_at (context_at m c) one.place).stamp ≡ h.stamp
           of_some is = cc
 
 -- without a front nothing can be renamed
-pub none_can : (v : View) (fronts : List (Option ℕ)) → AreFronts v fronts → IsNextBelow fronts 8 None → (c : ℕ) (e : Entry) → ¬ CanRename v c e
+pub none_can : (v : View) (fronts : List (Option ℕ)) → AreFronts v fronts → IsOldest fronts None → (c : ℕ) (e : Entry) → ¬ CanRename v c e
 none_can v fronts are none c e can = no_some (sym (none c can.context) ∙ are.each c e can)
   where
     no_some : None ≡ Some e.stamp → ⊥
     no_some is = cc
+
+-- ---- numbers as fronts
+
+front_some : (n : ℕ) → n < 18446744073709551615 → front_of n ≡ Some n
+front_some n lt = rw (lt-ltb n 18446744073709551615 lt) refl
+
+front_none : (n : ℕ) → 18446744073709551615 ≤ n → front_of n ≡ None
+front_none n le = rw (le-ltb n 18446744073709551615 le) refl
+
+-- what is put into a place: a stamp, or the greatest number
+pub front_put : (front : Option ℕ) (n : ℕ) → IfSome front (λ stamp. stamp + 1 < 2 ^ 64) → n ≡ unwrap_or front 18446744073709551615 → front_of n ≡ front
+front_put None n fits is = rw is refl
+front_put (Some stamp) n fits is = rw is (front_some stamp (omega (arith, fits)))
+
+module _ (ns : List ℕ) (fronts : List (Option ℕ)) (p : ℕ) (eight : length ns ≡ 8) (shows : map front_of ns ≡ fronts) (least : (d : ℕ) → d < 8 → slice_index ns p ≤ slice_index ns d) where
+  front_at : (d : ℕ) → d < 8 → get_or fronts d None ≡ front_of (slice_index ns d)
+  front_at d lt = ap (λ fs. get_or fs d None) (sym shows) ∙ get_or-map front_of ns d 0 None (omega (arith, lt, eight))
+
+  -- the least number, which is a stamp, is that of the oldest front
+  pub some_oldest : p < 8 → slice_index ns p < 18446744073709551615 → IsLeast fronts p
+  some_oldest lt stamp = record {
+    stamp = slice_index ns p;
+    front = front_at p lt ∙ front_some (slice_index ns p) stamp;
+    least = λ d other ld is. elim (cases_lt (slice_index ns d) 18446744073709551615) [
+      | inl below ↦ subst (λ k. slice_index ns p ≤ k) (of_some (slice_index ns d) other (sym (front_at d ld ∙ front_some (slice_index ns d) below) ∙ is)) (least d ld)
+      | inr above ↦ absurd (no_some other (sym (front_at d ld ∙ front_none (slice_index ns d) above) ∙ is))
+    ];
+  }
+    where
+      of_some : (a b : ℕ) → Some a ≡ Some b → a ≡ b
+      of_some a b is = cc
+
+      no_some : (b : ℕ) → None ≡ Some b → ⊥
+      no_some b is = cc
+
+  -- where it is none, there is no front
+  pub none_oldest : 18446744073709551615 ≤ slice_index ns p → IsOldest fronts None
+  none_oldest none d ld = front_at d ld ∙ front_none (slice_index ns d) (let le = least d ld in omega (arith, none, le))

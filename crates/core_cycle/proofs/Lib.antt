@@ -7,6 +7,7 @@ pub mod EightOf
 pub mod AheadCounts
 pub mod KeptFronts
 pub mod LookedFor
+pub mod FrontWords
 pub mod Renamings
 pub mod Whole
 pub mod ShownPicks

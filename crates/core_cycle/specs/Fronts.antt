@@ -1,7 +1,6 @@
 -- What is known, while entries are renamed, of each context's oldest fetched entry: its stamp, wherever it can be renamed.
-use Rattle.std.specs.Prelude.{◌≡◌, ℕ, ◌<◌, ◌≤◌, List, get_or, Option, Some, None}
+use Rattle.std.specs.Prelude.{◌≡◌, ℕ, ◌<◌, ◌≤◌, nat_lt, List, get_or, Option, Some, None, if◌then◌else◌}
 use Rattle.core_view.specs.declared.entry.Entry.{Entry}
-use Rattle.core_view.specs.declared.note.EntryId.{EntryId}
 use Rattle.core_view.specs.View.{View}
 use Rattle.lawful_cycle.specs.Rename.{CanRename}
 
@@ -13,12 +12,17 @@ IsFront v c front = (e : Entry) → CanRename v c e → front ≡ Some e.stamp
 pub record AreFronts (v : View) (fronts : List (Option ℕ)) : Type 0 where
   pub each : (c : ℕ) → IsFront v c (get_or fronts c None)
 
--- it is a front, and of those of the contexts below a number it has the least stamp
-pub record IsLeastBelow (fronts : List (Option ℕ)) (count : ℕ) (n : EntryId) : Type 0 where
-  pub front : get_or fronts n.context None ≡ Some n.stamp
-  pub least : (d stamp : ℕ) → d < count → get_or fronts d None ≡ Some stamp → n.stamp ≤ stamp
+-- the greatest number of 64 bits is no entry's stamp: it stands for none
+abbrev pub front_of : ℕ → Option ℕ
+front_of stamp = if nat_lt stamp 18446744073709551615 then Some stamp else None
 
--- the oldest front of these contexts, or none where they have none
-abbrev pub IsNextBelow : List (Option ℕ) → ℕ → Option EntryId → Type 0
-IsNextBelow fronts count (Some n) = IsLeastBelow fronts count n
-IsNextBelow fronts count None = (d : ℕ) → d < count → get_or fronts d None ≡ None
+-- a context has a front, which has the least stamp of all
+pub record IsLeast (fronts : List (Option ℕ)) (c : ℕ) : Type 0 where
+  pub stamp : ℕ
+  pub front : get_or fronts c None ≡ Some stamp
+  pub least : (d other : ℕ) → d < 8 → get_or fronts d None ≡ Some other → stamp ≤ other
+
+-- the context of the oldest front, or none where there is no front
+abbrev pub IsOldest : List (Option ℕ) → Option ℕ → Type 0
+IsOldest fronts (Some c) = IsLeast fronts c
+IsOldest fronts None = (d : ℕ) → d < 8 → get_or fronts d None ≡ None

@@ -1,49 +1,126 @@
-//! Which contexts may have an entry to rename next, and which of them is the oldest.
+//! Which contexts may have an entry to rename next, and which of them has the oldest.
 
-ghost use Rattle.std.specs.Prelude.{◌≡◌, ◌+◌, []};
-ghost use Rattle.core_cycle.specs.Fronts.{AreFronts, IsNextBelow};
+ghost use Rattle.std.specs.Prelude.{true, false, ◌≡◌, ℕ, ◌+◌, ◌<◌, ◌≤◌, ◌^◌, [], None, replicate, IfSome, slice_index, slice_set};
+ghost use Rattle.word_mask.specs.Mask.{has};
+ghost use Rattle.core_view.specs.declared.entry.Entry.{Entry};
+ghost use Rattle.lawful_cycle.specs.Rename.{CanRename};
+ghost use Rattle.core_cycle.specs.Fronts.{AreFronts, IsOldest};
 
 use core_back::Machine;
-use core_view::EntryId;
 use join_law::Ctx;
 use std::alloc::Allocator;
+use std::marker::Model;
+use word_mask::{added, cleared, lowest};
 
 /// The stamps of the contexts' oldest fetched entries, where these are past the front delay: no others can be renamed.
-pub(crate) fn fronts_of<A: Allocator>(machine: &Machine<A>) -> [Option<u64>; 8]
-    requires { machine.now.names ≡ [] }
-    ensures { AreFronts machine.now.view result }
-{
-    let mut fronts = [None; 8];
-    for context in Ctx::all() {
-        fronts[context.index()] = machine.front(context);
-    }
-    fronts
+/// The greatest number, which is no entry's stamp, stands for none.
+#[derive(Drop)]
+pub(crate) struct Fronts {
+    stamps: [u64; 8],
 }
 
-/// Of the contexts' fronts, the one with the least stamp.
-pub(crate) fn oldest_front(fronts: &[Option<u64>; 8]) -> Option<EntryId>
-    ensures { IsNextBelow fronts.now 8 result }
-{
-    let mut oldest = None;
-    for context in Ctx::all() {
-        oldest = older(fronts, oldest, context);
-    }
-    oldest
+impl Model for Fronts {
+    ghost use Rattle.std.specs.Prelude.{ℕ, List, Option, map};
+    ghost use Rattle.core_cycle.specs.Fronts.{front_of};
+
+    ghost Value = { List (Option ℕ) };
+
+    ghost view = { λ f. map front_of f.stamps };
 }
 
-/// The oldest front of a context and those below it, from the oldest of those below it.
-fn older(fronts: &[Option<u64>; 8], oldest: Option<EntryId>, context: Ctx) -> Option<EntryId>
-    requires { IsNextBelow fronts.now context oldest }
-    ensures { IsNextBelow fronts.now (context + 1) result }
-{
-    let Some(stamp) = fronts[context.index()] else {
-        return oldest;
-    };
-    let Some(earlier) = oldest else {
-        return Some(EntryId { context, stamp });
-    };
-    if earlier.stamp < stamp {
-        return Some(earlier);
+impl Fronts {
+    /// Of no context.
+    fn none() -> Fronts
+        ensures { result ≡ replicate 8 None }
+    {
+        Fronts {
+            stamps: [u64::MAX; 8],
+        }
     }
-    Some(EntryId { context, stamp })
+
+    /// The fronts of a machine.
+    pub(crate) fn of<A: Allocator>(machine: &Machine<A>) -> Fronts
+        requires { machine.now.names ≡ [] }
+        ensures { AreFronts machine.now.view result }
+    {
+        let mut fronts = Fronts::none();
+        let mut left = with_fetched(machine);
+        while left != 0 {
+            let place = lowest(left);
+            left = cleared(left, place);
+            let context = context_of(place);
+            fronts.set(context, machine.front(context));
+        }
+        fronts
+    }
+
+    /// The front of a context, if it has one, takes the place of the one that it had.
+    pub(crate) fn set(&mut self, context: Ctx, front: Option<u64>)
+        requires { IfSome front (λ stamp. stamp + 1 < 2 ^ 64) }
+        ensures { self.new ≡ slice_set self.old context front }
+    {
+        self.stamps[context.index()] = front.unwrap_or(u64::MAX);
+    }
+
+    /// The context of the oldest front.
+    pub(crate) fn oldest(&self) -> Option<Ctx>
+        ensures { IsOldest self.now result }
+    {
+        let place = least_place(&self.stamps);
+        if self.stamps[place] < u64::MAX {
+            return Some(context_of(place));
+        }
+        None
+    }
+}
+
+/// A bit of each context that has fetched entries. It is asked without a jump, and most cycles leave some out.
+fn with_fetched<A: Allocator>(machine: &Machine<A>) -> u64
+    ensures few { (c : ℕ) → has result c ≡ true → c < 8 }
+    ensures none { (c : ℕ) → has result c ≡ false → (e : Entry) → ¬ (CanRename machine.now.view c e) }
+{
+    let mut word = 0u64;
+    for context in Ctx::all() {
+        word = added(word, context.index(), machine.has_fetched(context));
+    }
+    word
+}
+
+/// The place of the least of eight numbers.
+// It stays out of line: in a loop its choices would become jumps.
+#[inline(never)]
+fn least_place(stamps: &[u64; 8]) -> usize
+    ensures bound { result < 8 }
+    ensures least { (d : ℕ) → d < 8 → slice_index stamps.now result ≤ slice_index stamps.now d }
+{
+    let mut least = 0usize;
+    for place in 1..8usize {
+        least = lesser(stamps, least, place);
+    }
+    least
+}
+
+/// Of two places that of the lesser number.
+#[inline(always)]
+fn lesser(stamps: &[u64; 8], first: usize, second: usize) -> usize
+    requires first { first < 8 }
+    requires second { second < 8 }
+    ensures bound { result < 8 }
+    ensures first { slice_index stamps.now result ≤ slice_index stamps.now first }
+    ensures second { slice_index stamps.now result ≤ slice_index stamps.now second }
+{
+    if stamps[second] < stamps[first] {
+        second
+    } else {
+        first
+    }
+}
+
+/// The context of a number below 8.
+#[inline(always)]
+fn context_of(number: usize) -> Ctx
+    requires { number < 8 }
+    ensures { result ≡ number }
+{
+    Ctx::new(number).unwrap()
 }

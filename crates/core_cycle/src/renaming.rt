@@ -7,7 +7,7 @@ ghost use Rattle.core_back.specs.Machine.{IsAlike, in_flight};
 ghost use Rattle.core_back.specs.Fetched.{IsRenamed};
 ghost use Rattle.core_cycle.specs.Fronts.{AreFronts};
 
-use crate::fronts::{fronts_of, oldest_front};
+use crate::fronts::Fronts;
 use arrayvec::ArrayVec;
 use core_back::Machine;
 use core_view::EntryId;
@@ -28,7 +28,7 @@ pub(crate) fn rename<A: Allocator>(machine: &mut Machine<A>, renamed: &mut Array
     let width = usize::from(machine.profile().rename_width);
     // `cycle` ensures that each context is live, so its stamps grow.
     let _live = machine.cycle();
-    let mut fronts = fronts_of(machine);
+    let mut fronts = Fronts::of(machine);
     for _place in 0..width {
         let Some(oldest) = rename_oldest(machine, &mut fronts) else {
             return;
@@ -39,10 +39,7 @@ pub(crate) fn rename<A: Allocator>(machine: &mut Machine<A>, renamed: &mut Array
 
 /// The oldest entry that can be renamed is renamed, if there is one, and its context's front is asked anew: what can be
 /// renamed of another context then could be before.
-fn rename_oldest<A: Allocator>(
-    machine: &mut Machine<A>,
-    fronts: &mut [Option<u64>; 8],
-) -> Option<EntryId>
+fn rename_oldest<A: Allocator>(machine: &mut Machine<A>, fronts: &mut Fronts) -> Option<EntryId>
     requires idle { machine.old.names ≡ [] }
     requires fronts { AreFronts machine.old.view fronts.old }
     ensures none { result ≡ None → (c : ℕ) (e : Entry) → ¬ (CanRename machine.new.view c e) }
@@ -54,16 +51,12 @@ fn rename_oldest<A: Allocator>(
     ensures flights { in_flight machine.new ≡ in_flight machine.old }
     ensures idle { machine.new.names ≡ [] }
 {
-    while let Some(front) = oldest_front(fronts) {
-        let place = front.context.index();
-        if let Some(stamp) = machine.try_rename(front.context) {
-            fronts[place] = machine.front(front.context);
-            return Some(EntryId {
-                context: front.context,
-                stamp,
-            });
+    while let Some(context) = fronts.oldest() {
+        if let Some(stamp) = machine.try_rename(context) {
+            fronts.set(context, machine.front(context));
+            return Some(EntryId { context, stamp });
         }
-        fronts[place] = None;
+        fronts.set(context, None);
     }
     None
 }

@@ -1,5 +1,6 @@
 -- One bit of a word.
 use Rattle.std.proofs.Common.{◌≡◌, ℕ, ◌+◌, ◌-◌, ◌*◌, ◌/◌, ◌%◌, ◌^◌, ◌<◌, ◌≤◌, inl, inr, Bool, true, false, cond, not, ◌&&◌, eqb, List, [], ◌∷◌, length, refl, ap, sym, ◌∙◌, add-one, arith, w64}
+use mir.Val.{bool_byte}
 use Rattle.std.specs.Prelude.{bit_and, bit_or, count_ones}
 use Rattle.std.specs.Int.Count.{ones}
 use Rattle.std.specs.Int.{bit_at, bit_not, trailing_zeros, trailing_ones}
@@ -9,7 +10,7 @@ use Rattle.std.proofs.lemmas.Bool.Decides.{eqb_tells, same_from_decides, Decides
 use Rattle.std.proofs.lemmas.List.Elements.{All-weaker}
 use Rattle.word_mask.specs.Mask.{is_listed}
 use Rattle.word_mask.proofs.Lists.{filter_agree_on, AllPairs-head, AllPairs-tail}
-use Rattle.std.proofs.lemmas.Nat.{and_le_l, ones_cat, and-not, and_comm, one_shl, shr_split, pow_pos}
+use Rattle.std.proofs.lemmas.Nat.{or_comm, or_shifted, and_le_l, ones_cat, and-not, and_comm, one_shl, shr_split, pow_pos}
 use Rattle.std.proofs.lemmas.Nat.Bits.{shr_and_one, bit_at_set_same, bit_at_set_other, bit_at_clear_same, bit_at_clear_other, bit_at_above, bit_at-lt, and_pow, bit_at-trailing_zeros, bit_at-trailing_ones, same_from_bits, bit_at-zero, bit_at_and, bit_at_not}
 use Rattle.std.proofs.Math.Nat.{suc-mul, mod-lt}
 use Rattle.std.proofs.Math.Pow.{pow-lt}
@@ -54,6 +55,27 @@ with_bit w k p lt = elim (eqb_tells p k) [
   | inl t ↦ rw (t.0, t.1) (true-has (bit_or w (1 * 2 ^ k % 2 ^ 64)) k (bit_at_set_same w64 w k lt))
   | inr t ↦ rw t.0 (has_same (bit_or w (1 * 2 ^ k % 2 ^ 64)) w p (bit_at_set_other w64 w k lt p t.1))
 ]
+
+or_none : (w : ℕ) → w < 2 ^ 64 → bit_or w 0 ≡ w
+or_none w fits = let shifted : bit_or (0 * 2 ^ 64) w ≡ 0 * 2 ^ 64 + w = or_shifted 0 64 w fits in let same : bit_or 0 w ≡ w = omega (arith, shifted) in or_comm w 0 ∙ same
+
+-- a flag as a number
+pub byte_number : (flag : Bool) (b : ℕ) → b ≡ bool_byte flag → b ≡ cond flag 1 0
+byte_number true b is = is
+byte_number false b is = is
+
+-- the word with a bit, where told so
+pub with_bit_where : (w k p b : ℕ) (flag : Bool) → w < 2 ^ 64 → k < 64 → b ≡ cond flag 1 0 → has (bit_or w (b * 2 ^ k % 2 ^ 64)) p ≡ cond (eqb p k && flag) true (has w p)
+with_bit_where w k p b true fits lt is = rw is (with_bit w k p lt ∙ ap (λ t. cond t true (has w p)) (and_true (eqb p k)))
+  where
+    and_true : (t : Bool) → t ≡ (t && true)
+    and_true true = refl
+    and_true false = refl
+with_bit_where w k p b false fits lt is = rw is (let none : 0 * 2 ^ k % 2 ^ 64 ≡ 0 = omega arith in ap (λ v. has (bit_or w v) p) none ∙ ap (λ v. has v p) (or_none w fits) ∙ ap (λ t. cond t true (has w p)) (and_false (eqb p k)))
+  where
+    and_false : (t : Bool) → false ≡ (t && false)
+    and_false true = refl
+    and_false false = refl
 
 -- the word without a bit
 pub without_bit : (w k p : ℕ) → w < 2 ^ 64 → k < 64 → has (bit_and w (bit_not w64 (1 * 2 ^ k % 2 ^ 64))) p ≡ cond (eqb p k) false (has w p)

@@ -19,6 +19,15 @@ pub fn assigned(word: u64, place: usize, flag: bool) -> u64
     if flag { word | bit } else { word & !bit }
 }
 
+/// The word, with the bit of a place where told so. It takes no jump.
+#[inline(always)]
+pub fn added(word: u64, place: usize, flag: bool) -> u64
+    requires { place < 64 }
+    ensures { (p : ℕ) → has result p ≡ (if (p == place) && flag then true else has word p) }
+{
+    word | (u64::from(flag) << place as u32)
+}
+
 /// The word without a bit that it has.
 pub fn cleared(word: u64, place: usize) -> u64
     requires bound { place < 64 }

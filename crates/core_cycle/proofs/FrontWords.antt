@@ -1,0 +1,56 @@
+-- The contexts that may have a front, as bits of a word.
+use Rattle.std.proofs.Common.{◌≡◌, ◌≢◌, ℕ, ◌+◌, ◌<◌, Bool, true, false, cond, not, ◌&&◌, eqb, List, length, get_or, Option, None, refl, sym, ap, ◌∙◌, subst, arith, inl, inr}
+use Rattle.std.specs.Prelude.{set}
+use Rattle.std.proofs.lemmas.Bool.{cases_eq, cases_Bool, eq-eqb, ne_eqb, true≢false}
+use Rattle.std.proofs.lemmas.List.{get_or-set_same, get_or-set_other}
+use Rattle.word_mask.specs.Mask.{has}
+use Rattle.core_view.specs.declared.entry.Entry.{Entry}
+use Rattle.core_view.specs.View.{View}
+use Rattle.lawful_cycle.specs.Rename.{CanRename}
+use Rattle.core_cycle.specs.Fronts.{IsFront}
+
+-- nothing of a context can be renamed
+abbrev pub IsSpent : View → ℕ → Type 0
+IsSpent v c = (e : Entry) → ¬ (CanRename v c e)
+
+module _ (word new item : ℕ) (flag : Bool) (bits : (p : ℕ) → has new p ≡ cond (eqb p item && flag) true (has word p)) where
+  other : (c : ℕ) → c ≢ item → has new c ≡ has word c
+  other c ne = bits c ∙ ap (λ b. cond (b && flag) true (has word c)) (ne_eqb c item ne)
+
+  -- a bit more, behind those before it
+  pub few_added : ((c : ℕ) → has word c ≡ true → c < item) → (c : ℕ) → has new c ≡ true → c < item + 1
+  few_added few c is = elim (cases_eq c item) [
+    | inl same ↦ omega (arith, same)
+    | inr ne ↦ let below = few c (sym (other c ne) ∙ is) in omega (arith, below)
+  ]
+
+  -- what it leaves out has nothing to rename
+  pub none_added : (v : View) → ((c : ℕ) → c < item → has word c ≡ false → IsSpent v c) → (flag ≡ false → IsSpent v item) → (c : ℕ) → c < item + 1 → has new c ≡ false → IsSpent v c
+  none_added v below here c lt no_bit = elim (cases_eq c item) [
+    | inl same ↦ elim (cases_Bool flag) [
+      | inl set_ ↦ absurd (true≢false (sym (bits c ∙ rw (eq-eqb c item same, set_) refl) ∙ no_bit))
+      | inr unset ↦ subst (IsSpent v) (sym same) (here unset)
+    ]
+    | inr ne ↦ below c (omega (arith, lt, ne)) (sym (other c ne) ∙ no_bit)
+  ]
+
+module _ (left less place : ℕ) (bits : (p : ℕ) → has less p ≡ (has left p && not (eqb p place))) where
+  and_left : (a b : Bool) → (a && b) ≡ true → a ≡ true
+  and_left true b is = refl
+  and_left false b is = is
+
+  -- a bit less
+  pub few_cleared : ((c : ℕ) → has left c ≡ true → c < 8) → (c : ℕ) → has less c ≡ true → c < 8
+  few_cleared few c is = few c (and_left (has left c) (not (eqb c place)) (sym (bits c) ∙ is))
+
+  and_true : (a : Bool) → a ≡ (a && not false)
+  and_true true = refl
+  and_true false = refl
+
+  -- once its context is asked, the fronts of all that are left out are known
+  pub fronts_cleared : (v : View) (fronts : List (Option ℕ)) (front : Option ℕ) → place < length fronts → ((c : ℕ) → has left c ≡ false → IsFront v c (get_or fronts c None)) → IsFront v place front
+      → (c : ℕ) → has less c ≡ false → IsFront v c (get_or (set fronts place front) c None)
+  fronts_cleared v fronts front within known here c no_bit = elim (cases_eq c place) [
+    | inl same ↦ λ e can. ap (λ k. get_or (set fronts place front) k None) same ∙ get_or-set_same fronts place front None within ∙ here e (subst (λ k. CanRename v k e) same can)
+    | inr ne ↦ λ e can. get_or-set_other fronts place c front None ne ∙ known c (and_true (has left c) ∙ ap (λ b. has left c && not b) (sym (ne_eqb c place ne)) ∙ sym (bits c) ∙ no_bit) e can
+  ]
