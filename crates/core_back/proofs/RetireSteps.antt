@@ -8,7 +8,6 @@ use Rattle.hart_step.specs.declared.stop.Stop.{Stop}
 use Rattle.origin_set.specs.Start.{start}
 use Rattle.fetch_policy.specs.Lawful.{turn}
 use Rattle.core_view.specs.declared.outcome.Step.{Step}
-use Rattle.core_view.specs.declared.outcome.Outcome.{Outcome}
 use Rattle.core_view.specs.declared.outcome.Outcome.TheVariants.{Goes, Stops}
 use Rattle.core_view.specs.declared.note.EntryId.{EntryId}
 use Rattle.core_view.specs.View.{Context, IsLive, entry_at}
