@@ -45,7 +45,7 @@ clear-bit true e = absurd (no-one (sym e))
     no-one k = omega (arith, k)
 clear-bit false e = refl
 
-none_some : {X : Type 0} (o : Option X) → is_some o ≡ false → o ≡ None
+pub none_some : {X : Type 0} (o : Option X) → is_some o ≡ false → o ≡ None
 none_some None h = refl
 none_some (Some x) h = absurd cc
 

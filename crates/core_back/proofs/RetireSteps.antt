@@ -1,5 +1,5 @@
 -- The entries of a cycle retire, one by one, context by context.
-use Rattle.std.proofs.Common.{◌≡◌, ℕ, zero, suc, ◌+◌, ◌-◌, ◌%◌, ◌<◌, ◌≤◌, Bool, true, false, List, [], ◌∷◌, ◌++◌, Option, Some, None, refl, sym, ap, ◌∙◌, subst, arith, append-nil, not, inl, inr, ◌⊎◌, ◌*◌}
+use Rattle.std.proofs.Common.{◌≡◌, ℕ, zero, suc, ◌+◌, ◌-◌, ◌%◌, ◌<◌, ◌≤◌, Bool, true, false, List, [], ◌∷◌, ◌++◌, Some, None, refl, sym, ap, ◌∙◌, subst, arith, append-nil, not, inl, inr, ◌⊎◌, ◌*◌}
 use mir.Val.{bool_byte}
 use Rattle.std.specs.Int.{bit_at}
 use Rattle.std.specs.Prelude.{is_some}
@@ -8,7 +8,6 @@ use Rattle.hart_step.specs.declared.stop.Stop.{Stop}
 use Rattle.origin_set.specs.Start.{start}
 use Rattle.fetch_policy.specs.Lawful.{turn}
 use Rattle.core_view.specs.declared.outcome.Step.{Step}
-use Rattle.core_view.specs.declared.outcome.Outcome.{Outcome}
 use Rattle.core_view.specs.declared.outcome.Outcome.TheVariants.{Goes, Stops}
 use Rattle.core_view.specs.declared.note.EntryId.{EntryId}
 use Rattle.core_view.specs.View.{Context, IsLive, entry_at}
@@ -18,6 +17,7 @@ use Rattle.core_context.specs.Heads.{first_done}
 use Rattle.core_back.specs.Machine.{Machine, context_at, with_context}
 use Rattle.core_back.specs.Turn.{TurnsBy, IsTurn, IsOnWay, IsInTurn, GoesOn, ended, id_of}
 use Rattle.core_back.proofs.RetiredFronts.{way_first, way_open, way_next, way_none, way_ended, way_stop, none_kept, stop_keeps_none, context_now, one_changed, none_changed, context_ended, one_ended, listed_more}
+use Rattle.core_back.proofs.DoneTurns.{none_some}
 use Rattle.core_back.proofs.RetireTurns.{Turned, AllLive, turned_next, one_turn}
 
 -- ---- in a context's turn
@@ -70,10 +70,6 @@ module _ (s : State) (stamp : ℕ) (b m n : Machine) (c k room left : ℕ) (old 
         way = subst (λ y. IsOnWay (context_at b c) y (k + 1)) (sym (context_now m n c (retire_event (context_at m c) step) (Goes step) done is)) (way_next s stamp (context_at b c) live (context_at m c) k step so_far.way done);
         listed = listed_more (context_at b c) (context_at m c) c k old ids new id open_.flight open_.more named so_far.listed more;
       }
-
-none_some : (o : Option Outcome) → is_some o ≡ false → o ≡ None
-none_some None h = refl
-none_some (Some x) h = absurd cc
 
 -- the next one is done, or its turn is over
 pub turn_goes_on : (s : State) (stamp : ℕ) (b n : Machine) (c k room left : ℕ) (old ids : List EntryId) (on : Bool) → IsLive s stamp (context_at b c) → IsInTurn b n c k room left old ids → on ≡ is_some (first_done (context_at n c).flight)
