@@ -114,7 +114,7 @@ pub(crate) fn is_waiting(entry: &Entry) -> bool
 fn is_waiting_load(entry: &Entry) -> bool
     ensures { result ≡ is_waiting_load entry.now }
 {
-    is_waiting(entry) && entry.operation.is_load()
+    is_waiting(entry) & entry.operation.is_load()
 }
 
 /// Whether an entry is guessed and has not completed.
@@ -122,7 +122,7 @@ fn is_waiting_load(entry: &Entry) -> bool
 fn is_open_guess(entry: &Entry) -> bool
     ensures { result ≡ is_open_guess entry.now }
 {
-    entry.operation.is_guessed() && !entry.stage.is_done()
+    entry.operation.is_guessed() & !entry.stage.is_done()
 }
 
 /// Whether an entry is a load that was issued, has not completed, and missed.

@@ -99,6 +99,39 @@ fn mark_sources(words: &mut [u64; 480], entry: &Queued, place: usize, flag: bool
     mark_source(words, second, place, flag);
 }
 
+/// The number of a source's register and true; any other and false where there is no source.
+#[inline(always)]
+fn told(source: Option<PhysicalRegister>) -> (usize, bool)
+    ensures bound { result.0 < 480 }
+    ensures told { (i : ℕ) → list_any (λ r. r == i) (option_to_list source) ≡ ((result.0 == i) && result.1) }
+{
+    match source {
+        Some(register) => (register.index(), true),
+        None => (0, false),
+    }
+}
+
+/// Sets the bit of a place in the word of a source, if there is one, without a jump.
+fn add_source(words: &mut [u64], source: Option<PhysicalRegister>, place: usize)
+    requires length { length words.old ≡ 480 }
+    requires place { place < 64 }
+    ensures words { (i p : ℕ) → has (slice_index words.new i) p ≡ (if (p == place) && list_any (λ r. r == i) (option_to_list source) then true else has (slice_index words.old i) p) }
+    ensures length { length words.new ≡ length words.old }
+{
+    let (index, waits) = told(source);
+    words[index] = word_mask::added(words[index], place, waits);
+}
+
+/// The same in the word of each source of an entry.
+fn add_sources(words: &mut [u64; 480], entry: &Queued, place: usize)
+    requires { place < 64 }
+    ensures { (i p : ℕ) → has (slice_index words.new i) p ≡ (if (p == place) && list_any (λ r. r == i) (waits_of entry.now) then true else has (slice_index words.old i) p) }
+{
+    let [first, second] = entry.sources();
+    add_source(words, first, place);
+    add_source(words, second, place);
+}
+
 /// Wakes the entries of a word's places.
 fn wake_places(slots: &mut Slots, supplied: u64, word: u64, register: PhysicalRegister) -> Woken
     ensures slots { (p : ℕ) → slot slots.new p ≡ (if has word p then awake register (slot slots.old p) else slot slots.old p) }
@@ -160,7 +193,7 @@ impl Places {
         self.supplied = marked(self.supplied, place, entry.is_supplied());
         self.guesses = marked(self.guesses, place, entry.is_guessed());
         mark(&mut self.contexts, entry.context().index(), place, true);
-        mark_sources(&mut self.waiters, entry, place, true);
+        add_sources(&mut self.waiters, entry, place);
     }
 
     /// Frees a place. It leaves every word.
