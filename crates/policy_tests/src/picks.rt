@@ -4,8 +4,8 @@ ghost use Rattle.std.specs.Prelude.{◌≤◌};
 
 use core_profile::FetchPolicy;
 use fetch_policy::{
-    Brcount, FetchContext, FetchView, Icount, Iqposn, Misscount, NamedPick, Pick, RoundRobin,
-    choose,
+    Brcount, FetchContext, FetchView, Icount, Iqposn, Misscount, NO_KEY, NamedPick, Pick,
+    RoundRobin, choose, first_by_key,
 };
 use join_law::{Ctx, Eight};
 
@@ -83,6 +83,22 @@ fn round_robin_takes_turns(rt: HostRuntime) {
         picked(&RoundRobin, &with_queue([false; 8]), 4),
         [9, 9, 9, 9]
     );
+}
+
+/// The number of the context that goes first by keys, 8 where none is looked for.
+fn first(keys: &[u64; 8], cycle: u64) -> usize {
+    match first_by_key(keys, cycle) {
+        Some(context) => context.index(),
+        None => 8,
+    }
+}
+
+#[test]
+fn the_least_key_goes_first_and_of_equal_ones_the_earlier_turn(rt: HostRuntime) {
+    let keys = [NO_KEY, 7, 7, NO_KEY, 9, NO_KEY, NO_KEY, NO_KEY];
+    assert_eq!(rt; first(&keys, 0), 1);
+    assert_eq!(rt; first(&keys, 2), 2);
+    assert_eq!(rt; first(&[NO_KEY; 8], 0), 8);
 }
 
 #[test]
