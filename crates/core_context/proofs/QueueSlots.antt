@@ -236,19 +236,17 @@ stores_retire es e is rising =
     ∙ drop_oldest store_slot store_stamp store_own store_fetched 0 es e (slice_get_within es 0 e is) (growing_whole es rising)
 
 -- an entry that has no place in a queue
+without_slot : {X : Type 0} (slot : Entry → Option X) (es : List Entry) (e : Entry) → slice_get es 0 ≡ Some e → slot e ≡ None → filter_map slot es ≡ filter_map slot (drop 1 es)
+without_slot slot [] e is none = absurd cc
+without_slot slot (f ∷ es) e is none = let same : f ≡ e = cc in ap (λ o. cons_option o (filter_map slot es)) (ap slot same ∙ none)
+
 pub loads_retire_other : (es : List Entry) (e : Entry) → slice_get es 0 ≡ Some e → (is_load e.operation || is_store e.operation) ≡ false → loads_of es ≡ loads_of (drop 1 es)
-loads_retire_other [] e is other = absurd cc
-loads_retire_other (f ∷ es) e is other =
-    let same : f ≡ e = cc in
-    let none : load_slot f ≡ None = ap load_slot same ∙ slot_unless (is_load e.operation) (is_renamed e.stage) (record { stamp = e.stamp; span = span_read e.stage }) (first_not (is_load e.operation) (is_store e.operation) other) in
-    ap (λ o. cons_option o (loads_of es)) none
+loads_retire_other es e is other =
+    without_slot load_slot es e is (slot_unless (is_load e.operation) (is_renamed e.stage) (record { stamp = e.stamp; span = span_read e.stage }) (first_not (is_load e.operation) (is_store e.operation) other))
 
 pub stores_retire_other : (es : List Entry) (e : Entry) → slice_get es 0 ≡ Some e → (is_load e.operation || is_store e.operation) ≡ false → stores_of es ≡ stores_of (drop 1 es)
-stores_retire_other [] e is other = absurd cc
-stores_retire_other (f ∷ es) e is other =
-    let same : f ≡ e = cc in
-    let none : store_slot f ≡ None = ap store_slot same ∙ slot_unless (is_store e.operation) (is_renamed e.stage) (record { stamp = e.stamp; bytes = bytes_done e.stage }) (second_not (is_load e.operation) (is_store e.operation) other) in
-    ap (λ o. cons_option o (stores_of es)) none
+stores_retire_other es e is other =
+    without_slot store_slot es e is (slot_unless (is_store e.operation) (is_renamed e.stage) (record { stamp = e.stamp; bytes = bytes_done e.stage }) (second_not (is_load e.operation) (is_store e.operation) other))
 
 -- ---- one more entry is fetched
 
