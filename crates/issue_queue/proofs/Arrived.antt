@@ -1,9 +1,9 @@
 -- The queue's entries in the order of their arrival, as events keep them.
-use Rattle.std.proofs.Common.{◌≡◌, ℕ, ◌<◌, ◌≤◌, ◌^◌, inl, inr, Bool, true, false, ◌&&◌, ◌||◌, eqb, List, [], ◌∷◌, ◌++◌, ◌%◌, length, get_or, cond, refl, ap, ap₂, sym, subst, ◌∙◌, arith}
-use Rattle.std.specs.Prelude.{count_ones}
+use Rattle.std.proofs.Common.{◌≡◌, ℕ, ◌+◌, ◌<◌, ◌≤◌, ◌^◌, inl, inr, Bool, true, false, ◌&&◌, ◌||◌, eqb, List, [], ◌∷◌, ◌++◌, ◌%◌, length, get_or, set, take, cond, refl, ap, ap₂, sym, subst, ◌∙◌, arith}
+use Rattle.std.specs.Prelude.{count_ones, slice_index}
 use Rattle.std.specs.List.{All, AllPairs, filter}
 use Rattle.std.proofs.lemmas.Bool.{cases_Bool, true≢false, and_parts, or_right, eq-eqb}
-use Rattle.std.proofs.lemmas.List.{length-map}
+use Rattle.std.proofs.lemmas.List.{append-nil, get_or-set_other, length-map, length-set, take-set, take_more, take_more_set}
 use Rattle.std.proofs.lemmas.List.Elements.{All-nil, All-push, All-filter, filter-append}
 use Rattle.std.proofs.lemmas.List.Folds.{list_any-append}
 use Rattle.std.proofs.lemmas.List.Kept.{AllPairs-filter}
@@ -18,6 +18,7 @@ use Rattle.issue_queue.specs.Board.{slot, InStep, IsKept, listed, order_of, entr
 use Rattle.issue_queue.specs.Entry.{Entry, AreDistinct}
 use Rattle.issue_queue.proofs.Lists.{filter-of_filter}
 use Rattle.issue_queue.proofs.Kept.{ListsTaken, any_false, listed-filter}
+use Rattle.issue_queue.proofs.Walks.{IsGathered}
 
 -- ---- the listed places
 
@@ -34,8 +35,36 @@ listed_below a fits h few =
     let bits : count_ones a.listed ≡ length (filter (has a.listed) a.places.items) = count_listed a.listed a.places.items fits h.once (λ p t. sym (h.bits p) ∙ t) in
     omega (arith, bits, length-filter (has a.listed) a.places.items, count_by-le-length (has a.listed) a.places.items)
 
-pub filter-below : (word : ℕ) (ps : List ℕ) → All (λ p. p < 64) ps → filter (λ p. has word (p % 64)) ps ≡ filter (has word) ps
-filter-below word ps below = filter_agree_on (λ p. has word (p % 64)) (has word) ps (λ i d lt. ap (has word) (omega (arith, below i d lt)))
+front_at : (old places : List ℕ) (taken i kept x : ℕ) (here : Bool) → kept < length places → take kept places ≡ filter (has taken) (take i old)
+    → take (cond here (kept + 1) kept) (set places kept x) ≡ filter (has taken) (take i old) ++ cond here (x ∷ []) []
+front_at old places taken i kept x true room front = take_more_set places kept x room ∙ ap (λ ps. ps ++ x ∷ []) front
+front_at old places taken i kept x false room front = take-set places kept x ∙ front ∙ sym (append-nil (filter (has taken) (take i old)))
+
+front_more : (old places : List ℕ) (taken i kept x : ℕ) (here : Bool) → has taken x ≡ here → i < length old → kept < length places → x ≡ slice_index old i → take kept places ≡ filter (has taken) (take i old)
+    → take (cond here (kept + 1) kept) (set places kept x) ≡ filter (has taken) (take (i + 1) old)
+front_more old places taken i kept x here e lt room is front =
+    let more : take (i + 1) old ≡ take i old ++ x ∷ [] = take_more old i 0 lt ∙ ap (λ y. take i old ++ y ∷ []) (sym is) in
+    let split : filter (has taken) (take (i + 1) old) ≡ filter (has taken) (take i old) ++ cond here (x ∷ []) [] =
+    ap (filter (has taken)) more ∙ filter-append (has taken) (take i old) (x ∷ []) ∙ ap (λ b. filter (has taken) (take i old) ++ cond b (x ∷ []) []) e in
+    front_at old places taken i kept x here room front ∙ sym split
+
+number_of : (b : Bool) (n : ℕ) → n + cond b 1 0 ≡ cond b (n + 1) n
+number_of true n = refl
+number_of false n = omega arith
+
+-- one place more is written behind those that are kept
+pub gathered_more : (old places : List ℕ) (taken i kept x next : ℕ) → i < length old → x ≡ slice_index places i → next ≡ kept + cond (has taken x) 1 0 → IsGathered old places taken i kept
+    → IsGathered old (set places kept x) taken (i + 1) next
+gathered_more old places taken i kept x next lt is count h = record {
+  within = elim (cases_Bool (has taken x)) [
+    | inl t ↦ omega (arith, h.within, count ∙ ap (λ b. kept + cond b 1 0) t)
+    | inr f ↦ omega (arith, h.within, count ∙ ap (λ b. kept + cond b 1 0) f)
+  ];
+  size = length-set places kept x ∙ h.size;
+  front = ap (λ n. take n (set places kept x)) (count ∙ number_of (has taken x) kept)
+      ∙ front_more old places taken i kept x (has taken x) refl lt (omega (arith, h.within, h.size, lt)) (is ∙ h.rest i (omega arith)) h.front;
+  rest = λ k le. get_or-set_other places kept k x 0 (λ same. omega (arith, same, le, h.within)) ∙ h.rest k (omega (arith, le));
+}
 
 -- as many are taken as there are listed ones that are taken
 pub count-taken : (a : Arrivals) (taken : ℕ) → taken < 2 ^ 64 → IsListing a → ((p : ℕ) → has taken p ≡ true → has a.listed p ≡ true) → count_ones taken ≡ length (filter (has taken) a.places.items)

@@ -1,6 +1,7 @@
 -- What walks over the places of a word keep.
 use Rattle.std.proofs.Common.{◌≡◌, ℕ, ◌+◌, ◌<◌, ◌≤◌, true, false, cond, not, ◌&&◌, List, map, take, length, ◌⊎◌}
 use Rattle.std.specs.Prelude.{count_ones, nat_lt, slice_index}
+use Rattle.std.specs.List.{filter}
 use Rattle.core_view.specs.declared.note.EntryId.{EntryId}
 use Rattle.issue_queue.specs.declared.places.Places.{Places}
 use Rattle.issue_queue.specs.declared.slots.Slots.{Slots}
@@ -53,3 +54,10 @@ pub record IsLeast (slots : Slots) (word left least : ℕ) : Type 0 where
 pub record IsOlder (slots : Slots) (word left older stamp : ℕ) : Type 0 where
   pub within : (p : ℕ) → has left p ≡ true → has word p ≡ true
   pub bits : (p : ℕ) → has older p ≡ ((has word p && not (has left p)) && nat_lt (stamp_at slots p) stamp)
+
+-- those of the first i places that are taken stand in front, and the places from i on are as they were
+pub record IsGathered (old places : List ℕ) (taken i kept : ℕ) : Type 0 where
+  pub within : kept ≤ i
+  pub size : length places ≡ length old
+  pub front : take kept places ≡ filter (has taken) (take i old)
+  pub rest : (k : ℕ) → i ≤ k → slice_index places k ≡ slice_index old k
