@@ -3,13 +3,12 @@ use Rattle.std.proofs.Common.{◌≡◌, ℕ, ◌+◌, ◌-◌, ◌<◌, ◌≤�
 use Rattle.std.specs.Prelude.{set, sum_by, slice_index, IsSome, All, ◌==◌}
 use Rattle.std.specs.List.{list_any}
 use Rattle.std.proofs.lemmas.Bool.Decides.{nat_tests}
-use Rattle.std.proofs.lemmas.List.{length-set, get_or_default, set-get_or, take_more, take_all}
+use Rattle.std.proofs.lemmas.List.{length-set, set-get_or, take_more, take_all}
 use Rattle.std.proofs.lemmas.Option.{slice_get_within}
 use Rattle.std.proofs.lemmas.List.Sums.{get_or-le-sum_by}
 use Rattle.rename_file.specs.File.{Bank, bank, no_bank, File, uses_in, at, with_cell, committed_one, undone}
 use Rattle.rename_file.proofs.Uses.{used_once, committed_in_range, at_self}
 use Rattle.reorder_buffer.specs.Growing.{IsGrowing, below}
-use Rattle.reorder_buffer.proofs.Stamps.{take-below}
 use Rattle.circular_buffer.specs.Buffer.{Buffer, buffer}
 use Rattle.issue_queue.specs.Entry.{is_named}
 use Rattle.issue_queue.specs.IssueQueue.{IssueQueue, awake}
@@ -201,21 +200,18 @@ one_commit d c false r e r-is = ap (λ (f : File). f.banks) r-is
 pub record IsBack (found : Buffer Renamed) (n : Renamed) : Type 0 where
   pub is : found ≡ buffer (take (length found.items - 1) found.items ++ n ∷ []) found.capacity
   pub some : 0 < length found.items
-  pub below : below stamp_of n.operands.stamp found.items ≡ take (length found.items - 1) found.items
   pub at : IsAt found (length found.items - 1) n
 
-pub back_is : (found : Buffer Renamed) (n : Renamed) → IsGrowing stamp_of found.items → IsAt found (length found.items - 1) n → IsBack found n
-back_is found n growing at =
+pub back_is : (found : Buffer Renamed) (n : Renamed) → IsAt found (length found.items - 1) n → IsBack found n
+back_is found n at =
     let xs : List Renamed = found.items in
     let k : ℕ = length xs - 1 in
     let one : k + 1 ≡ length xs = omega (arith, at.within) in
     let whole : take (k + 1) xs ≡ xs = take_all (k + 1) xs (omega arith) in
     let split : xs ≡ take k xs ++ n ∷ [] = sym whole ∙ take_more xs k n at.within ∙ ap (λ (x : Renamed). take k xs ++ x ∷ []) at.is in
-    let last : (e : Renamed) → stamp_of (get_or xs k e) ≡ n.operands.stamp = λ e. ap stamp_of (get_or_default xs k e n at.within ∙ at.is) in
     record {
       is = ap (λ (ns : List Renamed). buffer ns found.capacity) split;
       some = omega (arith, at.within);
-      below = sym (take-below stamp_of n.operands.stamp k xs (omega arith) (λ i e lt. omega (arith, growing i k e lt at.within, last e)) (λ i e le lt. let same : i ≡ k = omega arith in omega (arith, last e, ap (λ j. stamp_of (get_or xs j e)) same)));
       at = at;
     }
 
@@ -224,21 +220,20 @@ undo_asks d now c k found n h back has =
     undoable d.registers.cells (bank d.registers c) n (take (length found.items - 1) found.items) found.capacity (subst (IsTied d.registers.cells (bank d.registers c)) back.is h.tied) has
 
 pub undo_leaves : {A : Type 0} (d : Inside A) (now : Flow) (c k : ℕ) (found left : Buffer Renamed) (n : Renamed) (r : File) → flow d ≡ now → IsWiredUp d → Here d now c k found → IsBack found n
-    → waits_in now c (node_at (lane now c) (length (lane now c).nodes - 1)).operands.stamp ≡ false → left ≡ buffer (below stamp_of n.operands.stamp found.items) found.capacity → IsGrowing stamp_of left.items
+    → waits_in now c (node_at (lane now c) (length (lane now c).nodes - 1)).operands.stamp ≡ false → left ≡ buffer (take (length found.items - 1) found.items) found.capacity → IsGrowing stamp_of left.items
     → r.banks ≡ set d.registers.banks c (bank_before (bank d.registers c) (n.operands.destination == 0)) → r.cells ≡ d.registers.cells → Leaves r (set d.renamed.items k left) d.queue (with_lane now c (without_newest (lane now c)))
 undo_leaves d now c k found left n r shows up h back idle left-is growing banks cells-are =
     let cells : List (Option ℕ) = d.registers.cells in
     let b : Bank = bank d.registers c in
     let front : List Renamed = take (length found.items - 1) found.items in
-    let left-is' : left ≡ buffer front found.capacity = left-is ∙ ap (λ (ns : List Renamed). buffer ns found.capacity) back.below in
     let tied : IsTied cells b (buffer (front ++ n ∷ []) found.capacity) = subst (IsTied cells b) back.is h.tied in
     let lane-is : lane now c ≡ lane_of cells b (buffer (front ++ n ∷ []) found.capacity) = h.lane_is ∙ ap (lane_of cells b) back.is in
-    let growing' : IsGrowing stamp_of front = subst (λ (x : Buffer Renamed). IsGrowing stamp_of x.items) left-is' growing in
+    let growing' : IsGrowing stamp_of front = subst (λ (x : Buffer Renamed). IsGrowing stamp_of x.items) left-is growing in
     let step = undoes cells b n front found.capacity tied growing' in
     let idle' : waits_in now c (node_at (lane now c) (length found.items - 1)).operands.stamp ≡ false = rw h.count at idle in
     let waits = waiting_take cells d.renamed.items c d.queue.entries h.in_buffers (rw h.place at (idle_at d now c k (length found.items - 1) found shows h back.at.within idle')) up.waiting in
-    leaves d now c k found left r (bank_before b (n.operands.destination == 0)) (without_newest (lane now c)) shows up h banks cells-are (rw left-is' step.tied)
-    (rw left-is' (step.lane ∙ ap without_newest (sym lane-is))) (rw (left-is', h.place) waits)
+    leaves d now c k found left r (bank_before b (n.operands.destination == 0)) (without_newest (lane now c)) shows up h banks cells-are (rw left-is step.tied)
+    (rw left-is (step.lane ∙ ap without_newest (sym lane-is))) (rw (left-is, h.place) waits)
 
 pub no_undo : {A : Type 0} (d : Inside A) (c : ℕ) (none : Bool) → none ≡ true → d.registers.banks ≡ set d.registers.banks c (bank_before (bank d.registers c) none)
 no_undo d c true e = sym (set-get_or d.registers.banks c no_bank)

@@ -223,8 +223,7 @@ impl<A: Allocator> DataFlow<A> {
         ensures { self.new ≡ with_lane self.old context (without_newest (lane self.old context)) }
     {
         let ring = &mut self.renamed[context.index()];
-        let newest = *ring.last().unwrap();
-        ring.cut_from(newest.operands.stamp);
+        let newest = ring.pop_last().unwrap();
         if newest.has_destination() {
             self.registers.undo(context);
         }

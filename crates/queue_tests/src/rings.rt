@@ -130,6 +130,19 @@ fn a_ring_wraps_round_and_is_cut_in_the_middle(rt: HostRuntime) -> Result<(), Fa
 }
 
 #[test]
+fn the_youngest_entry_is_taken_out(rt: HostRuntime) -> Result<(), Fail> {
+    let mut ring = Ring::new(rt.alloc(), 3)?;
+    push_each(&rt, &mut ring, &[1, 2, 3]);
+    assert_retire(&rt, &mut ring, &[1]);
+    push_each(&rt, &mut ring, &[4]);
+    assert_eq!(rt; ring.pop_last(), Some(queued(4)));
+    assert_entries(&rt, &ring, &[2, 3]);
+    ring.cut_from(0);
+    assert_eq!(rt; ring.pop_last(), None);
+    Ok(())
+}
+
+#[test]
 fn an_entry_is_replaced(rt: HostRuntime) -> Result<(), Fail> {
     let mut ring = Ring::new(rt.alloc(), 8)?;
     assert_eq!(rt; try_push(&mut ring, 5), None);

@@ -2,7 +2,7 @@
 use Rattle.std.proofs.Common.{◌≡◌, ℕ, zero, suc, ◌+◌, ◌-◌, ◌<◌, ◌≤◌, true, false, List, [], ◌∷◌, ◌++◌, length, get_or, take, slice_get, Some, refl, sym, ap, subst, ◌∙◌, arith, inl, inr}
 use Rattle.std.specs.Prelude.{set, nat_lt, Result, Ok, Err, OnOk, IfErr}
 use Rattle.std.proofs.lemmas.Bool.{cases_eq, lt-ltb, le-ltb}
-use Rattle.std.proofs.lemmas.List.{length-set, length_push, get_or_push, get_or_append_left, get_or-set_same, get_or-set_other}
+use Rattle.std.proofs.lemmas.List.{length-set, length-take, length_push, get_or_push, get_or_append_left, get_or-set_same, get_or-set_other, get_or-take}
 use Rattle.std.proofs.lemmas.Option.{get_or_from_slice_get, slice_get-get_or}
 use Rattle.std.specs.Option.{ForSome}
 use Rattle.circular_buffer.specs.Buffer.{Buffer, buffer, last_item}
@@ -90,3 +90,9 @@ pub growing_pushed : {X : Type 0} (stamp : X → ℕ) (old new : Buffer X) (x : 
     → OnOk r (new ≡ buffer (old.items ++ x ∷ []) old.capacity) → IfErr r (λ y. (y ≡ x) × (new ≡ old)) → IsGrowing stamp new.items
 growing_pushed stamp old new x (Ok u) growing above ok err = rw ok (growing_push stamp old.items x growing above)
 growing_pushed stamp old new x (Err y) growing above ok err = rw err.1 growing
+
+-- a front of the list
+pub growing_front : {X : Type 0} (stamp : X → ℕ) (xs : List X) (k : ℕ) → IsGrowing stamp xs → IsGrowing stamp (take k xs)
+growing_front stamp xs k growing i j d lt in_range =
+    let within : j < k = omega (arith, in_range, length-take k xs) in
+    omega (arith, ap stamp (get_or-take k xs i d (omega (arith, lt, within))), ap stamp (get_or-take k xs j d within), growing i j d lt (omega (arith, in_range, length-take k xs)))

@@ -1,6 +1,6 @@
 //! A ring of entries whose stamps grow.
 
-ghost use Rattle.std.specs.Prelude.{◌≡◌, ◌↔◌, ◌++◌, ◌∷◌, [], ◌<◌, ◌≤◌, length, take, drop, slice_get, slice_set, option_copied, IfOk, OnOk, OnErr, IsOk, IsTrue, Ok, Err};
+ghost use Rattle.std.specs.Prelude.{◌≡◌, ◌↔◌, ◌++◌, ◌∷◌, [], ◌-◌, ◌<◌, ◌≤◌, length, take, drop, slice_get, slice_set, option_copied, IfOk, OnOk, OnErr, IsOk, IsTrue, Ok, Err};
 ghost use Rattle.std.specs.Option.{ForSome};
 ghost use Rattle.std.specs.Map.Iter.{ShowsInOrder, deref};
 ghost use Rattle.circular_buffer.specs.Buffer.{buffer, last_item};
@@ -131,6 +131,15 @@ impl<E: Stamped, A: Allocator> Ring<E, A> {
         ensures growing { IsGrowing E.stamp_of self.new.items }
     {
         self.buffer.pop_front()
+    }
+
+    /// Takes the youngest entry out.
+    pub fn pop_last(&mut self) -> Option<E>
+        ensures youngest { result ≡ last_item self.old.items }
+        ensures rest { self.new ≡ buffer (take (length self.old.items - 1) self.old.items) self.old.capacity }
+        ensures growing { IsGrowing E.stamp_of self.new.items }
+    {
+        self.buffer.pop_back()
     }
 
     /// Drops each entry whose stamp is at least this one: an end of the list. No other entry but one is looked at.
