@@ -63,9 +63,14 @@ impl Latencies {
         ensures within { IsWithin (greatest_latency self.now) result }
     {
         let load = if misses { self.miss } else { self.hit };
-        let cycles = [self.branch, load, self.store, self.alu];
+        let cycles = match kind {
+            Kind::Branch => self.branch,
+            Kind::Load => load,
+            Kind::Store => self.store,
+            Kind::Alu => self.alu,
+        };
         Lag {
-            cycles: cycles[kind as usize],
+            cycles,
             miss: misses && kind == Kind::Load,
         }
     }
