@@ -30,15 +30,14 @@ pub record IsAt (found : Buffer Renamed) (i : ℕ) (n : Renamed) : Type 0 where
   pub within : i < length found.items
   pub is : get_or found.items i n ≡ n
 
+-- what stands at a place
 pub place_of_value : (found : Buffer Renamed) (i : ℕ) (r : Option Renamed) (x : Renamed) → r ≡ slice_get found.items i → r ≡ Some x → IsAt found i x
 place_of_value found i r x e is =
     let got : slice_get found.items i ≡ Some x = sym e ∙ is in
     record { within = slice_get_within found.items i x got; is = get_or_from_slice_get found.items i x x got }
 
 pub at_place : (found : Buffer Renamed) (i : ℕ) (r : Option (Bor Renamed)) (x : Bor Renamed) → option_copied r ≡ slice_get found.items i → r ≡ Some x → IsAt found i x.now
-at_place found i r x e is =
-    let got : slice_get found.items i ≡ Some x.now = sym e ∙ ap option_copied is in
-    record { within = slice_get_within found.items i x.now got; is = get_or_from_slice_get found.items i x.now x.now got }
+at_place found i r x e is = place_of_value found i (option_copied r) x.now e (ap option_copied is)
 
 -- ---- its sources
 
