@@ -1,5 +1,5 @@
 -- What is known, while entries are renamed, of each context's oldest fetched entry: its stamp, wherever it can be renamed.
-use Rattle.std.specs.Prelude.{◌≡◌, ℕ, ◌<◌, ◌≤◌, nat_lt, List, get_or, Option, Some, None, if◌then◌else◌}
+use Rattle.std.specs.Prelude.{◌≡◌, ℕ, ◌<◌, ◌≤◌, nat_lt, List, get_or, slice_index, Option, Some, None, if◌then◌else◌}
 use Rattle.core_view.specs.declared.entry.Entry.{Entry}
 use Rattle.core_view.specs.View.{View}
 use Rattle.lawful_cycle.specs.Rename.{CanRename}
@@ -26,3 +26,7 @@ pub record IsLeast (fronts : List (Option ℕ)) (c : ℕ) : Type 0 where
 abbrev pub IsOldest : List (Option ℕ) → Option ℕ → Type 0
 IsOldest fronts (Some c) = IsLeast fronts c
 IsOldest fronts None = (d : ℕ) → d < 8 → get_or fronts d None ≡ None
+
+-- a number stands at a place of eight
+abbrev pub IsPlaced : List ℕ → ℕ → ℕ → Type 0
+IsPlaced numbers number place = (place < 8) × (slice_index numbers place ≡ number)

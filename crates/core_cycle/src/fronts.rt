@@ -4,7 +4,7 @@ ghost use Rattle.std.specs.Prelude.{true, false, ◌≡◌, ℕ, ◌+◌, ◌<�
 ghost use Rattle.word_mask.specs.Mask.{has};
 ghost use Rattle.core_view.specs.declared.entry.Entry.{Entry};
 ghost use Rattle.lawful_cycle.specs.Rename.{CanRename};
-ghost use Rattle.core_cycle.specs.Fronts.{AreFronts, IsOldest};
+ghost use Rattle.core_cycle.specs.Fronts.{AreFronts, IsOldest, IsPlaced};
 
 use core_back::Machine;
 use join_law::Ctx;
@@ -86,34 +86,67 @@ fn with_fetched<A: Allocator>(machine: &Machine<A>) -> u64
     word
 }
 
-/// The place of the least of eight numbers.
-// It stays out of line: in a loop its choices would become jumps.
-#[inline(never)]
-fn least_place(stamps: &[u64; 8]) -> usize
-    ensures bound { result < 8 }
-    ensures least { (d : ℕ) → d < 8 → slice_index stamps.now result ≤ slice_index stamps.now d }
-{
-    let mut least = 0usize;
-    for place in 1..8usize {
-        least = lesser(stamps, least, place);
-    }
-    least
+/// A number among eight, and its place.
+#[derive(Clone, Copy)]
+struct Placed {
+    number: u64,
+    place: usize,
 }
 
-/// Of two places that of the lesser number.
+/// The number at a place.
 #[inline(always)]
-fn lesser(stamps: &[u64; 8], first: usize, second: usize) -> usize
-    requires first { first < 8 }
-    requires second { second < 8 }
-    ensures bound { result < 8 }
-    ensures first { slice_index stamps.now result ≤ slice_index stamps.now first }
-    ensures second { slice_index stamps.now result ≤ slice_index stamps.now second }
+fn number_at(numbers: &[u64; 8], place: usize) -> Placed
+    requires { place < 8 }
+    ensures placed { IsPlaced numbers.now result.number result.place }
+    ensures number { result.number ≡ slice_index numbers.now place }
 {
-    if stamps[second] < stamps[first] {
+    Placed {
+        number: numbers[place],
+        place,
+    }
+}
+
+/// Of two numbers the lesser.
+#[inline(always)]
+fn lesser(numbers: &[u64; 8], first: Placed, second: Placed) -> Placed
+    requires first { IsPlaced numbers.now first.number first.place }
+    requires second { IsPlaced numbers.now second.number second.place }
+    ensures placed { IsPlaced numbers.now result.number result.place }
+    ensures first { result.number ≤ first.number }
+    ensures second { result.number ≤ second.number }
+{
+    if second.number < first.number {
         second
     } else {
         first
     }
+}
+
+/// The lesser of the numbers at two places, the second the next after the first.
+#[inline(always)]
+fn lesser_from(numbers: &[u64; 8], place: usize) -> Placed
+    requires { place + 1 < 8 }
+    ensures placed { IsPlaced numbers.now result.number result.place }
+    ensures first { result.number ≤ slice_index numbers.now place }
+    ensures second { result.number ≤ slice_index numbers.now (place + 1) }
+{
+    lesser(
+        numbers,
+        number_at(numbers, place),
+        number_at(numbers, place + 1),
+    )
+}
+
+/// The place of the least of eight numbers, in three rounds: few choices wait for others.
+#[inline(always)]
+fn least_place(numbers: &[u64; 8]) -> usize
+    ensures bound { result < 8 }
+    ensures least { (d : ℕ) → d < 8 → slice_index numbers.now result ≤ slice_index numbers.now d }
+{
+    let front = lesser(numbers, lesser_from(numbers, 0), lesser_from(numbers, 2));
+    let back = lesser(numbers, lesser_from(numbers, 4), lesser_from(numbers, 6));
+    let least = lesser(numbers, front, back);
+    least.place
 }
 
 /// The context of a number below 8.
