@@ -154,10 +154,11 @@ fn retire_oldest<A: Allocator, G: Guess>(
 fn learn<G: Guess>(guess: &mut G, context: Ctx, entry: &Entry, next: u64)
     ensures { G.may_answer guess.new ≡ G.may_answer guess.old }
 {
-    if let Operation::Performs { insn } = &entry.operation {
-        if is_shown(insn) {
-            guess.learn(context, entry.pc, insn, next);
-        }
+    if !entry.operation.may_turn() {
+        return;
+    }
+    if let Operation::Performs { insn } = entry.operation.operation() {
+        guess.learn(context, entry.pc, insn, next);
     }
 }
 

@@ -7,3 +7,4 @@ pub mod Events
 pub mod Loads
 pub mod Queues
 pub mod ViewCode
+pub mod Kinds

@@ -5,6 +5,7 @@ ghost use Rattle.core_view.specs.Flight.{is_done as is_done_of};
 ghost use Rattle.core_view.specs.Events.{due_at, is_mispredicted as is_mispredicted_of, fetched_entry, renamed_stage, with_stage, completed_entry};
 ghost use Rattle.core_view.specs.declared.entry.Stage.TheVariants.{Issued};
 
+use crate::decoded::Decoded;
 use crate::operation::Operation;
 use crate::outcome::{Outcome, Step};
 use crate::span::{Bytes, Span};
@@ -96,7 +97,7 @@ pub struct Entry {
     /// Its address.
     pub pc: u64,
     /// What stands there.
-    pub operation: Operation,
+    pub operation: Decoded,
     /// The cycle in which it was fetched.
     pub fetched: u64,
     /// The pc at which fetch went on after it: a guess until it is done.
@@ -108,7 +109,7 @@ pub struct Entry {
 impl Entry {
     /// An entry as it is fetched in a cycle.
     #[inline]
-    pub fn new(stamp: u64, cycle: u64, pc: u64, operation: Operation, followed: u64) -> Entry
+    pub fn new(stamp: u64, cycle: u64, pc: u64, operation: Decoded, followed: u64) -> Entry
         ensures { result ≡ fetched_entry stamp cycle pc operation followed }
     {
         Entry {
@@ -126,7 +127,7 @@ impl Entry {
     pub fn renamed(&self, cycle: u64) -> Entry
         ensures { result ≡ with_stage self.now (renamed_stage cycle self.now.operation) }
     {
-        let stage = match self.operation {
+        let stage = match *self.operation.operation() {
             Operation::Performs { .. } => Stage::Queued,
             Operation::Stops { why } => Stage::Done {
                 execution: Execution {

@@ -2,6 +2,7 @@
 #![tactic(auto)]
 
 mod access;
+mod decoded;
 mod entry;
 mod note;
 mod operation;
@@ -10,6 +11,7 @@ mod span;
 mod status;
 
 pub use access::{access_fault, write_access};
+pub use decoded::{Decoded, OperationKind};
 pub use entry::{Entry, Execution, Stage};
 pub use note::{CycleNote, EntryId, Issue};
 pub use operation::Operation;
