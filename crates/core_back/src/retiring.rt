@@ -18,7 +18,6 @@ use bit_vector::{next, push};
 use branch_predict::Guess;
 use core_view::{Entry, EntryId, Operation, Outcome};
 use join_law::Ctx;
-use rv64_decode::Insn;
 use std::alloc::Allocator;
 
 /// The oldest entries retire, at most as many as the retire width in all. Contexts are taken from the cycle's number
@@ -176,12 +175,4 @@ fn stop_done<A: Allocator>(machine: &mut Machine<A>, context: Ctx) -> usize
         Some(Outcome::Goes { .. }) => 0,
         None => 0,
     }
-}
-
-/// Whether an instruction is shown to the guess as it retires: a conditional branch, a JAL or a JALR.
-fn is_shown(insn: &Insn) -> bool {
-    matches!(
-        insn,
-        Insn::Jal { .. } | Insn::Jalr { .. } | Insn::Branch { .. }
-    )
 }

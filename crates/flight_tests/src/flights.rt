@@ -1,5 +1,5 @@
 //! One load that is fetched, renamed and squashed.
-use core_view::{Entry, Operation};
+use core_view::{Decoded, Entry, Operation};
 use flight::Flight;
 use hart_step::Stop;
 use rv64_decode::decode;
@@ -7,11 +7,12 @@ use std::process::Abort;
 use std::test::Fail;
 
 // LW a0, 0(a1), or what stands where that is no instruction.
-fn load() -> Operation {
-    match decode(0x0005_a503) {
+fn load() -> Decoded {
+    let operation = match decode(0x0005_a503) {
         Some(insn) => Operation::Performs { insn },
         None => Operation::Stops { why: Stop::Illegal },
-    }
+    };
+    Decoded::new(operation)
 }
 
 #[test]

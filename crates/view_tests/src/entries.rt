@@ -2,8 +2,8 @@
 ghost use Rattle.std.specs.Prelude.{◌≡◌, ◌≤◌, length};
 
 use core_view::{
-    Access, Bytes, CycleNote, Entry, Execution, Operation, Outcome, Span, Stage, Status, Step,
-    access_fault, write_access,
+    Access, Bytes, CycleNote, Decoded, Entry, Execution, Operation, OperationKind, Outcome, Span,
+    Stage, Status, Step, access_fault, write_access,
 };
 use hart_step::{Effect, Environment, Stop, execute};
 use paged_memory::{Fault, Memory, Width};
@@ -90,6 +90,31 @@ fn countdown_text(rt: HostRuntime) -> Result<(), Fail> {
     Ok(())
 }
 
+/// The kind of an instruction, or of what stands where there is none.
+fn kind(word: u32) -> OperationKind {
+    Decoded::new(performs(word)).kind()
+}
+
+#[test]
+fn what_a_decoded_operation_tells(rt: HostRuntime) -> Result<(), Fail> {
+    // addi x5, x0, 10; bne x5, x0, -4; lw x10, 0(x11); sw x10, 4(x11); jal x0, 8; jalr x0, 0(x1); no instruction
+    assert_eq!(rt; kind(ADDI_X5_10), OperationKind::Plain);
+    assert_eq!(rt; kind(BNE_X5_BACK), OperationKind::Guessed);
+    assert_eq!(rt; kind(0x0005_A503), OperationKind::Load);
+    assert_eq!(rt; kind(0x00A5_A223), OperationKind::Store);
+    assert_eq!(rt; kind(0x0080_006F), OperationKind::Jump);
+    assert_eq!(rt; kind(0x0000_8067), OperationKind::Guessed);
+    assert_eq!(rt; kind(0), OperationKind::Stop);
+    let store = Decoded::new(performs(0x00A5_A223));
+    assert!(rt; store.is_store() && !store.is_load() && !store.is_guessed());
+    assert!(rt; !store.may_turn() && !store.stops_at_fetch());
+    assert_eq!(rt; store.first_source().index(), 11);
+    assert_eq!(rt; store.second_source().index(), 10);
+    assert_eq!(rt; store.destination().index(), 0);
+    assert_eq!(rt; *store.operation(), performs(0x00A5_A223));
+    Ok(())
+}
+
 #[test]
 fn stops_at_fetch(rt: HostRuntime) -> Result<(), Fail> {
     // ebreak; jal x0, 2
@@ -151,7 +176,7 @@ fn outcomes_of_countdown(rt: HostRuntime) -> Result<(), Fail> {
 
 /// The first instruction of the countdown, fetched in cycle 0.
 fn first_fetched() -> Entry {
-    Entry::new(0, 0, 0x10000, performs(ADDI_X5_10), 0x10004)
+    Entry::new(0, 0, 0x10000, Decoded::new(performs(ADDI_X5_10)), 0x10004)
 }
 
 /// It is renamed and issued in cycle 2, and done in 3.
@@ -189,7 +214,8 @@ fn first_is_due_and_done(rt: HostRuntime) {
 
 #[test]
 fn branch_of_countdown(rt: HostRuntime) {
-    let entry = Entry::new(2, 0, 0x10008, performs(BNE_X5_BACK), 0x1000C);
+    let branch = Decoded::new(performs(BNE_X5_BACK));
+    let entry = Entry::new(2, 0, 0x10008, branch, 0x1000C);
     assert!(rt; entry.is_mispredicted(&value_and_next(0, 0x10004)));
     assert!(rt; !entry.is_mispredicted(&value_and_next(0, 0x1000C)));
     let done = entry.completed(due_in(5, goes(0, 0x10004)));
@@ -198,7 +224,7 @@ fn branch_of_countdown(rt: HostRuntime) {
 
 #[test]
 fn end_of_countdown(rt: HostRuntime) {
-    let stop = Operation::Stops { why: Stop::Ecall };
+    let stop = Decoded::new(Operation::Stops { why: Stop::Ecall });
     let entry = Entry::new(3, 0, 0x1000C, stop, 0x10010);
     let done = entry.renamed(2);
     assert_eq!(rt;
