@@ -20,11 +20,11 @@ use Rattle.core_view.proofs.Live.{complete_live}
 use Rattle.data_flow.specs.Flow.{Node, Lane, Flow, Waiter, no_node, node_at, lane, with_result, result_for, cut_from, cut_flow}
 use Rattle.core_context.specs.Track.{Track, left_by, completed}
 use Rattle.core_context.specs.Queued.{is_behind, waiting_of, waiter_for, up_to_guess, settled}
-use Rattle.core_context.specs.Steps.{cut_if, finished_flow, cut_by, settled_flow, completed_flow}
+use Rattle.core_context.specs.Steps.{cut_if, finished_flow, cut_by, settled_flow, completed_flow, AreTold}
 use Rattle.core_context.specs.Cores.{operands_of, node_of_entry, AllFetched, is_waiting, waiters_of, IsCore}
 use Rattle.core_context.proofs.Waiting.{and_none, growing_at, growing_set, none_below, below-take, below-nodes}
 use Rattle.core_context.proofs.Queue.{map_waiting, waiting-cut, waiters-flights, waiters-left, waiters-stay, behind-set, behind_at, none_selected}
-use Rattle.core_context.proofs.Settles.{waiting-settled, behind_closed, settles}
+use Rattle.core_context.proofs.Settles.{none_open, settled_told, settled_unmarked, settled_later, waiting-settled, behind_closed, settles}
 use Rattle.core_context.proofs.OtherContexts.{lane-with_same, lane-cut_same}
 use Rattle.core_context.proofs.FlowSizes.{sizes-finished_flow}
 use Rattle.core_context.proofs.CoreOfFlight.{IsFlightCore, core_from}
@@ -187,6 +187,41 @@ module _ (start : State) (stamp reorder : ℕ) (f : Flow) (c : ℕ) (t : Track) 
 
   -- ---- the marks
 
+  -- of the entries before it none is marked that is behind no open guess
+  told_left : (r : ℕ) (g : Flow) → IsCut g r → IsCore start stamp reorder f [] c t → i < length t.context.flight → i < r → (n : ℕ) → n ≤ i → AreTold g c (take r done_flight) n
+  told_left r g cut core lt past n le none = settled_told g c (take n es) by_waiting
+    where
+      es : List Entry
+      es = take r done_flight
+
+      e : Entry
+      e = completed_entry (entry_at t.context i) x
+
+      grows : IsGrowing 0 es
+      grows = growing_take 0 r done_flight (growing_set 0 t.context.flight i e lt refl core.live.flight.growing)
+
+      same : (m : ℕ) → m < i → get_or es m no_entry ≡ get_or t.context.flight m no_entry
+      same m before = get_or-take r done_flight m no_entry (omega (arith, before, past)) ∙ get_or-set_other t.context.flight i m e no_entry (λ is. omega (arith, before, is))
+
+      -- an entry before it was marked as what is open before it says
+      unmarked : (j : ℕ) → j < n → is_behind (get_or es j no_entry).stamp t.context.flight ≡ false
+      unmarked j before =
+          ap (λ (y : Entry). is_behind y.stamp t.context.flight) (same j (omega (arith, before, le)))
+          ∙ behind_at 0 t.context.flight j core.live.flight.growing (omega (arith, before, le, lt))
+          ∙ none_open t.context.flight j (omega (arith, before, le, lt)) (λ m older. ap is_open_guess (sym (same m (omega (arith, older, before, le)))) ∙ none m (omega (arith, older, before)))
+
+      told : (j : ℕ) → j < length es → settled c (take n es) (waiter_for c t.context.flight (get_or es j no_entry)) ≡ waiter_for c t.context.flight (get_or es j no_entry)
+      told j within = elim (cases_lt j n) [ | inl before ↦ settled_unmarked c (take n es) (waiter_for c t.context.flight (get_or es j no_entry)) (unmarked j before) | inr from ↦ settled_later c n j t.context.flight es grows from within ]
+
+      map_both : (ys : List Entry) → map (settled c (take n es)) (map (waiter_for c t.context.flight) ys) ≡ map (λ y. settled c (take n es) (waiter_for c t.context.flight y)) ys
+      map_both [] = refl
+      map_both (y ∷ ys) = ap (λ ws. settled c (take n es) (waiter_for c t.context.flight y) ∷ ws) (map_both ys)
+
+      by_waiting : map (settled c (take n es)) (waiting_of g c) ≡ waiting_of g c
+      by_waiting =
+          ap (map (settled c (take n es))) cut.waits ∙ map_both (filter (is_waiting [] c) es)
+          ∙ map_waiting [] c (λ y. settled c (take n es) (waiter_for c t.context.flight y)) (waiter_for c t.context.flight) es (λ j within queued. told j within) ∙ sym cut.waits
+
   -- an entry that is left has before it in flight what it had
   behind_left : (n : ℕ) → IsCore start stamp reorder f [] c t → i < length t.context.flight → (j : ℕ) → j < length (take n done_flight) → is_behind (get_or (take n done_flight) j no_entry).stamp (take n done_flight) ≡ is_behind (get_or (take n done_flight) j no_entry).stamp done_flight
   behind_left n core lt j within =
@@ -244,6 +279,12 @@ module _ (start : State) (stamp reorder : ℕ) (f : Flow) (c : ℕ) (t : Track) 
         waiting = waits;
         selected = none_selected c (take n done_flight);
       }
+
+  -- what the call that settles the marks asks
+  pub told_completed : c < length f.lanes → IsCore start stamp reorder f [] c t → i < length t.context.flight → (entry_at t.context i).stage ≡ Issued x → (n : ℕ) → n ≤ i → AreTold (cut_by f c i x t.context) c (completed t i x).context.flight n
+  told_completed within core lt stage n le =
+      let cuts : take (left_by t.context i x) done_flight ≡ complete_in t.context.flight i x = sym (complete_take t.context.flight i x no_entry lt) in
+      subst (λ es. AreTold (cut_by f c i x t.context) c es n) cuts (told_left (left_by t.context i x) (cut_by f c i x t.context) (is_cut within core lt stage) core lt (omega arith) n le)
 
   -- the entry at a place completes
   pub complete_core : c < length f.lanes → IsCore start stamp reorder f [] c t → i < length t.context.flight → (entry_at t.context i).stage ≡ Issued x

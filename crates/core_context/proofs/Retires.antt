@@ -12,14 +12,16 @@ use Rattle.core_view.specs.declared.entry.Execution.{Execution}
 use Rattle.core_view.specs.declared.entry.Stage.{Stage}
 use Rattle.core_view.specs.declared.entry.Stage.TheVariants.{Fetched, Queued, Issued, Done}
 use Rattle.core_view.specs.declared.entry.Entry.{Entry}
-use Rattle.core_view.specs.Operations.{destination_of}
-use Rattle.core_view.specs.Outcomes.{IsSized}
-use Rattle.core_view.specs.Flight.{result_of, result_in, is_done, IsGrowing, is_queued}
+use Rattle.core_view.specs.Operations.{destination_of, is_store}
+use Rattle.core_view.specs.Outcomes.{image_of, bytes_written, IsSized}
+use Rattle.core_view.specs.Flight.{result_of, result_in, bytes_in, is_done, IsGrowing, is_queued}
 use Rattle.core_view.specs.Queues.{is_renamed, AllRenamed}
-use Rattle.core_view.specs.View.{IsLive, StatusHolds, entry_at, no_entry}
+use Rattle.core_view.specs.View.{IsLive, StatusHolds, entry_at, seen_at, no_entry}
 use Rattle.core_view.specs.Events.{retire_event}
 use Rattle.core_view.proofs.Steps.{IsOutcomeSized}
+use Rattle.core_view.proofs.Accesses.{outcome_bytes}
 use Rattle.core_view.proofs.Live.{retire_live, stop_live, flight_running, done_sized}
+use Rattle.core_view.proofs.Live.{done_outcome as done_outcome_of}
 use Rattle.data_flow.specs.Flow.{Node, Lane, Flow, no_node, node_at, lane, with_lane, without_oldest, cut_from, cut_flow, waits_in}
 use Rattle.core_context.specs.Track.{Track, is_last, retired, stopped}
 use Rattle.core_context.specs.Queued.{queued_at, waiting_of}
@@ -129,6 +131,13 @@ module _ (start : State) (stamp reorder : ℕ) (f : Flow) (c : ℕ) (t : Track) 
   -- the access of its step has the width of a load or a store
   pub oldest_sized : IsCore start stamp reorder f [] c t → 0 < length t.context.flight → (entry_at t.context 0).stage ≡ Done x → x.outcome ≡ Goes step → IsSized step.access
   oldest_sized core some stage goes = subst IsOutcomeSized goes (done_sized start stamp t.context 0 x some stage core.live)
+
+  -- no bytes are written where it is no store
+  pub oldest_unwritten : IsCore start stamp reorder f [] c t → 0 < length t.context.flight → (entry_at t.context 0).stage ≡ Done x → x.outcome ≡ Goes step → is_store (entry_at t.context 0).operation ≡ false → bytes_written step.access ≡ None
+  oldest_unwritten core some stage goes idle =
+      let out = done_outcome_of start stamp t.context 0 x some stage core.live in
+      let e = entry_at t.context 0 in
+      subst (λ o. bytes_in o ≡ None) goes (ap bytes_in out.is ∙ outcome_bytes (image_of t.context.state) (seen_at t.context 0).bytes e.operation e.pc out.first out.second idle)
 
   -- ---- it retires
 

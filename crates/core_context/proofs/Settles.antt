@@ -1,5 +1,5 @@
 -- Marks of what waits behind a guessed entry, as one completes.
-use Rattle.std.proofs.Common.{◌≡◌, ◌≢◌, ℕ, zero, suc, ◌+◌, ◌-◌, ◌<◌, ◌≤◌, Bool, true, false, not, ◌&&◌, ◌||◌, cond, List, [], ◌∷◌, ◌++◌, length, get_or, take, map, refl, sym, ap, subst, ◌∙◌, arith, inl, inr}
+use Rattle.std.proofs.Common.{◌≡◌, ◌≢◌, ℕ, zero, suc, ◌+◌, ◌-◌, ◌<◌, ◌≤◌, Bool, true, false, not, ◌&&◌, ◌||◌, cond, List, [], ◌∷◌, ◌++◌, length, get_or, take, drop, map, refl, sym, ap, subst, ◌∙◌, arith, inl, inr}
 use Rattle.std.specs.Prelude.{All, set, ◌==◌, nat_lt, filter, if◌then◌else◌}
 use Rattle.std.specs.List.{list_any}
 use Rattle.std.proofs.lemmas.Bool.{cases_lt, eq-eqb, eqb-true, ne_eqb, or_parts}
@@ -28,7 +28,7 @@ take_more es n lt = (let one : n + 1 ≡ suc n = omega arith in rw one (go es n 
     go (e ∷ es) (suc n) lt = ap (λ fs. e ∷ fs) (go es n (omega arith))
 
 -- the oldest entries, none of which is open
-none_open : (es : List Entry) (n : ℕ) → n ≤ length es → ((i : ℕ) → i < n → is_open_guess (get_or es i no_entry) ≡ false) → list_any is_open_guess (take n es) ≡ false
+pub none_open : (es : List Entry) (n : ℕ) → n ≤ length es → ((i : ℕ) → i < n → is_open_guess (get_or es i no_entry) ≡ false) → list_any is_open_guess (take n es) ≡ false
 none_open es n le none = list_any_none is_open_guess (take n es) (λ i d lt.
     let below : i < n = omega (arith, lt, length-take n es) in
     ap is_open_guess (get_or_default (take n es) i d no_entry lt ∙ get_or-take n es i no_entry below) ∙ none i below)
@@ -80,12 +80,51 @@ map_one k l same (w ∷ ws) = rw (same w, map_one k l same ws) refl
 abbrev pub AreSettled : Flow → Flow → ℕ → List Entry → ℕ → Type 0
 AreSettled old f c es n = f ≡ record old { waiters = map (settled c (take n es)) old.waiters }
 
-settled_none : (c : ℕ) (ws : List Waiter) → ws ≡ map (settled c []) ws
-settled_none c [] = refl
-settled_none c (w ∷ ws) = rw (and_none (w.context == c)) (ap (λ vs. w ∷ vs) (settled_none c ws))
+-- a mark that isn't there
+pub settled_unmarked : (c : ℕ) (es : List Entry) (w : Waiter) → w.speculative ≡ false → settled c es w ≡ w
+settled_unmarked c es w off = go ((w.context == c) && queued_at w.stamp es)
+  where
+    bare : record w { speculative = false } ≡ w
+    bare = ap (λ b. let v : Waiter = record w { speculative = b } in v) (sym off)
 
-pub settled_first : (f : Flow) (c : ℕ) (es : List Entry) → AreSettled f f c es 0
-settled_first f c es = ap (λ (ws : List Waiter). let r : Flow = record f { waiters = ws } in r) (settled_none c f.waiters)
+    go : (b : Bool) → (if b then record w { speculative = false } else w) ≡ w
+    go true = bare
+    go false = refl
+
+-- or is of a younger entry
+pub settled_later : (c n j : ℕ) (fs es : List Entry) → IsGrowing 0 es → n ≤ j → j < length es → settled c (take n es) (waiter_for c fs (get_or es j no_entry)) ≡ waiter_for c fs (get_or es j no_entry)
+settled_later c n j fs es g le lt = rw (younger 0 es n j g le lt, and_none (c == c)) refl
+  where
+    younger : (low : ℕ) (es : List Entry) (n j : ℕ) → IsGrowing low es → n ≤ j → j < length es → queued_at (get_or es j no_entry).stamp (take n es) ≡ false
+    younger low es zero j g le lt = refl
+    younger low [] (suc n) j g le lt = absurd (omega (arith, lt))
+    younger low (e ∷ es) (suc n) zero g le lt = absurd (omega (arith, le))
+    younger low (e ∷ es) (suc n) (suc j) g le lt =
+        let later = growing_at (e.stamp + 1) es j g.1 (omega (arith, lt)) in
+        rw (ne_eqb e.stamp (get_or es j no_entry).stamp (λ same. omega (arith, later, same))) (younger (e.stamp + 1) es n j g.1 (omega (arith, le)) (omega (arith, lt)))
+
+-- nothing of a context is to be told of these entries
+pub settled_told : (f : Flow) (c : ℕ) (es : List Entry) → map (settled c es) (waiting_of f c) ≡ waiting_of f c → f ≡ record f { waiters = map (settled c es) f.waiters }
+settled_told f c es told = ap (λ (ws : List Waiter). let r : Flow = record f { waiters = ws } in r) (sym (go f.waiters told))
+  where
+    go : (ws : List Waiter) → map (settled c es) (map unheld (filter (λ w. w.context == c) ws)) ≡ map unheld (filter (λ w. w.context == c) ws) → map (settled c es) ws ≡ ws
+    go [] told = refl
+    go (w ∷ ws) told = by_test (w.context == c) refl (go ws) told
+      where
+        alike : (b : Bool) → (if b then record (unheld w) { speculative = false } else unheld w) ≡ unheld w → (if b then record w { speculative = false } else w) ≡ w
+        alike true h = ap (λ s. let v : Waiter = record w { speculative = s } in v) (ap (λ (v : Waiter). v.speculative) h)
+        alike false h = refl
+
+        by_test : (b : Bool) → (w.context == c) ≡ b
+            → (map (settled c es) (map unheld (filter (λ v. v.context == c) ws)) ≡ map unheld (filter (λ v. v.context == c) ws) → map (settled c es) ws ≡ ws)
+            → map (settled c es) (map unheld (cond b (w ∷ filter (λ v. v.context == c) ws) (filter (λ v. v.context == c) ws))) ≡ map unheld (cond b (w ∷ filter (λ v. v.context == c) ws) (filter (λ v. v.context == c) ws))
+            → settled c es w ∷ map (settled c es) ws ≡ w ∷ ws
+        by_test true here rest told =
+            ap (λ v. v ∷ map (settled c es) ws) (alike ((w.context == c) && queued_at w.stamp es) (ap (λ vs. get_or vs 0 w) told))
+            ∙ ap (λ vs. w ∷ vs) (rest (ap (λ (vs : List Waiter). drop 1 vs) told))
+        by_test false here rest told =
+            let same : settled c es w ≡ w = rw here refl in
+            ap (λ v. v ∷ map (settled c es) ws) same ∙ ap (λ vs. w ∷ vs) (rest told)
 
 -- one more is queued, and so its mark is taken
 pub settled_queued : (old f g : Flow) (c : ℕ) (es : List Entry) (n : ℕ) (e : Entry) → AreSettled old f c es n → n < length es → e ≡ get_or es n no_entry → is_queued (get_or es n no_entry).stage ≡ true

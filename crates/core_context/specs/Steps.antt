@@ -1,10 +1,10 @@
 -- What each event makes of the data flow.
-use Rattle.std.specs.Prelude.{◌≡◌, ℕ, Bool, false, ◌++◌, [], ◌∷◌, map, take, if◌then◌else◌, Option, Some, None}
+use Rattle.std.specs.Prelude.{◌≡◌, ℕ, ◌+◌, ◌<◌, Bool, false, ◌++◌, List, [], ◌∷◌, get_or, map, take, if◌then◌else◌, Option, Some, None}
 use Rattle.core_view.specs.declared.entry.Execution.{Execution}
-use Rattle.core_view.specs.Flight.{result_in}
+use Rattle.core_view.specs.Flight.{result_in, is_open_guess}
 use Rattle.core_view.specs.declared.entry.Entry.{Entry}
 use Rattle.core_view.specs.Operations.{stops_at_fetch, is_guessed}
-use Rattle.core_view.specs.View.{Context, entry_at}
+use Rattle.core_view.specs.View.{Context, entry_at, no_entry}
 use Rattle.data_flow.specs.Flow.{Flow, lane, with_lane, without_oldest, with_result, with_node, cut_flow}
 use Rattle.core_context.specs.Queued.{unheld, up_to_guess, settled}
 use Rattle.core_context.specs.Cores.{operands_of}
@@ -32,7 +32,11 @@ cut_by f c i x context = cut_if (finished_flow f c i (result_in x.outcome)) c (c
 abbrev pub settled_flow : Flow → ℕ → Track → Flow
 settled_flow f c t = record f { waiters = map (settled c (up_to_guess (take t.renamed t.context.flight))) f.waiters }
 
--- the same, and marks are settled where the entry is guessed
+-- of the first so many entries, where none of them is an open guess but the last, none is marked as behind one
+abbrev pub AreTold : Flow → ℕ → List Entry → ℕ → Type 0
+AreTold f c es n = ((i : ℕ) → i + 1 < n → is_open_guess (get_or es i no_entry) ≡ false) → f ≡ record f { waiters = map (settled c (take n es)) f.waiters }
+
+-- the instruction at a place has its result, and marks are settled where the entry is guessed
 abbrev pub completed_flow : Flow → ℕ → ℕ → Execution → Track → Flow
 completed_flow f c i x t =
     let g = cut_by f c i x t.context in

@@ -17,7 +17,7 @@ ghost use Rattle.core_context.specs.Heads.{IsGoing, first_done, step_on};
 ghost use Rattle.flight.specs.Flights.{execution_of, is_due, IsIssued, IsNext};
 ghost use Rattle.core_context.specs.Left.{IsIdleCore, IsEventAt};
 ghost use Rattle.core_context.specs.Renamable.{IsPastFront, IsRenamable};
-ghost use Rattle.core_context.specs.Steps.{retired_flow, settled_flow, completed_flow, renamed_flow, IsRemarked};
+ghost use Rattle.core_context.specs.Steps.{retired_flow, settled_flow, completed_flow, cut_by, renamed_flow, IsRemarked, AreTold};
 
 use crate::track::Track;
 use core_profile::Profile;
@@ -94,8 +94,28 @@ pub fn complete<A: Allocator>(
     before - track.len()
 }
 
-/// The same, where the data flow has the entry.
+/// The same. The queue is told of what is behind no guessed entry any more.
 fn complete_entry<A: Allocator>(
+    flow: &mut DataFlow<A>,
+    track: &mut Track<A>,
+    context: Ctx,
+    place: usize,
+)
+    requires core { IsIdleCore flow.old context track.old }
+    requires place { place < length track.old.context.flight }
+    requires issued { IsIssued (entry_at track.old.context place).stage }
+    ensures track { track.new ≡ completed track.old place (execution_of (entry_at track.old.context place).stage) }
+    ensures flow { flow.new ≡ completed_flow flow.old context place (execution_of (entry_at track.old.context place).stage) track.old }
+{
+    let guessed = track.is_guessed(place);
+    finish_entry(flow, track, context, place);
+    if guessed {
+        settle_speculation(flow, track, context, place);
+    }
+}
+
+/// The entry at a place, which is issued, completes, and what it doesn't keep is forgotten.
+fn finish_entry<A: Allocator>(
     flow: &mut DataFlow<A>,
     track: &mut Track<A>,
     context: Ctx,
@@ -106,19 +126,15 @@ fn complete_entry<A: Allocator>(
     requires issued { IsIssued (entry_at track.old.context place).stage }
     requires sound { IsSound (image_of track.old.context.state) (seen_of track.old.context.state) track.old.context.state.pc track.old.context.flight }
     ensures track { track.new ≡ completed track.old place (execution_of (entry_at track.old.context place).stage) }
-    ensures flow { flow.new ≡ completed_flow flow.old context place (execution_of (entry_at track.old.context place).stage) track.old }
+    ensures flow { flow.new ≡ cut_by flow.old context place (execution_of (entry_at track.old.context place).stage) track.old.context }
 {
     let result = track.result_to_come(place);
-    let guessed = track.is_guessed(place);
     let cut = track.complete(place);
     if let Some(value) = result {
         flow.finish(context, place, value);
     }
     if let Some(stamp) = cut {
         flow.cut_from(context, stamp);
-    }
-    if guessed {
-        settle_speculation(flow, track, context);
     }
 }
 
@@ -244,14 +260,21 @@ fn operands(entry: &Entry) -> Operands
 }
 
 /// Tells the queue of the entries that are behind no guessed entry any more: those up to the oldest guessed entry that
-/// has not completed.
-fn settle_speculation<A: Allocator>(flow: &mut DataFlow<A>, track: &Track<A>, context: Ctx)
+/// has not completed. It knows of those before a place that none was behind.
+fn settle_speculation<A: Allocator>(
+    flow: &mut DataFlow<A>,
+    track: &Track<A>,
+    context: Ctx,
+    from: usize,
+)
+    requires renamed { from ≤ track.now.renamed }
+    requires told { (n : ℕ) → n ≤ from → AreTold flow.old context track.now.context.flight n }
     ensures { flow.new ≡ settled_flow flow.old context track.now }
 {
     // How many are renamed is at most how many there are.
     let _renamed = track.renamed_count();
     let guess = track.first_open_guess();
-    let mut first = 0;
+    let mut first = from.min(guess + 1);
     while let Some(place) = track.next_queued(first) {
         if place > guess {
             return;

@@ -235,6 +235,7 @@ impl<A: Allocator> Flight<A> {
     pub fn first_open_guess(&self) -> usize
         ensures before { (i : ℕ) → i < result → i < self.now.renamed → is_open_guess (entry_in self.now.entries i) ≡ false }
         ensures here { result < self.now.renamed → is_open_guess (entry_in self.now.entries result) ≡ true }
+        ensures few { result ≤ 64 }
     {
         next(self.marks.open_guesses, 0)
     }

@@ -2,17 +2,9 @@ use Rattle.std.proofs.Common.{ap, length, arith}
 use Rattle.core_view.specs.View.{entry_at}
 use Rattle.flight.specs.Flights.{execution_of}
 use Rattle.core_context.specs.Track.{Track}
-use Rattle.core_context.proofs.Completes.{complete_fewer, issued_known}
+use Rattle.core_context.proofs.Completes.{complete_fewer}
 use Rattle.core_context.proofs.EventsKept.{complete_kept}
 use Rattle.core_context.proofs.events.complete.Goals as goal
-
-pub complete_entry-requires-clause-known : goal.complete_entry-requires-clause-known
-complete_entry-requires-clause-known g c =
-    let k = c.requires.core in
-    issued_known k.start k.stamp k.reorder c.args.flow.now c.args.context c.args.track.now c.args.place (execution_of (entry_at c.args.track.now.context c.args.place).stage) k.core c.requires.place c.requires.issued
-
-pub complete_entry-requires-clause-sound : goal.complete_entry-requires-clause-sound
-complete_entry-requires-clause-sound g c = c.requires.core.core.live.flight.sound
 
 pub overflow_sub-result : goal.overflow_sub-result
 overflow_sub-result g c =

@@ -2,7 +2,7 @@ use Rattle.std.proofs.Common.{ap, ◌∙◌}
 use Rattle.core_view.specs.declared.outcome.Outcome.TheVariants.{Goes}
 use Rattle.data_flow.specs.Flow.{Node}
 use Rattle.core_context.specs.Heads.{first_done, step_on}
-use Rattle.core_context.proofs.Retires.{is_first_done, oldest_renamed, oldest_known, oldest_node, oldest_done, oldest_idle, oldest_below, oldest_sized}
+use Rattle.core_context.proofs.Retires.{is_first_done, oldest_renamed, oldest_known, oldest_node, oldest_done, oldest_idle, oldest_below, oldest_sized, oldest_unwritten}
 use Rattle.core_context.proofs.EventsKept.{parked_kept, running_kept}
 use Rattle.core_context.proofs.events.retire.Goals as goal
 
@@ -47,6 +47,12 @@ retire-requires-clause-sized g c =
     let k = c.requires.core in
     let d = is_first_done c.args.track.now.context.flight (Goes (step_on (first_done c.args.track.now.context.flight))) c.requires.done in
     oldest_sized k.start k.stamp k.reorder c.args.flow.now c.args.context c.args.track.now d.execution (step_on (first_done c.args.track.now.context.flight)) k.core d.some d.stage d.outcome
+
+pub retire-requires-clause-unwritten : goal.retire-requires-clause-unwritten
+retire-requires-clause-unwritten g c idle =
+    let k = c.requires.core in
+    let d = is_first_done c.args.track.now.context.flight (Goes (step_on (first_done c.args.track.now.context.flight))) c.requires.done in
+    oldest_unwritten k.start k.stamp k.reorder c.args.flow.now c.args.context c.args.track.now d.execution (step_on (first_done c.args.track.now.context.flight)) k.core d.some d.stage d.outcome idle
 
 pub returns-then-count-target-clause-event : goal.returns-then-count-target-clause-event
 returns-then-count-target-clause-event g c =

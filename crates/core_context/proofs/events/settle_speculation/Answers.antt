@@ -2,11 +2,18 @@ use Rattle.std.proofs.Common.{◌<◌, ◌≤◌, length, arith, subst}
 use Rattle.std.specs.Prelude.{MatchOption}
 use Rattle.flight.specs.Flights.{NoneFrom, IsNext}
 use Rattle.flight.specs.Marked.{is_waiting}
-use Rattle.core_context.proofs.Settles.{settled_first, settled_queued, settled_pass, settled_end}
+use Rattle.core_context.proofs.Settles.{settled_queued, settled_pass, settled_end}
 use Rattle.core_context.proofs.events.settle_speculation.Goals as goal
 
 pub loop-place-init : goal.loop-place-init
-loop-place-init g c = record { settled = settled_first c.args.flow.now c.args.context c.args.track.now.context.flight; low = omega arith; past = omega arith; few = omega arith }
+loop-place-init g c =
+    let first = c.min-first.ensures in
+    record {
+      settled = c.requires.told c.min-first.result (omega (arith, first)) (λ i lt. c.first_open_guess-guess.ensures.before i (omega (arith, lt, first)) (omega (arith, lt, first, c.requires.renamed)));
+      low = omega (arith, first, c.requires.renamed);
+      past = omega (arith, first);
+      few = omega (arith, first, c.requires.renamed, c.renamed_count-renamed.ensures.value, c.renamed_count-renamed.ensures.few);
+    }
 
 pub loop-place-preserved : goal.loop-place-preserved
 loop-place-preserved g c =
