@@ -248,5 +248,5 @@ module _ {A : Type 0} where
   front_below m now c t None fits h is = tt
   front_below m now c t (Some stamp) fits h is = let below = stamped_below m.stamp t.context.flight t.renamed h.core.live.flight.below is.some in omega (arith, below, is.stamp_is, fits)
 
-  pub may_not_rename : (m : Inside A) (now : Machine) (c : ℕ) (t : Track) → IsCounted m now c t → ((stamp : ℕ) → ¬ (IsRenamable m.flow t m.profile m.cycle stamp)) → (e : Entry) → ¬ (CanRename now.view c e)
-  may_not_rename m now c t h not_one e can = not_one e.stamp (is_renamable m now c t e h can)
+  pub may_not_rename : (m : Inside A) (now : Machine) (c : ℕ) (t : Track) → IsCounted m now c t → (limit : ℕ) → ((stamp : ℕ) → stamp ≤ limit → ¬ (IsRenamable m.flow t m.profile m.cycle stamp)) → (e : Entry) → e.stamp ≤ limit → ¬ (CanRename now.view c e)
+  may_not_rename m now c t h limit not_one e within can = not_one e.stamp within (is_renamable m now c t e h can)

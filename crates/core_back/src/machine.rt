@@ -371,18 +371,27 @@ impl<A: Allocator> Machine<A> {
         events::front(track, self.cycle, &self.profile)
     }
 
-    /// The oldest fetched entry of a context is renamed, if it can be. Returns its stamp.
-    pub fn try_rename(&mut self, context: Ctx) -> Option<u64>
+    /// The oldest fetched entry of a context is renamed, if it can be and its stamp is no greater than a limit. Returns
+    /// its stamp.
+    pub fn try_rename(&mut self, context: Ctx, limit: u64) -> Option<u64>
         requires { self.old.names ≡ [] }
         ensures none { result ≡ None → self.new ≡ self.old }
-        ensures cannot { result ≡ None → (e : Entry) → ¬ (CanRename self.old.view context e) }
+        ensures cannot { result ≡ None → (e : Entry) → e.stamp ≤ limit → ¬ (CanRename self.old.view context e) }
+        ensures within { IfSome result (λ stamp. stamp ≤ limit) }
         ensures renamed { IfSome result (IsRenamed self.old self.new context) }
         ensures flights { in_flight self.new ≡ in_flight self.old }
         ensures alike { IsAlike self.old self.new }
         ensures idle { self.new.names ≡ [] }
     {
         let track = &mut self.tracks[context.index()];
-        events::rename(&mut self.flow, track, context, self.cycle, &self.profile)
+        events::rename(
+            &mut self.flow,
+            track,
+            context,
+            self.cycle,
+            &self.profile,
+            limit,
+        )
     }
 
     /// How many entries of a context are fetched and not yet renamed.

@@ -151,20 +151,22 @@ pub fn front<A: Allocator>(track: &Track<A>, cycle: u64, profile: &Profile) -> O
     }
 }
 
-/// The stamp of the oldest fetched entry, if it can be renamed in a cycle: it was fetched as many cycles ago as the front
-/// delay says, and each place that it needs is free.
+/// The stamp of the oldest fetched entry, if it is no greater than a limit and the entry can be renamed in a cycle: it was
+/// fetched as many cycles ago as the front delay says, and each place that it needs is free.
 fn renamable<A: Allocator>(
     flow: &DataFlow<A>,
     track: &Track<A>,
     cycle: u64,
     profile: &Profile,
+    limit: u64,
 ) -> Option<u64>
     ensures can { IfSome result (IsRenamable flow.now track.now profile.now cycle) }
-    ensures none { result ≡ None → (stamp : ℕ) → ¬ (IsRenamable flow.now track.now profile.now cycle stamp) }
+    ensures within { IfSome result (λ stamp. stamp ≤ limit) }
+    ensures none { result ≡ None → (stamp : ℕ) → stamp ≤ limit → ¬ (IsRenamable flow.now track.now profile.now cycle stamp) }
 {
     let place = track.renamed_count();
     let entry = track.entry(place)?;
-    if place >= usize::from(profile.reorder_buffer) {
+    if entry.stamp > limit || place >= usize::from(profile.reorder_buffer) {
         return None;
     }
     if !is_past_front(entry, cycle, profile) {
@@ -196,24 +198,26 @@ fn is_past_front(entry: &Entry, cycle: u64, profile: &Profile) -> bool
     }
 }
 
-/// The oldest fetched entry is renamed in a cycle, if it can be. Returns its stamp.
+/// The oldest fetched entry is renamed in a cycle, if it can be and its stamp is no greater than a limit. Returns its stamp.
 pub fn rename<A: Allocator>(
     flow: &mut DataFlow<A>,
     track: &mut Track<A>,
     context: Ctx,
     cycle: u64,
     profile: &Profile,
+    limit: u64,
 ) -> Option<u64>
     requires core { IsIdleCore flow.old context track.old }
     requires room { (lane flow.old context).room ≡ profile.now.reorder_buffer }
     ensures none { result ≡ None → (flow.new ≡ flow.old) × (track.new ≡ track.old) }
-    ensures cannot { result ≡ None → (stamp : ℕ) → ¬ (IsRenamable flow.old track.old profile.now cycle stamp) }
+    ensures cannot { result ≡ None → (stamp : ℕ) → stamp ≤ limit → ¬ (IsRenamable flow.old track.old profile.now cycle stamp) }
     ensures can { IfSome result (IsRenamable flow.old track.old profile.now cycle) }
+    ensures within { IfSome result (λ stamp. stamp ≤ limit) }
     ensures fetched { IfSome result (λ _. (entry_at track.old.context track.old.renamed).stage ≡ Fetched) }
     ensures track { IfSome result (λ _. track.new ≡ renamed_one cycle track.old) }
     ensures event { IsEventAt context flow.old flow.new track.old track.new }
 {
-    let stamp = renamable(flow, track, cycle, profile)?;
+    let stamp = renamable(flow, track, cycle, profile, limit)?;
     rename_oldest(flow, track, context, cycle);
     Some(stamp)
 }

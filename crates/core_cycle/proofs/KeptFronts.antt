@@ -2,7 +2,7 @@
 use Rattle.std.proofs.Common.{◌≡◌, ◌≢◌, ℕ, ◌+◌, ◌<◌, ◌≤◌, Bool, true, false, List, length, get_or, Option, Some, None, refl, sym, ap, ◌∙◌, subst, arith, inl, inr}
 use Rattle.std.specs.Prelude.{set, cond, map, slice_index, unwrap_or, ◌^◌, ◌&&◌, not, ◌==◌, count_by, IfSome}
 use Rattle.std.proofs.lemmas.Bool.{cases_lt, cases_eq, lt-ltb, le-ltb}
-use Rattle.std.proofs.lemmas.List.{get_or-map, get_or-set_same, get_or-set_other, get_or_past}
+use Rattle.std.proofs.lemmas.List.{length-map, get_or-map, get_or-set_same, get_or-set_other, get_or_past}
 use Rattle.std.proofs.lemmas.List.Sums.{sum_by-set, sum_by-le-sum_by}
 use Rattle.core_profile.specs.declared.profile.Profile.{Profile}
 use Rattle.core_view.specs.declared.entry.Entry.{Entry}
@@ -25,7 +25,7 @@ pub is_past_front : (v : View) (c : ℕ) (e : Entry) → CanRename v c e → IsP
 is_past_front v c e can = record { oldest = can.oldest; age = can.age }
 
 -- a context has one entry that is past the front delay and may be renamed next
-one_entry : (v : View) (c : ℕ) (e f : Entry) → IsPastFront v c e → IsPastFront v c f → e ≡ f
+pub one_entry : (v : View) (c : ℕ) (e f : Entry) → IsPastFront v c e → IsPastFront v c f → e ≡ f
 one_entry v c e f a b = of_some (sym a.oldest ∙ b.oldest)
   where
     of_some : Some e ≡ Some f → e ≡ f
@@ -112,31 +112,6 @@ module _ (m n : Machine) (c stamp : ℕ) (one : IsRenamed m n c stamp) where
       own : (test : Entry → Bool) → renamed_by test (context_in n.view d).flight ≡ renamed_by test (context_in m.view d).flight
       own test = ap (λ (x : Context). renamed_by test x.flight) here
 
-  -- with its own context's front asked anew, the fronts are those after it
-  pub fronts_renamed : (fronts : List (Option ℕ)) (front : Option ℕ) → AreFronts m.view fronts → c < length fronts → IsFront n.view c front → AreFronts n.view (set fronts c front)
-  fronts_renamed fronts front old within new = record { each = at }
-    where
-      at : (d : ℕ) → IsFront n.view d (get_or (set fronts c front) d None)
-      at d = λ e can. elim (cases_eq d c) [
-        | inl is ↦ ap (λ k. get_or (set fronts c front) k None) is ∙ get_or-set_same fronts c front None within ∙ new e (subst (λ k. CanRename n.view k e) is can)
-        | inr ne ↦ get_or-set_other fronts c d front None ne ∙ old.each d e (could_rename d e ne can)
-      ]
-
-  -- where the oldest front's context is renamed, its entry is the next of all
-  pub least_is_next : (fronts : List (Option ℕ)) → AreFronts m.view fronts → IsLeast fronts c → IsNext m.view (record { context = c; stamp = stamp })
-  least_is_next fronts are h = record {
-    entry = entry_at (context_at m c) one.place;
-    can = one.can;
-    stamp = one.stamp_is;
-    least = λ d f can. let le = h.least d f.stamp can.context (are.each d f can) in omega (arith, le, same_stamp);
-  }
-    where
-      same_stamp : (entry_at (context_at m c) one.place).stamp ≡ h.stamp
-      same_stamp = of_some (sym (are.each c (entry_at (context_at m c) one.place) one.can) ∙ h.front)
-        where
-          of_some : Some (entry_at (context_at m c) one.place).stamp ≡ Some h.stamp → (entry_at (context_at m c) one.place).stamp ≡ h.stamp
-          of_some is = cc
-
 -- without a front nothing can be renamed
 pub none_can : (v : View) (fronts : List (Option ℕ)) → AreFronts v fronts → IsOldest fronts None → (c : ℕ) (e : Entry) → ¬ CanRename v c e
 none_can v fronts are none c e can = no_some (sym (none c can.context) ∙ are.each c e can)
@@ -149,7 +124,7 @@ none_can v fronts are none c e can = no_some (sym (none c can.context) ∙ are.e
 front_some : (n : ℕ) → n < 18446744073709551615 → front_of n ≡ Some n
 front_some n lt = rw (lt-ltb n 18446744073709551615 lt) refl
 
-front_none : (n : ℕ) → 18446744073709551615 ≤ n → front_of n ≡ None
+pub front_none : (n : ℕ) → 18446744073709551615 ≤ n → front_of n ≡ None
 front_none n le = rw (le-ltb n 18446744073709551615 le) refl
 
 -- what is put into a place: a stamp, or the greatest number
@@ -157,27 +132,50 @@ pub front_put : (front : Option ℕ) (n : ℕ) → IfSome front (λ stamp. stamp
 front_put None n fits is = rw is refl
 front_put (Some stamp) n fits is = rw is (front_some stamp (omega (arith, fits)))
 
-module _ (ns : List ℕ) (fronts : List (Option ℕ)) (p : ℕ) (eight : length ns ≡ 8) (shows : map front_of ns ≡ fronts) (least : (d : ℕ) → d < 8 → slice_index ns p ≤ slice_index ns d) where
+of_some : (a b : ℕ) → Some a ≡ Some b → a ≡ b
+of_some a b is = cc
+
+no_some : (b : ℕ) → None ≡ Some b → ⊥
+no_some b is = cc
+
+module _ (ns : List ℕ) (fronts : List (Option ℕ)) (eight : length ns ≡ 8) (shows : map front_of ns ≡ fronts) where
   front_at : (d : ℕ) → d < 8 → get_or fronts d None ≡ front_of (slice_index ns d)
   front_at d lt = ap (λ fs. get_or fs d None) (sym shows) ∙ get_or-map front_of ns d 0 None (omega (arith, lt, eight))
 
+  -- a front is a number below the greatest
+  front_below : (d stamp : ℕ) → d < 8 → get_or fronts d None ≡ Some stamp → stamp < 18446744073709551615
+  front_below d stamp ld is = elim (cases_lt (slice_index ns d) 18446744073709551615) [
+    | inl below ↦ subst (λ k. k < 18446744073709551615) (of_some (slice_index ns d) stamp (sym (front_at d ld ∙ front_some (slice_index ns d) below) ∙ is)) below
+    | inr above ↦ absurd (no_some stamp (sym (front_at d ld ∙ front_none (slice_index ns d) above) ∙ is))
+  ]
+
+  -- once the oldest front is taken away, no number is below it
+  pub taken_above : (c q : ℕ) → q < 8 → (h : IsLeast fronts c) → h.stamp ≤ slice_index (set ns c 18446744073709551615) q
+  taken_above c q lq h =
+      let within = front_within fronts c h.stamp h.front in
+      let long = ap (λ (fs : List (Option ℕ)). length fs) (sym shows) ∙ length-map ns front_of ∙ eight in
+      let lc : c < 8 = omega (arith, within, long) in
+      let below = front_below c h.stamp lc h.front in
+      elim (cases_eq q c) [
+        | inl is ↦ let at : slice_index (set ns c 18446744073709551615) q ≡ 18446744073709551615 = ap (λ k. slice_index (set ns c 18446744073709551615) k) is ∙ get_or-set_same ns c 18446744073709551615 0 (omega (arith, lc, eight)) in omega (arith, at, below)
+        | inr ne ↦ let at : slice_index (set ns c 18446744073709551615) q ≡ slice_index ns q = get_or-set_other ns c q 18446744073709551615 0 ne in elim (cases_lt (slice_index ns q) 18446744073709551615) [
+          | inl small ↦ let le = h.least q (slice_index ns q) lq (front_at q lq ∙ front_some (slice_index ns q) small) in omega (arith, at, le)
+          | inr large ↦ omega (arith, at, below, large)
+        ]
+      ]
+
+module _ (ns : List ℕ) (fronts : List (Option ℕ)) (p : ℕ) (eight : length ns ≡ 8) (shows : map front_of ns ≡ fronts) (least : (d : ℕ) → d < 8 → slice_index ns p ≤ slice_index ns d) where
+  -- no front is below the least number
+  pub least_front : (d stamp : ℕ) → d < 8 → get_or fronts d None ≡ Some stamp → slice_index ns p ≤ stamp
+  least_front d stamp ld is = elim (cases_lt (slice_index ns d) 18446744073709551615) [
+    | inl below ↦ subst (λ k. slice_index ns p ≤ k) (of_some (slice_index ns d) stamp (sym (front_at ns fronts eight shows d ld ∙ front_some (slice_index ns d) below) ∙ is)) (least d ld)
+    | inr above ↦ absurd (no_some stamp (sym (front_at ns fronts eight shows d ld ∙ front_none (slice_index ns d) above) ∙ is))
+  ]
+
   -- the least number, which is a stamp, is that of the oldest front
   pub some_oldest : p < 8 → slice_index ns p < 18446744073709551615 → IsLeast fronts p
-  some_oldest lt stamp = record {
-    stamp = slice_index ns p;
-    front = front_at p lt ∙ front_some (slice_index ns p) stamp;
-    least = λ d other ld is. elim (cases_lt (slice_index ns d) 18446744073709551615) [
-      | inl below ↦ subst (λ k. slice_index ns p ≤ k) (of_some (slice_index ns d) other (sym (front_at d ld ∙ front_some (slice_index ns d) below) ∙ is)) (least d ld)
-      | inr above ↦ absurd (no_some other (sym (front_at d ld ∙ front_none (slice_index ns d) above) ∙ is))
-    ];
-  }
-    where
-      of_some : (a b : ℕ) → Some a ≡ Some b → a ≡ b
-      of_some a b is = cc
-
-      no_some : (b : ℕ) → None ≡ Some b → ⊥
-      no_some b is = cc
+  some_oldest lt stamp = record { stamp = slice_index ns p; front = front_at ns fronts eight shows p lt ∙ front_some (slice_index ns p) stamp; least = least_front }
 
   -- where it is none, there is no front
   pub none_oldest : 18446744073709551615 ≤ slice_index ns p → IsOldest fronts None
-  none_oldest none d ld = front_at d ld ∙ front_none (slice_index ns d) (let le = least d ld in omega (arith, none, le))
+  none_oldest none d ld = front_at ns fronts eight shows d ld ∙ front_none (slice_index ns d) (let le = least d ld in omega (arith, none, le))

@@ -6,6 +6,7 @@ pub mod Picked
 pub mod EightOf
 pub mod AheadCounts
 pub mod KeptFronts
+pub mod KeptRuns
 pub mod LookedFor
 pub mod FrontWords
 pub mod Renamings

@@ -1,6 +1,7 @@
 pub mod FaultText
 pub mod Faults
 pub mod Picks
+pub mod Runs
 pub mod Fronts
 pub mod Shown
 pub mod ShownViews

@@ -1,10 +1,10 @@
 //! Which contexts may have an entry to rename next, and which of them has the oldest.
 
-ghost use Rattle.std.specs.Prelude.{true, false, ◌≡◌, ℕ, ◌+◌, ◌<◌, ◌≤◌, ◌^◌, [], None, replicate, IfSome, slice_index, slice_set};
+ghost use Rattle.std.specs.Prelude.{true, false, ◌≡◌, ℕ, ◌+◌, ◌<◌, ◌≤◌, ◌^◌, [], None, Some, length, replicate, IfSome, get_or, slice_index, slice_set};
 ghost use Rattle.word_mask.specs.Mask.{has};
 ghost use Rattle.core_view.specs.declared.entry.Entry.{Entry};
 ghost use Rattle.lawful_cycle.specs.Rename.{CanRename};
-ghost use Rattle.core_cycle.specs.Fronts.{AreFronts, IsOldest, IsPlaced};
+ghost use Rattle.core_cycle.specs.Fronts.{AreFronts, IsLeast, IsOldest, IsPlaced};
 
 use core_back::Machine;
 use join_law::Ctx;
@@ -41,7 +41,8 @@ impl Fronts {
     /// The fronts of a machine.
     pub(crate) fn of<A: Allocator>(machine: &Machine<A>) -> Fronts
         requires { machine.now.names ≡ [] }
-        ensures { AreFronts machine.now.view result }
+        ensures fronts { AreFronts machine.now.view result }
+        ensures eight { length result ≡ 8 }
     {
         let mut fronts = Fronts::none();
         let mut left = with_fetched(machine);
@@ -60,6 +61,17 @@ impl Fronts {
         ensures { self.new ≡ slice_set self.old context front }
     {
         self.stamps[context.index()] = front.unwrap_or(u64::MAX);
+    }
+
+    /// Takes a context's front away. Returns a stamp that the other fronts are no less than, and a front that was the
+    /// oldest no greater.
+    pub(crate) fn take(&mut self, context: Ctx) -> u64
+        ensures taken { self.new ≡ slice_set self.old context None }
+        ensures least { (d stamp : ℕ) → d < 8 → get_or self.new d None ≡ Some stamp → result ≤ stamp }
+        ensures above { (h : IsLeast self.old context) → h.stamp ≤ result }
+    {
+        self.stamps[context.index()] = u64::MAX;
+        self.stamps[least_place(&self.stamps)]
     }
 
     /// The context of the oldest front.

@@ -1,20 +1,24 @@
 //! The part of a cycle in which entries are renamed.
 
-ghost use Rattle.std.specs.Prelude.{◌≡◌, ◌+◌, ◌<◌, ℕ, [], None, IfSome};
+ghost use Rattle.std.specs.Prelude.{◌≡◌, ◌≢◌, ◌+◌, ◌<◌, ◌≤◌, ℕ, [], None, false, length, get_or};
 ghost use Rattle.core_view.specs.declared.entry.Entry.{Entry};
-ghost use Rattle.lawful_cycle.specs.Rename.{CanRename, IsNext, IsRename};
+ghost use Rattle.lawful_cycle.specs.Rename.{CanRename, IsRename};
 ghost use Rattle.core_back.specs.Machine.{IsAlike, in_flight};
-ghost use Rattle.core_back.specs.Fetched.{IsRenamed};
-ghost use Rattle.core_cycle.specs.Fronts.{AreFronts};
+ghost use Rattle.core_cycle.specs.Fronts.{AreFronts, IsFront};
+ghost use Rattle.core_cycle.specs.Runs.{AreBehind, IsRun};
 
 use crate::fronts::Fronts;
 use arrayvec::ArrayVec;
 use core_back::Machine;
 use core_view::EntryId;
+use join_law::Ctx;
 use std::alloc::Allocator;
 
 /// Entries are renamed, one by one, at most as many as the rename width: each is the one with the least stamp of the
 /// contexts' oldest fetched entries that can be renamed then. What is renamed is listed in order.
+///
+/// A context's entries are fetched in blocks, so that the one after the oldest mostly comes next: other contexts are
+/// looked at only where one of theirs may come first.
 // It stays out of line: among the other parts of a cycle its loop has too few of the host's registers.
 #[inline(never)]
 pub(crate) fn rename<A: Allocator>(machine: &mut Machine<A>, renamed: &mut ArrayVec<EntryId, 8>)
@@ -29,34 +33,55 @@ pub(crate) fn rename<A: Allocator>(machine: &mut Machine<A>, renamed: &mut Array
     // `cycle` ensures that each context is live, so its stamps grow.
     let _live = machine.cycle();
     let mut fronts = Fronts::of(machine);
-    for _place in 0..width {
-        let Some(oldest) = rename_oldest(machine, &mut fronts) else {
+    while let Some(context) = fronts.oldest() {
+        let limit = fronts.take(context);
+        let before = renamed.len();
+        rename_run(machine, renamed, context, limit, width);
+        if renamed.len() == width {
             return;
-        };
-        renamed.push(oldest);
+        }
+        end_run(machine, &mut fronts, context, renamed.len() > before);
     }
 }
 
-/// The oldest entry that can be renamed is renamed, if there is one, and its context's front is asked anew: what can be
-/// renamed of another context then could be before.
-fn rename_oldest<A: Allocator>(machine: &mut Machine<A>, fronts: &mut Fronts) -> Option<EntryId>
+/// Entries of a context are renamed for as long as they can be, come before what can be renamed of the other contexts, and
+/// there are fewer in all than the width. What can be renamed of another context then could be before, so that none but
+/// this context's front changes.
+fn rename_run<A: Allocator>(
+    machine: &mut Machine<A>,
+    renamed: &mut ArrayVec<EntryId, 8>,
+    context: Ctx,
+    limit: u64,
+    width: usize,
+)
     requires idle { machine.old.names ≡ [] }
-    requires fronts { AreFronts machine.old.view fronts.old }
-    ensures none { result ≡ None → (c : ℕ) (e : Entry) → ¬ (CanRename machine.new.view c e) }
-    ensures kept { result ≡ None → machine.new ≡ machine.old }
-    ensures next { IfSome result (IsNext machine.old.view) }
-    ensures renamed { IfSome result (λ n. IsRenamed machine.old machine.new n.context n.stamp) }
-    ensures fronts { AreFronts machine.new.view fronts.new }
+    requires width { width ≤ 8 }
+    requires room { length renamed.old.items ≤ width }
+    requires behind { AreBehind machine.old.view context limit }
     ensures alike { IsAlike machine.old machine.new }
-    ensures flights { in_flight machine.new ≡ in_flight machine.old }
     ensures idle { machine.new.names ≡ [] }
+    ensures flights { in_flight machine.new ≡ in_flight machine.old }
+    ensures run { IsRun context width machine.old.view machine.new.view renamed.old.items renamed.new.items }
+    ensures cannot { length renamed.new.items < width → (e : Entry) → e.stamp ≤ limit → ¬ (CanRename machine.new.view context e) }
 {
-    while let Some(context) = fronts.oldest() {
-        if let Some(stamp) = machine.try_rename(context) {
-            fronts.set(context, machine.front(context));
-            return Some(EntryId { context, stamp });
-        }
-        fronts.set(context, None);
+    while renamed.len() < width {
+        let Some(stamp) = machine.try_rename(context, limit) else {
+            return;
+        };
+        renamed.push(EntryId { context, stamp });
     }
-    None
+}
+
+/// The fronts once a context's entries were renamed, if there were any: its own is asked anew.
+fn end_run<A: Allocator>(machine: &Machine<A>, fronts: &mut Fronts, context: Ctx, moved: bool)
+    requires eight { length fronts.old ≡ 8 }
+    requires others { (d : ℕ) → d ≢ context → IsFront machine.now.view d (get_or fronts.old d None) }
+    requires none { moved ≡ false → (e : Entry) → ¬ (CanRename machine.now.view context e) }
+    ensures fronts { AreFronts machine.now.view fronts.new }
+    ensures eight { length fronts.new ≡ 8 }
+    ensures same { moved ≡ false → fronts.new ≡ fronts.old }
+{
+    if moved {
+        fronts.set(context, machine.front(context));
+    }
 }

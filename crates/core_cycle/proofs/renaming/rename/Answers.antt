@@ -1,38 +1,106 @@
-use Rattle.std.proofs.Common.{◌∙◌, refl, sym, ap, subst, length, arith, List}
+use Rattle.std.proofs.Common.{◌≡◌, ◌<◌, ◌≤◌, ◌∙◌, refl, sym, ap, subst, length, arith, List, get_or, Option, Some, None, ℕ, ◌≢◌}
+use Rattle.std.specs.Prelude.{set}
+use Rattle.std.proofs.lemmas.Bool.{le-ltb}
+use Rattle.std.proofs.lemmas.Bool.{ltb-false}
 use Rattle.core_view.specs.declared.note.EntryId.{EntryId}
 use Rattle.core_view.specs.View.{View}
-use Rattle.lawful_cycle.specs.Rename.{IsNext, renamed_view}
+use Rattle.core_cycle.specs.Fronts.{IsFront, IsOldest}
+use Rattle.core_cycle.specs.Runs.{IsGrown, IsOnWay}
 use Rattle.core_cycle.proofs.Alike.{alike_none, alike_chain}
-use Rattle.core_cycle.proofs.Renamings.{rename_none, renamed_next, each_next, EachNext}
+use Rattle.core_cycle.proofs.KeptFronts.{none_can}
+use Rattle.core_cycle.proofs.KeptRuns.{behind_fronts, others_left, none_left, turn_decreases}
+use Rattle.core_cycle.proofs.Renamings.{rename_none}
 use Rattle.core_cycle.proofs.renaming.rename.Goals as goal
 
-pub loop-place-init : goal.loop-place-init
-loop-place-init g c =
+pub loop-context-init : goal.loop-context-init
+loop-context-init g c =
     let most = c.profile.result.rename_width_in_range.1 in
+    let none = ap (λ (ns : List EntryId). length ns) c.requires.fresh in
     record {
       alike = alike_none c.args.machine.now;
       idle = c.requires.idle;
       flights = refl;
-      fronts = c.of-fronts.ensures;
-      so_far = rename_none c.args.machine.now.view c.args.renamed.now.items c.cycle-live.ensures.contexts c.requires.fresh;
-      each = λ j lt. absurd (omega (arith, lt, ap (λ (ns : List EntryId). length ns) c.requires.fresh));
-      count = ap (λ (ns : List EntryId). length ns) c.requires.fresh;
+      fronts = c.of-fronts.ensures.fronts;
+      eight = c.of-fronts.ensures.eight;
+      way = record {
+        so_far = rename_none c.args.machine.now.view c.args.renamed.now.items c.cycle-live.ensures.contexts c.requires.fresh;
+        each = λ j lt. absurd (omega (arith, lt, none));
+      };
+      most = omega (arith, none);
       width = omega (arith, most, c.from-width.ensures);
     }
 
-pub loop-place-preserved : goal.loop-place-preserved
-loop-place-preserved g c =
-    let i = c.loop-place.invariant in
-    let id = c.in-Some.oldest in
-    let next : IsNext (renamed_view c.args.machine.now.view c.loop-place.renamed.items) id = subst (λ (v : View). IsNext v id) i.so_far c.in-Some.ensures.next in
+pub rename_run-requires-clause-behind : goal.rename_run-requires-clause-behind
+rename_run-requires-clause-behind g c =
+    let fronts = c.loop-context.fronts in
+    behind_fronts c.loop-context.machine.view fronts c.in-Some.context c.loop-context.invariant.fronts c.take-limit.result
+    (subst (λ (fs : List (Option ℕ)). (d stamp : ℕ) → d < 8 → get_or fs d None ≡ Some stamp → c.take-limit.result ≤ stamp) c.take-limit.ensures.taken c.take-limit.ensures.least)
+
+pub end_run-requires-clause-others : goal.end_run-requires-clause-others
+end_run-requires-clause-others g c =
+    let v = c.rename_run.new.machine.view in
+    subst (λ (fs : List (Option ℕ)). (d : ℕ) → d ≢ c.in-Some.context → IsFront v d (get_or fs d None)) (sym c.take-limit.ensures.taken)
+    (others_left c.loop-context.machine.view c.loop-context.fronts c.in-Some.context c.loop-context.invariant.fronts v c.rename_run.ensures.run.others)
+
+pub end_run-requires-clause-none : goal.end_run-requires-clause-none
+end_run-requires-clause-none g c = λ stayed.
+    let run = c.rename_run.ensures.run in
+    let more = run.more in
+    let most = run.most in
+    let before = c.len-before.ensures.value in
+    let now = c.len-in-Some.ensures.value in
+    let here = c.len.ensures.value in
+    let below = c.if-len-width.false in
+    none_left c.loop-context.machine.view c.loop-context.fronts c.in-Some.context c.loop-context.invariant.fronts c.rename_run.new.machine.view c.take-limit.result c.in-Some.ensures
+    (c.take-limit.ensures.above c.in-Some.ensures) (run.same (let few = ltb-false c.len-before.result c.len-in-Some.result stayed in omega (arith, more, before, now, few))) (c.rename_run.ensures.cannot (omega (arith, most, here, below)))
+
+pub returns-then-len-width-clause-lawful : goal.returns-then-len-width-clause-lawful
+returns-then-len-width-clause-lawful g c =
+    let i = c.loop-context.invariant in
+    let start : IsGrown c.args.machine.now.view = record { contexts = c.cycle-live.ensures.contexts; growing = λ d ld. (c.cycle-live.ensures.live d ld).flight.growing } in
+    let way = c.rename_run.ensures.run.way c.args.machine.now.view start i.way in
+    let full = c.if-len-width.true in
+    let len = c.len.ensures.value in
+    let width = c.from-width.ensures in
+    let profile = c.profile.ensures in
     record {
-      alike = alike_chain c.args.machine.now c.loop-place.machine c.rename_oldest.new.machine i.alike c.rename_oldest.ensures.alike;
-      idle = c.rename_oldest.ensures.idle;
-      flights = c.rename_oldest.ensures.flights ∙ i.flights;
-      fronts = c.rename_oldest.ensures.fronts;
-      so_far = renamed_next c.args.machine.now.view c.loop-place.machine c.rename_oldest.new.machine c.loop-place.renamed.items id c.cycle-live.ensures.contexts (λ d ld. (c.cycle-live.ensures.live d ld).flight.growing) i.so_far c.in-Some.ensures.renamed
-          ∙ ap (renamed_view c.args.machine.now.view) (sym c.push.ensures.items);
-      each = subst (EachNext c.args.machine.now.view) (sym c.push.ensures.items) (each_next c.args.machine.now.view c.loop-place.renamed.items id i.each next);
-      count = omega (arith, i.count, c.push.ensures.len);
+      is = way.so_far;
+      each = way.each;
+      most = rw (sym profile) (omega (arith, full, len, width));
+      until = λ short. absurd (let less = subst (λ p. length c.rename_run.new.renamed.items < p.rename_width) (sym profile) short in omega (arith, less, full, len, width));
+    }
+
+pub loop-context-smaller : goal.loop-context-smaller
+loop-context-smaller g c =
+    let run = c.rename_run.ensures.run in
+    let before = c.len-before.ensures.value in
+    let now = c.len-in-Some.ensures.value in
+    turn_decreases c.loop-context.fronts c.end_run.new.fronts c.in-Some.context c.from-width.result (length c.loop-context.renamed.items) (length c.rename_run.new.renamed.items) c.in-Some.ensures c.end_run.ensures.eight run.more run.most
+    (λ stayed. c.end_run.ensures.same (le-ltb c.len-before.result c.len-in-Some.result (omega (arith, stayed, before, now))) ∙ c.take-limit.ensures.taken)
+
+pub loop-context-preserved : goal.loop-context-preserved
+loop-context-preserved g c =
+    let i = c.loop-context.invariant in
+    let start : IsGrown c.args.machine.now.view = record { contexts = c.cycle-live.ensures.contexts; growing = λ d ld. (c.cycle-live.ensures.live d ld).flight.growing } in
+    record {
+      alike = alike_chain c.args.machine.now c.loop-context.machine c.rename_run.new.machine i.alike c.rename_run.ensures.alike;
+      idle = c.rename_run.ensures.idle;
+      flights = c.rename_run.ensures.flights ∙ i.flights;
+      fronts = c.end_run.ensures.fronts;
+      eight = c.end_run.ensures.eight;
+      way = c.rename_run.ensures.run.way c.args.machine.now.view start i.way;
+      most = c.rename_run.ensures.run.most;
       width = i.width;
+    }
+
+pub returns-clause-lawful : goal.returns-clause-lawful
+returns-clause-lawful g c =
+    let i = c.loop-context.invariant in
+    let most = i.most in
+    let width = c.from-width.ensures in
+    record {
+      is = i.way.so_far;
+      each = i.way.each;
+      most = subst (λ p. length c.loop-context.renamed.items ≤ p.rename_width) c.profile.ensures (omega (arith, most, width));
+      until = λ _. none_can c.loop-context.machine.view c.loop-context.fronts i.fronts (subst (IsOldest c.loop-context.fronts) c.in_default.is c.oldest.ensures);
     }

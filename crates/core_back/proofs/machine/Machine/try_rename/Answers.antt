@@ -34,7 +34,7 @@ returns-clause-none g c none =
 pub returns-clause-cannot : goal.returns-clause-cannot
 returns-clause-cannot g c none =
     let h = at_context c.self.inside c.args.self.now c.args.context c.index.result c.index_mut-track.result.now c.self.view_is c.self.invariant (omega (arith, c.index.ensures)) c.index.ensures.value c.index_mut-track.ensures.value in
-    may_not_rename c.self.inside c.args.self.now c.args.context c.index_mut-track.result.now (is_counted c.self.inside c.args.self.now c.args.context c.index_mut-track.result.now c.self.view_is c.self.invariant c.requires (omega (arith, c.index.ensures)) h) (c.rename.ensures.cannot none)
+    may_not_rename c.self.inside c.args.self.now c.args.context c.index_mut-track.result.now (is_counted c.self.inside c.args.self.now c.args.context c.index_mut-track.result.now c.self.view_is c.self.invariant c.requires (omega (arith, c.index.ensures)) h) c.args.limit (c.rename.ensures.cannot none)
 
 pub returns-clause-renamed : goal.returns-clause-renamed
 returns-clause-renamed g c =

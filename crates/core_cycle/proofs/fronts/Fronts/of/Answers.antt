@@ -39,5 +39,8 @@ loop-left-preserved g c =
       eight = ap (λ (fs : List (Option ℕ)). length fs) after ∙ length-set fronts place front ∙ eight;
     }
 
-pub returns : goal.returns
-returns g c = record { each = λ k. c.loop-left.invariant.fronts k (ap (λ w. has w k) c.loop-left-test.false ∙ has_zero k) }
+pub returns-clause-fronts : goal.returns-clause-fronts
+returns-clause-fronts g c = record { each = λ k. c.loop-left.invariant.fronts k (ap (λ w. has w k) c.loop-left-test.false ∙ has_zero k) }
+
+pub returns-clause-eight : goal.returns-clause-eight
+returns-clause-eight g c = c.loop-left.invariant.eight

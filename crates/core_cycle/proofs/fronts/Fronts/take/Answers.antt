@@ -1,0 +1,25 @@
+use Rattle.std.proofs.Common.{ap, sym, subst, refl, ◌∙◌, ◌≤◌, map, None, arith}
+use Rattle.std.specs.Prelude.{set, slice_index}
+use Rattle.std.proofs.lemmas.List.{map-set, length-set}
+use Rattle.core_cycle.specs.Fronts.{front_of}
+use Rattle.core_cycle.proofs.KeptFronts.{front_none, least_front, taken_above}
+use Rattle.core_cycle.proofs.fronts.Fronts.take.Goals as goal
+
+pub returns-clause-taken : goal.returns-clause-taken
+returns-clause-taken c =
+    let stamps = c.self.inside.stamps in
+    map-set front_of stamps c.index.result 18446744073709551615
+    ∙ ap (λ f. set (map front_of stamps) c.index.result f) (front_none 18446744073709551615 (omega arith))
+    ∙ ap (λ k. set (map front_of stamps) k None) c.index.ensures.value
+    ∙ ap (λ fs. set fs c.args.context None) c.self.view_is
+
+pub returns-clause-least : goal.returns-clause-least
+returns-clause-least c =
+    let stamps = c.self.inside.stamps in
+    let new = set stamps c.index.result 18446744073709551615 in
+    least_front new (map front_of new) c.least_place.result (length-set stamps c.index.result 18446744073709551615 ∙ c.self.told) refl c.least_place.ensures.least
+
+pub returns-clause-above : goal.returns-clause-above
+returns-clause-above c = λ h.
+    let stamps = c.self.inside.stamps in
+    subst (λ k. h.stamp ≤ slice_index (set stamps k 18446744073709551615) c.least_place.result) (sym c.index.ensures.value) (taken_above stamps c.args.self.now c.self.told c.self.view_is c.args.context c.least_place.result c.least_place.ensures.bound h)
