@@ -20,5 +20,6 @@ pub mod Issues
 pub mod SourcesSeen
 pub mod StoreQueueReads
 pub mod EventsKept
+pub mod PlainNext
 pub mod Laws
 pub mod Texts
