@@ -3,13 +3,12 @@ use Rattle.std.proofs.Common.{◌≡◌, ℕ, zero, suc, ◌+◌, ◌<◌, ◌�
 use Rattle.std.specs.Prelude.{◌==◌, set, sum_by}
 use Rattle.std.proofs.lemmas.List.{length-drop, length-map, length-set, length_push}
 use Rattle.std.proofs.lemmas.List.Sums.{sum_by-cons, sum_by-set}
+use Rattle.std.proofs.lemmas.List.FromFn.{length-range_with_len}
 use Rattle.core_view.specs.declared.outcome.Step.{Step}
-use Rattle.core_view.specs.Events.{retire_event, issue_event, rename_event, fetch_event, fetched_entry}
+use Rattle.core_view.specs.Events.{retire_event, issue_event, rename_event}
 use Rattle.core_view.specs.declared.note.Issue.{Issue}
-use Rattle.core_view.specs.declared.status.Status.TheVariants.{Running}
+use Rattle.core_view.specs.declared.note.EntryId.{EntryId}
 use Rattle.rv64_decode.specs.declared.insn.Insn.{Insn}
-use Rattle.core_view.specs.Flight.{pc_past}
-use Rattle.core_view.specs.Operations.{operation_at}
 use Rattle.core_view.specs.View.{Context}
 use Rattle.core_back.specs.declared.machine.Machine.TheInside.{Inside}
 use Rattle.core_back.specs.Machine.{Machine, context_at, in_flight, no_context, with_context}
@@ -18,8 +17,8 @@ use Rattle.core_context.specs.Track.{Track}
 use Rattle.data_tags.specs.declared.delay.Kind.{Kind}
 use Rattle.data_tags.specs.declared.delay.Lag.{Lag}
 use Rattle.core_back.specs.Issued.{IsIssued}
-use Rattle.core_back.specs.Fetched.{IsRenamed, IsFetched}
-use Rattle.core_back.specs.declared.fetching.Fetch.{Fetch}
+use Rattle.core_back.specs.Fetched.{IsRenamed, IsPickTurn}
+use Rattle.core_back.proofs.BlockTurns.{ids_length}
 
 -- as many fewer are in flight as the flight of the context lost
 pub in_flight-with_context : (m n : Machine) (c : ℕ) (x : Context) (lost : ℕ) → n ≡ with_context m c x → c < length m.view.contexts → lost + length x.flight ≡ length (context_at m c).flight → lost + in_flight n ≡ in_flight m
@@ -69,16 +68,12 @@ pub in_flight_renamed : (m n : Machine) (c stamp : ℕ) → IsRenamed m n c stam
 in_flight_renamed m n c stamp is =
     in_flight-set_same m n c (rename_event m.view.cycle (context_at m c) is.place) (ap (λ (k : Machine). k.view.contexts) is.after) (length-set (context_at m c).flight is.place _)
 
-running_there : (xs : List Context) (c : ℕ) → (get_or xs c no_context).status ≡ Running → c < length xs
-running_there [] c h = absurd cc
-running_there (x ∷ xs) zero h = omega arith
-running_there (x ∷ xs) (suc c) h = omega (arith, running_there xs c h)
-
-pub in_flight_fetched : (may_answer : ℕ → ℕ → Insn → ℕ → Bool) (m n : Machine) (c : ℕ) (f : Fetch) → IsFetched may_answer m n c f → in_flight n ≡ in_flight m + 1
+pub in_flight_turn : {guesses : ℕ → ℕ → Insn → ℕ → Bool} (m n : Machine) (c num2 : ℕ) (before after : List EntryId) → IsPickTurn guesses m n c num2 before after → c < length m.view.contexts → in_flight n + length before ≡ in_flight m + length after
 unfolding in_flight
-in_flight_fetched may_answer m n c f is =
-    let x = fetch_event m.view.stamp m.view.cycle is.followed (context_at m c) in
-    let total = sum_by-set (λ (y : Context). length y.flight) m.view.contexts c x no_context (running_there m.view.contexts c is.running) in
-    let pc = pc_past (context_at m c).state.pc (context_at m c).flight in
-    let more = length_push (context_at m c).flight (fetched_entry m.view.stamp m.view.cycle pc (operation_at (context_at m c).state.memory pc) is.followed) in
-    ap (λ (k : Machine). sum_by (λ (y : Context). length y.flight) k.view.contexts) is.after ∙ omega (arith, total, more)
+in_flight_turn m n c num2 before after is lt =
+    let total = sum_by-set (λ (y : Context). length y.flight) m.view.contexts c (context_at n c) no_context lt in
+    let same = ap (λ (k : Machine). sum_by (λ (y : Context). length y.flight) k.view.contexts) is.is in
+    let more = is.block.count in
+    let stamps = length-range_with_len m.view.stamp is.number in
+    let listed = ids_length before after m.view.stamp c is.number is.listed in
+    omega (arith, total, same, more, stamps, listed)

@@ -20,3 +20,5 @@ pub mod IssueViews
 pub mod DoneTurns
 pub mod DuePlaces
 pub mod CompletedTurns
+pub mod Blocks
+pub mod BlockTurns

@@ -12,7 +12,8 @@ use Rattle.core_back.specs.declared.machine.Machine.TheInside.{Inside}
 use Rattle.data_flow.specs.Flow.{Flow}
 use Rattle.core_context.specs.Track.{Track}
 use Rattle.core_context.specs.Cores.{IsCore}
-use Rattle.core_back.specs.Machine.{Machine, context_at, with_context, with_contexts, with_fetched, no_track, no_context}
+use Rattle.core_back.specs.Machine.{Machine, context_at, with_context, with_contexts, no_track, no_context}
+use Rattle.core_back.specs.Fetched.{with_block}
 use Rattle.core_back.specs.Shown.{machine_of, IsMachine, HasRoom}
 use Rattle.core_context.specs.Left.{IsIdleCore, IsLeft, KeepsSizes, IsEventAt}
 use Rattle.core_context.proofs.Laws.{left_core}
@@ -156,12 +157,12 @@ module _ {A : Type 0} where
   shown_length m c k u lt same cut before fewer =
       rw (same, map-set (λ (t : Track). t.context) m.tracks.items c u, get_or-set_same (map (λ (t : Track). t.context) m.tracks.items) c u.context no_context (omega (arith, lt, length-map m.tracks.items (λ (t : Track). t.context)))) fewer
 
-  -- the machine after an entry of the context c was fetched: a stamp was taken
-  pub machine_fetched : (m n : Inside A) (now : Machine) (c k : ℕ) (u : Track) → machine_of m ≡ now → IsMachine m → now.names ≡ [] → c < 8
-      → IsCore (start (arc_value m.origins.c0) c) (m.stamp + 1) m.profile.reorder_buffer m.flow [] c u
-      → u.load_places ≡ (get_or m.tracks.items c no_track).load_places → u.store_places ≡ (get_or m.tracks.items c no_track).store_places → k ≡ c → 0 < m.fetch_room
-      → n.origins ≡ m.origins → n.flow ≡ m.flow → n.tracks.items ≡ set m.tracks.items k u → n.selected ≡ m.selected → n.cycle ≡ m.cycle → n.stamp ≡ m.stamp + 1 → n.fetch_room + 1 ≡ m.fetch_room → n.profile ≡ m.profile → n.holds ≡ m.holds → IsMachine n
-  machine_fetched m n now c k u shows ok idle lt core loads stores same some origins flow tracks_k names cycle stamp room profile holds =
+  -- the machine after so many entries of the context c were fetched: as many stamps were taken
+  pub machine_fetched : (m n : Inside A) (now : Machine) (c k number : ℕ) (u : Track) → machine_of m ≡ now → IsMachine m → now.names ≡ [] → c < 8
+      → IsCore (start (arc_value m.origins.c0) c) (m.stamp + number) m.profile.reorder_buffer m.flow [] c u
+      → u.load_places ≡ (get_or m.tracks.items c no_track).load_places → u.store_places ≡ (get_or m.tracks.items c no_track).store_places → k ≡ c
+      → n.origins ≡ m.origins → n.flow ≡ m.flow → n.tracks.items ≡ set m.tracks.items k u → n.selected ≡ m.selected → n.cycle ≡ m.cycle → n.stamp ≡ m.stamp + number → n.fetch_room + number ≡ m.fetch_room → n.profile ≡ m.profile → n.holds ≡ m.holds → IsMachine n
+  machine_fetched m n now c k number u shows ok idle lt core loads stores same origins flow tracks_k names cycle stamp room profile holds =
       let tracks : n.tracks.items ≡ set m.tracks.items c u = tracks_k ∙ ap (λ i. set m.tracks.items i u) same in
       let none = idle_names m now shows idle in
       let stamps = ok.stamps in
@@ -183,10 +184,10 @@ module _ {A : Type 0} where
       here : c < length m.tracks.items
       here = omega (arith, lt, ok.tracks)
 
-      cores : (d : ℕ) → d < 8 → IsCore (start (arc_value m.origins.c0) d) (m.stamp + 1) m.profile.reorder_buffer m.flow [] d (get_or (set m.tracks.items c u) d no_track)
+      cores : (d : ℕ) → d < 8 → IsCore (start (arc_value m.origins.c0) d) (m.stamp + number) m.profile.reorder_buffer m.flow [] d (get_or (set m.tracks.items c u) d no_track)
       cores d lt-d = by_context (d == c) refl
         where
-          by_context : (b : Bool) → (d == c) ≡ b → IsCore (start (arc_value m.origins.c0) d) (m.stamp + 1) m.profile.reorder_buffer m.flow [] d (get_or (set m.tracks.items c u) d no_track)
+          by_context : (b : Bool) → (d == c) ≡ b → IsCore (start (arc_value m.origins.c0) d) (m.stamp + number) m.profile.reorder_buffer m.flow [] d (get_or (set m.tracks.items c u) d no_track)
           by_context true is =
               let this : d ≡ c = grind (arith, nat_tests, is) in
               rw (this, get_or-set_same m.tracks.items c u no_track here) core
@@ -194,17 +195,17 @@ module _ {A : Type 0} where
               let other : d ≢ c = λ this. absurd (grind (arith, nat_tests, is, this)) in
               let before : IsCore (start (arc_value m.origins.c0) d) m.stamp m.profile.reorder_buffer m.flow [] d (get_or m.tracks.items d no_track) =
               subst (λ names. IsCore (start (arc_value m.origins.c0) d) m.stamp m.profile.reorder_buffer m.flow names d (get_or m.tracks.items d no_track)) (idle_names m now shows idle) (ok.cores d lt-d) in
-              rw (get_or-set_other m.tracks.items c d u no_track other) (left_core (start (arc_value m.origins.c0) d) m.stamp (m.stamp + 1) m.profile.reorder_buffer m.flow m.flow [] d (get_or m.tracks.items d no_track) before (record { lane = refl; waits = refl }) (omega arith))
+              rw (get_or-set_other m.tracks.items c d u no_track other) (left_core (start (arc_value m.origins.c0) d) m.stamp (m.stamp + number) m.profile.reorder_buffer m.flow m.flow [] d (get_or m.tracks.items d no_track) before (record { lane = refl; waits = refl }) (omega arith))
 
   -- and what it shows
-  pub shown_fetched : (m : Inside A) (now : Machine) (c k : ℕ) (u : Track) (x : Context) (room : ℕ) → machine_of m ≡ now → k ≡ c → u.context ≡ x → room ≡ m.fetch_room - 1
+  pub shown_fetched : (m : Inside A) (now : Machine) (c k number : ℕ) (u : Track) (room : ℕ) → machine_of m ≡ now → k ≡ c
       → (let v : Machine = record {
         origin = arc_value m.origins.c0;
-        view = record { profile = m.profile; cycle = m.cycle; stamp = m.stamp + 1; contexts = map (λ (t : Track). t.context) (set m.tracks.items k u) };
+        view = record { profile = m.profile; cycle = m.cycle; stamp = m.stamp + number; contexts = map (λ (t : Track). t.context) (set m.tracks.items k u) };
         names = m.selected;
         fetch_room = room;
-      } in v) ≡ with_fetched now c x
-  shown_fetched m now c k u x room shows same context rooms = rw (same, map-set (λ (t : Track). t.context) m.tracks.items c u, context, rooms, ← shows) refl
+      } in v) ≡ with_block now c u.context number room
+  shown_fetched m now c k number u room shows same = rw (same, map-set (λ (t : Track). t.context) m.tracks.items c u, ← shows) refl
 
   -- each context is live, as it is shown
   pub all_live : (m : Inside A) (now : Machine) → machine_of m ≡ now → IsMachine m → (c : ℕ) → c < 8 → IsLive (start now.origin c) now.view.stamp (context_at now c)

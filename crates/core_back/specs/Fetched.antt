@@ -1,16 +1,18 @@
 -- How entries are renamed and fetched.
-use Rattle.std.specs.Prelude.{◌≡◌, ℕ, ◌<◌, Bool, true, length}
+use Rattle.std.specs.Prelude.{◌≡◌, ℕ, ◌+◌, ◌<◌, Bool, List, [], ◌++◌, length, map, slice_set}
+use Rattle.std.specs.List.{range_with_len}
 use Rattle.rv64_decode.specs.declared.insn.Insn.{Insn}
+use Rattle.hart_step.specs.State.{State}
 use Rattle.core_view.specs.declared.entry.Stage.TheVariants.{Fetched}
-use Rattle.core_view.specs.declared.status.Status.TheVariants.{Running}
-use Rattle.core_view.specs.Operations.{operation_at}
-use Rattle.core_view.specs.Flight.{pc_past, is_open}
-use Rattle.core_view.specs.View.{entry_at}
-use Rattle.core_view.specs.Events.{rename_event, fetch_event, fetched_entry}
+use Rattle.core_view.specs.declared.note.EntryId.{EntryId}
+use Rattle.core_view.specs.View.{Context, entry_at}
+use Rattle.core_view.specs.Events.{rename_event}
 use Rattle.lawful_cycle.specs.Rename.{CanRename}
-use Rattle.lawful_cycle.specs.Fetch.{IsFollowedBy, ends_block, is_eligible}
-use Rattle.core_back.specs.Machine.{Machine, context_at, with_context, with_fetched}
-use Rattle.core_back.specs.declared.fetching.Fetch.{Fetch}
+use Rattle.lawful_cycle.specs.Fetch.{IsBlock, TakesInTurn}
+use Rattle.data_flow.specs.Flow.{Flow}
+use Rattle.core_context.specs.Track.{Track}
+use Rattle.core_context.specs.Cores.{IsCore}
+use Rattle.core_back.specs.Machine.{Machine, context_at, with_context}
 
 -- the oldest fetched entry of a context, which could be, was renamed
 pub record IsRenamed (old new : Machine) (c stamp : ℕ) : Type 0 where
@@ -21,15 +23,27 @@ pub record IsRenamed (old new : Machine) (c stamp : ℕ) : Type 0 where
   pub can : CanRename old.view c (entry_at (context_at old c) place)
   pub after : new ≡ with_context old c (rename_event old.view.cycle (context_at old c) place)
 
--- one more entry of a context was fetched
-pub record IsFetched (may_answer : ℕ → ℕ → Insn → ℕ → Bool) (old new : Machine) (c : ℕ) (f : Fetch) : Type 0 where
-  pub followed : ℕ
-  pub running : (context_at old c).status ≡ Running
-  pub open_ : is_open (context_at old c).flight ≡ true
-  pub follows : let x = context_at old c in let pc = pc_past x.state.pc x.flight in IsFollowedBy (may_answer c pc) (operation_at x.state.memory pc) pc followed
-  pub stamp_is : f.stamp ≡ old.view.stamp
-  pub next_is : f.next ≡ followed
-  pub eligible : is_eligible (context_at old c) ≡ true
-  -- whether the block ends after it
-  pub ends : let x = context_at old c in let pc = pc_past x.state.pc x.flight in f.ends ≡ ends_block (fetched_entry old.view.stamp old.view.cycle pc (operation_at x.state.memory pc) followed)
-  pub after : new ≡ with_fetched old c (fetch_event old.view.stamp old.view.cycle followed (context_at old c))
+-- ---- fetch
+
+-- the entries of a context with these stamps
+abbrev pub ids_of : ℕ → List ℕ → List EntryId
+ids_of c stamps = map (λ k. record { context = c; stamp = k }) stamps
+
+-- one context is another, so many stamps are given out, and so many more entries may be fetched in this cycle
+abbrev pub with_block : Machine → ℕ → Context → ℕ → ℕ → Machine
+with_block m c x number room = record m { view = record m.view { stamp = m.view.stamp + number; contexts = slice_set m.view.contexts c x }; fetch_room = room }
+
+-- a context fetched so many entries, with stamps from one on, and its track stands for what it stood for, before the next stamp
+pub record IsBlockBy (guesses : ℕ → Insn → ℕ → Bool) (cycle stamp c number : ℕ) (t u : Track) : Type 0 where
+  pub block : IsBlock guesses cycle (range_with_len stamp number) t.context u.context
+  pub kept : (start : State) (reorder : ℕ) (f : Flow) → IsCore start stamp reorder f [] c t → IsCore start (stamp + number) reorder f [] c u
+  pub loads : u.load_places ≡ t.load_places
+  pub stores : u.store_places ≡ t.store_places
+
+-- a context fetched a block, as long as its turn has it; it is listed after what the picks before it fetched
+pub record IsPickTurn (guesses : ℕ → ℕ → Insn → ℕ → Bool) (old new : Machine) (c num2 : ℕ) (before after : List EntryId) : Type 0 where
+  pub number : ℕ
+  pub is : new ≡ with_block old c (context_at new c) number new.fetch_room
+  pub block : IsBlock (guesses c) old.view.cycle (range_with_len old.view.stamp number) (context_at old c) (context_at new c)
+  pub takes : TakesInTurn num2 (context_at old c) (context_at new c) (length before) number
+  pub listed : after ≡ before ++ ids_of c (range_with_len old.view.stamp number)

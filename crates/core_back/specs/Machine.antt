@@ -49,10 +49,6 @@ with_contexts m xs = record m { view = record m.view { contexts = xs } }
 abbrev pub completed_context : ℕ → Context → Context
 completed_context cycle x = with_flight x (completed_at cycle x.flight)
 
--- the same, and an entry was fetched
-abbrev pub with_fetched : Machine → ℕ → Context → Machine
-with_fetched m c x = record m { view = record m.view { stamp = m.view.stamp + 1; contexts = slice_set m.view.contexts c x }; fetch_room = m.fetch_room - 1 }
-
 -- the next cycle begins
 abbrev pub with_cycle : Machine → Machine
 with_cycle m = record m { view = record m.view { cycle = m.view.cycle + 1 }; fetch_room = 8 }

@@ -10,7 +10,6 @@ mod retiring;
 mod selection;
 
 pub use completing::{Completion, complete};
-pub use fetching::Fetch;
 pub use issuing::issue;
 pub use machine::Machine;
 pub use retiring::retire;

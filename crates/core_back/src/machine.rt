@@ -1,13 +1,14 @@
 //! Eight contexts, and the data flow that they share.
 
 ghost use Rattle.std.specs.Prelude.{◌≡◌, ℕ, ◌+◌, ◌-◌, ◌<◌, ◌≤◌, ◌^◌, ◌&&◌, ◌==◌, false, not, length, count_by, slice_get, slice_index, slice_index_or, [], IfOk, IfSome, MatchOption, Some, None, true, is_some};
+ghost use Rattle.arrayvec.specs.ArrayVec.{array_vec_len};
 ghost use Rattle.core_view.specs.declared.outcome.Outcome.TheVariants.{Stops};
 ghost use Rattle.core_view.specs.Events.{retire_event, stop_event, complete_event};
 ghost use Rattle.core_view.specs.Operations.{is_guessed};
 ghost use Rattle.core_view.specs.View.{entry_at, IsLive, IsSoundView};
 ghost use Rattle.lawful_cycle.specs.Rename.{CanRename};
-ghost use Rattle.core_view.specs.Flight.{is_queued, is_missed_load, pc_past};
-ghost use Rattle.lawful_cycle.specs.Fetch.{is_fetched, is_eligible, front_room, oldest_place};
+ghost use Rattle.core_view.specs.Flight.{is_queued, is_missed_load};
+ghost use Rattle.lawful_cycle.specs.Fetch.{is_fetched, is_eligible, oldest_place};
 ghost use Rattle.origin_set.specs.Start.{start};
 ghost use Rattle.core_back.specs.Machine.{IsAlike, context_at, in_flight, with_context, with_cycle, no_track, IsNextOf};
 ghost use Rattle.flight.specs.Flights.{execution_of, IsIssued as IsIssuedStage, is_due, NoneFrom, IsNext};
@@ -15,19 +16,19 @@ ghost use Rattle.core_context.specs.Heads.{IsGoing, first_done, step_on};
 ghost use Rattle.core_context.specs.Issuable.{HoldsNone};
 ghost use Rattle.core_back.specs.Selected.{IsChosen};
 ghost use Rattle.core_back.specs.Issued.{IsIssued};
-ghost use Rattle.core_back.specs.Fetched.{IsRenamed, IsFetched};
+ghost use Rattle.core_back.specs.Fetched.{IsRenamed, IsPickTurn};
 ghost use Rattle.core_back.specs.Renamable.{IsPastFront, IsPastFrontStamp};
 ghost use Rattle.core_back.specs.First.{IsFirst, IsTarget, AreMarksAt};
 ghost use Rattle.checkpoint.specs.Aligned.{IsAligned};
 ghost use Rattle.join_law.specs.Eight.{place_of};
 
-use crate::fetching::Fetch;
+use crate::fetching::fetch_block;
 use crate::first::{first_flow, first_tracks, marks_of, origins_of};
 use crate::selection::Selection;
 use arrayvec::ArrayVec;
 use branch_predict::Guess;
 use checkpoint::Mark;
-use core_context::{Track, events, fetch};
+use core_context::{Track, events};
 use core_profile::Profile;
 use core_view::{Entry, EntryId, Issue, Outcome, Status};
 use data_flow::DataFlow;
@@ -144,13 +145,6 @@ impl<A: Allocator> Machine<A> {
         ensures { result ≡ self.now.view.profile }
     {
         self.profile
-    }
-
-    /// How many more entries may be fetched in this cycle.
-    pub fn fetch_room(&self) -> u8
-        ensures { result ≡ self.now.fetch_room }
-    {
-        self.fetch_room
     }
 
     /// The registers of a context after what it retired.
@@ -463,46 +457,31 @@ impl<A: Allocator> Machine<A> {
         track.has_front_room()
     }
 
-    /// How many more entries a context's front list has room for.
-    pub fn front_room(&self, context: Ctx) -> usize
-        ensures { result ≡ front_room (context_at self.now context) }
-    {
-        let track = &self.tracks[context.index()];
-        track.front_room()
-    }
-
-    /// The pc at which fetch goes on in a context.
-    pub fn fetch_pc(&self, context: Ctx) -> u64
-        ensures { let x = context_at self.now context in result ≡ pc_past x.state.pc x.flight }
-    {
-        let track = &self.tracks[context.index()];
-        track.fetch_pc()
-    }
-
-    /// One more entry of a context that may fetch is fetched, at the pc where fetch goes on, and followed where a guess
-    /// says. Returns its stamp, and where fetch goes on after it.
+    /// A context that may fetch does so in its turn, at most so many entries and up to the end of a block, at most eight of
+    /// all contexts in a cycle. What is fetched is listed in order.
     #[inline(always)]
-    pub fn fetch_at<G: Guess>(&mut self, context: Ctx, pc: u64, guess: &mut G) -> Fetch
+    pub fn fetch_block<G: Guess>(
+        &mut self,
+        context: Ctx,
+        num2: u8,
+        guess: &mut G,
+        fetched: &mut ArrayVec<EntryId, 8>,
+    )
         requires idle { self.old.names ≡ [] }
-        requires room { 0 < self.old.fetch_room }
         requires cycle { self.old.view.cycle < 2 ^ 56 }
+        requires room { self.old.fetch_room + array_vec_len fetched.old ≡ 8 }
         requires eligible { is_eligible (context_at self.old context) ≡ true }
-        requires pc { let x = context_at self.old context in pc ≡ pc_past x.state.pc x.flight }
-        ensures fetched { IsFetched (G.may_answer guess.old) self.old self.new context result }
-        ensures flights { in_flight self.new ≡ in_flight self.old + 1 }
+        ensures turn { IsPickTurn (G.may_answer guess.old) self.old self.new context num2 fetched.old.items fetched.new.items }
+        ensures room { self.new.fetch_room + array_vec_len fetched.new ≡ 8 }
         ensures idle { self.new.names ≡ [] }
         ensures keeps { G.may_answer guess.new ≡ G.may_answer guess.old }
+        ensures flights { in_flight self.new + array_vec_len fetched.old ≡ in_flight self.old + array_vec_len fetched.new }
     {
         let track = &mut self.tracks[context.index()];
-        let stamp = self.stamp;
-        let onward = fetch(track, context, pc, guess, stamp, self.cycle);
-        self.stamp += 1;
-        self.fetch_room -= 1;
-        Fetch {
-            stamp,
-            next: onward.pc,
-            ends: onward.ends,
-        }
+        let most = usize::from(num2.min(self.fetch_room)).min(track.front_room());
+        let number = fetch_block(track, context, guess, self.stamp, self.cycle, most, fetched);
+        self.stamp += number as u64;
+        self.fetch_room -= number as u8;
     }
 
     /// The next cycle begins.

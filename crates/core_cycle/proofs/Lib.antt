@@ -1,7 +1,5 @@
 pub mod FirstCycle
 pub mod Alike
-pub mod Blocks
-pub mod PickTurns
 pub mod Picked
 pub mod EightOf
 pub mod AheadCounts

@@ -1,6 +1,5 @@
 pub mod FaultText
 pub mod Faults
-pub mod Picks
 pub mod Runs
 pub mod Fronts
 pub mod Shown

@@ -1,0 +1,73 @@
+use Rattle.std.proofs.Common.{◌≡◌, ℕ, ◌+◌, ◌-◌, ◌<◌, ◌≤◌, length, refl, sym, ap, subst, ◌∙◌, arith}
+use Rattle.std.proofs.lemmas.List.{length-map, get_or-set_same}
+use Rattle.std.specs.Arc.{arc_value}
+use Rattle.origin_set.specs.Start.{start}
+use Rattle.core_view.specs.View.{Context}
+use Rattle.lawful_cycle.specs.Fetch.{IsBlock, IsEnded, TakesInTurn, front_room, is_eligible}
+use Rattle.core_context.specs.Track.{Track}
+use Rattle.core_context.proofs.Laws.{fetched_count}
+use Rattle.core_back.specs.Machine.{Machine, context_at}
+use Rattle.core_back.proofs.BlockTurns.{ids_length, pick_turn, takes_turn}
+use Rattle.core_back.proofs.InFlight.{in_flight_turn}
+use Rattle.core_back.proofs.Machines.{at_context, idle_core, machine_fetched, shown_fetched}
+use Rattle.core_back.proofs.machine.Machine.fetch_block.Goals as goal
+
+pub fetch_block-number-requires-clause-before : goal.fetch_block-number-requires-clause-before
+fetch_block-number-requires-clause-before g c =
+    let h = at_context c.self.inside c.args.self.now c.args.context c.index.result c.index_mut-track.result.now c.self.view_is c.self.invariant (omega (arith, c.index.ensures)) c.index.ensures.value c.index_mut-track.ensures.value in
+    record {
+      start = start (arc_value c.self.inside.origins.c0) c.args.context;
+      reorder = c.self.inside.profile.reorder_buffer;
+      flow = c.self.inside.flow;
+      core = idle_core c.self.inside c.args.self.now c.args.context c.index_mut-track.result.now c.self.view_is c.requires.idle h;
+    }
+
+pub fetch_block-number-requires-clause-eligible : goal.fetch_block-number-requires-clause-eligible
+fetch_block-number-requires-clause-eligible g c =
+    let h = at_context c.self.inside c.args.self.now c.args.context c.index.result c.index_mut-track.result.now c.self.view_is c.self.invariant (omega (arith, c.index.ensures)) c.index.ensures.value c.index_mut-track.ensures.value in
+    ap (λ (x : Context). is_eligible x) h.context ∙ c.requires.eligible
+
+pub fetch_block-number-requires-clause-front : goal.fetch_block-number-requires-clause-front
+fetch_block-number-requires-clause-front g c =
+    let h = at_context c.self.inside c.args.self.now c.args.context c.index.result c.index_mut-track.result.now c.self.view_is c.self.invariant (omega (arith, c.index.ensures)) c.index.ensures.value c.index_mut-track.ensures.value in
+    let t = c.index_mut-track.result.now in
+    let front = c.front_room.ensures ∙ ap (λ n. 16 - n) (sym (fetched_count t.renamed t.context.flight h.core.are_renamed h.core.are_fetched)) in
+    omega (arith, front, c.min-most.ensures)
+
+pub invariant_of-self : goal.invariant_of-self
+invariant_of-self g c =
+    let h = at_context c.self.inside c.args.self.now c.args.context c.index.result c.index_mut-track.result.now c.self.view_is c.self.invariant (omega (arith, c.index.ensures)) c.index.ensures.value c.index_mut-track.ensures.value in
+    let core = idle_core c.self.inside c.args.self.now c.args.context c.index_mut-track.result.now c.self.view_is c.requires.idle h in
+    let e = c.fetch_block-number.ensures.block in
+    machine_fetched c.self.inside _ c.args.self.now c.args.context c.index.result c.fetch_block-number.result c.fetch_block-number.new.track c.self.view_is c.self.invariant c.requires.idle (omega (arith, c.index.ensures))
+    (e.kept (start (arc_value c.self.inside.origins.c0) c.args.context) c.self.inside.profile.reorder_buffer c.self.inside.flow core)
+    (e.loads ∙ ap (λ (t : Track). t.load_places) h.track) (e.stores ∙ ap (λ (t : Track). t.store_places) h.track) c.index.ensures.value refl refl refl refl refl refl
+    (omega (arith, c.fetch_block-number.ensures.most, c.min.ensures, c.from.ensures, c.min-most.ensures)) refl refl
+
+pub returns-clause-turn : goal.returns-clause-turn
+returns-clause-turn g c =
+    let h = at_context c.self.inside c.args.self.now c.args.context c.index.result c.index_mut-track.result.now c.self.view_is c.self.invariant (omega (arith, c.index.ensures)) c.index.ensures.value c.index_mut-track.ensures.value in
+    let t = c.index_mut-track.result.now in
+    let front : c.front_room.result ≡ front_room t.context = c.front_room.ensures ∙ ap (λ n. 16 - n) (sym (fetched_count t.renamed t.context.flight h.core.are_renamed h.core.are_fetched)) in
+    let room = ap (λ (v : Machine). v.fetch_room) c.self.view_is in
+    let contexts = ap (λ (v : Machine). length v.view.contexts) c.self.view_is in
+    pick_turn (g.G.Guess.may_answer c.args.guess.now) c.args.self.now _ c.args.context c.args.num2 c.fetch_block-number.result c.self.inside.cycle c.self.inside.stamp t.context c.fetch_block-number.new.track.context c.args.fetched.now.items c.fetch_block-number.new.fetched.items
+    (shown_fetched c.self.inside c.args.self.now c.args.context c.index.result c.fetch_block-number.result c.fetch_block-number.new.track (c.self.inside.fetch_room - c.fetch_block-number.result) c.self.view_is c.index.ensures.value)
+    (omega (arith, h.in_tracks, contexts, length-map c.self.inside.tracks.items (λ (t : Track). t.context)))
+    h.context (ap (λ (v : Machine). v.view.cycle) c.self.view_is) (ap (λ (v : Machine). v.view.stamp) c.self.view_is) c.fetch_block-number.ensures.block.block
+    (takes_turn t.context c.fetch_block-number.new.track.context c.args.num2 c.self.inside.fetch_room c.front_room.result (length c.args.fetched.now.items) c.min-most.result c.fetch_block-number.result front
+    (omega (arith, room, c.requires.room)) (omega (arith, c.min.ensures, c.from.ensures, c.min-most.ensures)) c.fetch_block-number.ensures.most c.fetch_block-number.ensures.fewer)
+    c.fetch_block-number.ensures.listed
+
+pub returns-clause-room : goal.returns-clause-room
+returns-clause-room g c =
+    let room = ap (λ (v : Machine). v.fetch_room) c.self.view_is in
+    let long = ids_length c.args.fetched.now.items c.fetch_block-number.new.fetched.items c.self.inside.stamp c.args.context c.fetch_block-number.result c.fetch_block-number.ensures.listed in
+    omega (arith, room, long, c.requires.room, c.fetch_block-number.ensures.most, c.min.ensures, c.from.ensures, c.min-most.ensures)
+
+pub returns-clause-flights : goal.returns-clause-flights
+returns-clause-flights g c =
+    let h = at_context c.self.inside c.args.self.now c.args.context c.index.result c.index_mut-track.result.now c.self.view_is c.self.invariant (omega (arith, c.index.ensures)) c.index.ensures.value c.index_mut-track.ensures.value in
+    let contexts = ap (λ (v : Machine). length v.view.contexts) c.self.view_is in
+    in_flight_turn c.args.self.now _ c.args.context c.args.num2 c.args.fetched.now.items c.fetch_block-number.new.fetched.items (returns-clause-turn g c)
+    (omega (arith, h.in_tracks, contexts, length-map c.self.inside.tracks.items (λ (t : Track). t.context)))
