@@ -1,7 +1,7 @@
 -- How many entries are in flight after an event of one context.
 use Rattle.std.proofs.Common.{◌≡◌, ℕ, zero, suc, ◌+◌, ◌<◌, ◌≤◌, Bool, true, false, List, [], ◌∷◌, length, get_or, refl, sym, ap, subst, ◌∙◌, arith}
 use Rattle.std.specs.Prelude.{◌==◌, set, sum_by}
-use Rattle.std.proofs.lemmas.List.{length-drop, length-map, length-set, length_push}
+use Rattle.std.proofs.lemmas.List.{length-drop, length-map, length-set}
 use Rattle.std.proofs.lemmas.List.Sums.{sum_by-cons, sum_by-set}
 use Rattle.std.proofs.lemmas.List.FromFn.{length-range_with_len}
 use Rattle.core_view.specs.declared.outcome.Step.{Step}

@@ -1,5 +1,5 @@
 -- What the parts of a core show together.
-use Rattle.std.specs.Prelude.{◌≡◌, ℕ, ◌+◌, ◌-◌, ◌<◌, List, [], length, sum_by, get_or, slice_get, option_and_then, slice_set, Option}
+use Rattle.std.specs.Prelude.{◌≡◌, ℕ, ◌+◌, ◌<◌, List, [], length, sum_by, get_or, slice_get, option_and_then, slice_set, Option}
 use Rattle.hart_step.specs.declared.environment.Environment.TheVariants.{One}
 use Rattle.hart_step.specs.State.{State}
 use Rattle.hart_step.specs.Next.{next}

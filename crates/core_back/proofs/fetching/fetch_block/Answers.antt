@@ -1,5 +1,4 @@
-use Rattle.std.proofs.Common.{◌≡◌, ◌+◌, ◌<◌, refl, sym, ap, subst, ◌∙◌, arith}
-use Rattle.core_context.specs.Left.{KeepsCores}
+use Rattle.std.proofs.Common.{◌≡◌, ◌+◌, refl, subst, ◌∙◌, arith}
 use Rattle.core_context.specs.NextEntry.{IsFetchedBy}
 use Rattle.core_back.specs.Fetched.{IsBlockBy}
 use Rattle.core_back.proofs.Blocks.{block_open}

@@ -1,12 +1,12 @@
-use Rattle.std.proofs.Common.{◌≡◌, ℕ, ◌+◌, ◌-◌, ◌<◌, ◌≤◌, length, refl, sym, ap, subst, ◌∙◌, arith}
-use Rattle.std.proofs.lemmas.List.{length-map, get_or-set_same}
+use Rattle.std.proofs.Common.{◌≡◌, ◌-◌, length, refl, sym, ap, ◌∙◌, arith}
+use Rattle.std.proofs.lemmas.List.{length-map}
 use Rattle.std.specs.Arc.{arc_value}
 use Rattle.origin_set.specs.Start.{start}
 use Rattle.core_view.specs.View.{Context}
-use Rattle.lawful_cycle.specs.Fetch.{IsBlock, IsEnded, TakesInTurn, front_room, is_eligible}
+use Rattle.lawful_cycle.specs.Fetch.{front_room, is_eligible}
 use Rattle.core_context.specs.Track.{Track}
 use Rattle.core_context.proofs.Laws.{fetched_count}
-use Rattle.core_back.specs.Machine.{Machine, context_at}
+use Rattle.core_back.specs.Machine.{Machine}
 use Rattle.core_back.proofs.BlockTurns.{ids_length, pick_turn, takes_turn}
 use Rattle.core_back.proofs.InFlight.{in_flight_turn}
 use Rattle.core_back.proofs.Machines.{at_context, idle_core, machine_fetched, shown_fetched}
