@@ -244,8 +244,8 @@ fn rename_oldest<A: Allocator>(
 {
     let entry = track.entry_at(track.renamed_count());
     let marks = queue_marks(&entry, track.has_uncompleted_guess());
-    flow.rename(context, operands(&entry), marks);
     track.rename(cycle);
+    flow.rename(context, operands(&entry), marks);
 }
 
 /// The registers that an entry names.
