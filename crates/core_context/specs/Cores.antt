@@ -1,16 +1,15 @@
 -- How the parts of a core stand for its contexts.
-use Rattle.std.specs.Prelude.{◌≡◌, ℕ, ◌+◌, ◌≤◌, Bool, true, not, ◌&&◌, ◌==◌, if◌then◌else◌, List, [], ◌∷◌, length, map, filter, take, drop, Option, None, Some}
+use Rattle.std.specs.Prelude.{◌≡◌, ℕ, ◌+◌, ◌≤◌, Bool, true, not, ◌&&◌, ◌==◌, if◌then◌else◌, List, [], ◌∷◌, length, map, filter, take, drop, None}
 use Rattle.std.specs.List.{list_any}
 use Rattle.hart_step.specs.State.{State}
 use Rattle.core_view.specs.declared.entry.Stage.TheVariants.{Fetched}
 use Rattle.core_view.specs.declared.entry.Entry.{Entry}
-use Rattle.core_view.specs.Operations.{destination_of, first_source_of, second_source_of, stops_at_fetch, is_guessed}
+use Rattle.core_view.specs.Operations.{destination_of, first_source_of, second_source_of}
 use Rattle.core_view.specs.Flight.{result_of, is_queued}
 use Rattle.core_view.specs.Queues.{AllRenamed}
 use Rattle.core_view.specs.View.{IsLive}
 use Rattle.core_view.specs.declared.note.EntryId.{EntryId}
 use Rattle.data_flow.specs.declared.operands.Operands.{Operands}
-use Rattle.data_flow.specs.declared.operands.QueueMarks.{QueueMarks}
 use Rattle.data_flow.specs.Flow.{Node, Waiter, Flow, lane}
 use Rattle.core_context.specs.Track.{Track}
 use Rattle.core_context.specs.Queued.{queued_at, waiting_of, waiter_for}
@@ -20,10 +19,6 @@ use Rattle.core_context.specs.Queued.{queued_at, waiting_of, waiter_for}
 -- the registers that an entry names
 abbrev pub operands_of : Entry → Operands
 operands_of e = record { stamp = e.stamp; destination = destination_of e.operation; first = first_source_of e.operation; second = second_source_of e.operation }
-
--- how an entry waits for issue, unless it stops at fetch
-abbrev pub queue_marks_of : Entry → Bool → Option QueueMarks
-queue_marks_of e speculative = if stops_at_fetch e.operation then None else Some (record { guessed = is_guessed e.operation; speculative = speculative })
 
 -- an entry as an instruction of the data flow
 abbrev pub node_of_entry : Entry → Node

@@ -12,7 +12,7 @@ ghost use Rattle.core_view.specs.Queues.{loads_of, stores_of};
 ghost use Rattle.core_view.specs.View.{entry_at};
 ghost use Rattle.core_context.specs.Issuable.{IsAnswered, IsMarked, AreLetGo, must_wait, AreHeld, HoldsNone};
 ghost use Rattle.core_context.specs.Track.{is_last, retired, stopped, completed, renamed_one};
-ghost use Rattle.core_context.specs.Cores.{operands_of, queue_marks_of, AllFetched};
+ghost use Rattle.core_context.specs.Cores.{operands_of, AllFetched};
 ghost use Rattle.core_context.specs.Heads.{IsGoing, first_done, step_on};
 ghost use Rattle.flight.specs.Flights.{execution_of, is_due, IsIssued, IsNext};
 ghost use Rattle.core_context.specs.Left.{IsIdleCore, IsEventAt};
@@ -22,7 +22,7 @@ ghost use Rattle.core_context.specs.Steps.{retired_flow, settled_flow, completed
 use crate::track::Track;
 use core_profile::Profile;
 use core_view::Entry;
-use data_flow::{DataFlow, Operands, QueueMarks};
+use data_flow::{DataFlow, Operands};
 use hart_step::Stop;
 use join_law::Ctx;
 use std::alloc::Allocator;
@@ -243,9 +243,12 @@ fn rename_oldest<A: Allocator>(
     ensures flow { flow.new ≡ renamed_flow flow.old context (entry_at track.old.context track.old.renamed) (list_any is_open_guess_entry (take track.old.renamed track.old.context.flight)) }
 {
     let entry = track.entry_at(track.renamed_count());
-    let marks = queue_marks(&entry, track.has_uncompleted_guess());
+    let speculative = track.has_uncompleted_guess();
     track.rename(cycle);
-    flow.rename(context, operands(&entry), marks);
+    flow.rename(context, operands(&entry));
+    if !entry.operation.stops_at_fetch() {
+        flow.wait(context, entry.operation.is_guessed(), speculative);
+    }
 }
 
 /// The registers that an entry names.
@@ -258,19 +261,6 @@ fn operands(entry: &Entry) -> Operands
         first: entry.operation.first_source(),
         second: entry.operation.second_source(),
     }
-}
-
-/// How an entry waits for issue, unless it stops at fetch.
-fn queue_marks(entry: &Entry, speculative: bool) -> Option<QueueMarks>
-    ensures { result ≡ queue_marks_of entry.now speculative }
-{
-    if entry.operation.stops_at_fetch() {
-        return None;
-    }
-    Some(QueueMarks {
-        guessed: entry.operation.is_guessed(),
-        speculative,
-    })
 }
 
 /// Tells the queue of the entries that are behind no guessed entry any more: those up to the oldest guessed entry that

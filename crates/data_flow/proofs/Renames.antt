@@ -1,5 +1,5 @@
 -- One more instruction, from the fields before it to the fields after it.
-use Rattle.std.proofs.Common.{◌≡◌, ℕ, zero, suc, ◌-◌, ◌<◌, Bool, true, false, List, [], ◌∷◌, ◌++◌, length, get_or, slice_get, Option, Some, None, refl, sym, ap, subst, ◌∙◌, arith}
+use Rattle.std.proofs.Common.{◌≡◌, ℕ, ◌-◌, ◌<◌, Bool, true, false, List, [], ◌∷◌, ◌++◌, length, get_or, slice_get, Option, Some, None, refl, sym, ap, subst, ◌∙◌, arith}
 use Rattle.std.specs.Prelude.{set, sum_by, All, ◌==◌, if◌then◌else◌, OnOk, IsOk, ◌↔◌, Result, Ok, Err}
 use Rattle.std.proofs.lemmas.Bool.Decides.{nat_tests}
 use Rattle.std.proofs.lemmas.List.{length-set, get_or-set_same}
@@ -143,8 +143,3 @@ rename_leaves d now c k found left n r shows up h new left-is growing banks cell
       waiting = waiting;
       shows = one_changes d now c l r (set d.renamed.items c pushed) d.queue shows (rw banks lanes) m.len refl refl;
     })
-
--- as many registers as before
-pub named_length : (old new : File) (rd p : ℕ) → CellsWith old new rd p → length new.cells ≡ length old.cells
-named_length old new zero p step = ap (λ (xs : List (Option ℕ)). length xs) (step.none refl).0
-named_length old new (suc rd) p step = ap (λ (xs : List (Option ℕ)). length xs) (step.named (omega arith)).0 ∙ length-set old.cells p None

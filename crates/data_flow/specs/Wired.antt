@@ -1,15 +1,12 @@
 -- How physical registers stand for values.
-use Rattle.std.specs.Prelude.{◌≡◌, ℕ, ◌-◌, ◌<◌, List, [], ◌∷◌, ◌++◌, length, map, get_or, slice_index, All, Option, None, Some, is_some, unwrap_or, ◌==◌, if◌then◌else◌}
+use Rattle.std.specs.Prelude.{◌≡◌, ℕ, ◌-◌, ◌<◌, List, [], ◌∷◌, ◌++◌, length, map, get_or, slice_index, All, Option, None, is_some, unwrap_or, ◌==◌, if◌then◌else◌}
 use Rattle.rename_file.specs.declared.rename_map.Rename.{Rename}
 use Rattle.rename_file.specs.File.{Bank, IsFile}
 use Rattle.reorder_buffer.specs.Growing.{IsGrowing}
-use Rattle.circular_buffer.specs.Buffer.{Buffer, buffer}
+use Rattle.circular_buffer.specs.Buffer.{Buffer}
 use Rattle.issue_queue.specs.Entry.{Entry}
-use Rattle.issue_queue.specs.IssueQueue.{IssueQueue}
-use Rattle.issue_queue.specs.Views.{entry_of}
 use Rattle.hart_step.specs.State.{written}
 use Rattle.data_flow.specs.declared.operands.Renamed.{Renamed}
-use Rattle.data_flow.specs.declared.operands.QueueMarks.{QueueMarks}
 use Rattle.data_flow.specs.declared.data_flow.DataFlow.TheInside.{Inside}
 use Rattle.data_flow.specs.Flow.{Node, Lane, Waiter, Flow}
 
@@ -72,21 +69,12 @@ AreTied cells (b ∷ bs) (n ∷ ns) = IsTied cells b n × AreTied cells bs ns
 abbrev pub no_buffer : Buffer Renamed
 no_buffer = record { items = []; capacity = 0 }
 
--- one more instruction
-abbrev pub with_pushed : Buffer Renamed → Renamed → Buffer Renamed
-with_pushed b n = buffer (b.items ++ n ∷ []) b.capacity
-
 abbrev pub no_renamed : Renamed
 no_renamed = record { operands = record { stamp = 0; destination = 0; first = 0; second = 0 }; destination = 0; first = 0; second = 0 }
 
 -- a register has no value yet
 abbrev pub unready : List (Option ℕ) → ℕ → List ℕ
 unready cells p = if is_some (cell_of cells p) then [] else p ∷ []
-
--- an instruction of a context enters a queue, where it is told how, for those of its sources that have no value
-abbrev pub entered : IssueQueue → ℕ → ℕ → List (Option ℕ) → Option QueueMarks → IssueQueue
-entered q c k sources None = q
-entered q c k sources (Some m) = record q { entries = q.entries ++ entry_of (record { context = c; stamp = k; guessed = m.guessed; speculative = m.speculative; sources = sources }) ∷ [] }
 
 -- an entry of the queue waits for those registers of its instruction that have no value yet
 pub record IsWaiting (cells : List (Option ℕ)) (buffers : List (Buffer Renamed)) (e : Entry) : Type 0 where

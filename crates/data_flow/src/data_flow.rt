@@ -1,20 +1,17 @@
 //! The data flow of eight contexts: registers, renaming, and the queue of what waits for its sources.
 
-ghost use Rattle.std.specs.Prelude.{◌≡◌, ℕ, ◌+◌, ◌-◌, ◌<◌, ◌≤◌, ◌↔◌, [], false, length, map, option_map, All, IfOk, OnErr, IsOk, IsSome, IsTrue, get_or, Err, slice_set, count_by, ◌==◌, ◌&&◌};
-ghost use Rattle.std.specs.Option.{option_to_list, ForSome};
-ghost use Rattle.reorder_buffer.specs.Growing.{IsGrowing};
+ghost use Rattle.std.specs.Prelude.{◌≡◌, ℕ, ◌+◌, ◌-◌, ◌<◌, ◌≤◌, ◌↔◌, [], ◌∷◌, ◌++◌, false, length, map, option_map, All, IfOk, OnErr, IsOk, IsSome, IsTrue, Err, slice_set, count_by, ◌==◌, ◌&&◌};
+ghost use Rattle.std.specs.Option.{option_to_list};
 ghost use Rattle.circular_buffer.specs.Buffer.{last_item};
-ghost use Rattle.std.specs.List.{list_any};
-ghost use Rattle.issue_queue.specs.Entry.{is_named};
 ghost use Rattle.issue_queue.specs.Views.{view_of};
 ghost use Rattle.issue_queue.specs.IsSelected.{IsSelected};
 ghost use Rattle.issue_queue.specs.Stamps.{place_of_oldest};
 ghost use Rattle.rename_file.specs.File.{IsFile, bank};
 ghost use Rattle.data_flow.specs.Banks.{bank_with, CellsWith};
-ghost use Rattle.data_flow.specs.Wired.{unready, entered, no_buffer, with_pushed};
-ghost use Rattle.data_flow.specs.Flow.{lane, node_at, sources_at, with_lane, with_register, with_node, with_waiter, with_result, without_oldest, cut_from, without_newest, is_waiter_from, cut_flow, takes, taken, waits_in, with_speculative, with_held, released, queued, first_flow};
+ghost use Rattle.data_flow.specs.Wired.{unready};
+ghost use Rattle.data_flow.specs.Flow.{lane, node_at, sources_at, with_lane, with_register, with_node, with_result, without_oldest, cut_from, without_newest, is_waiter_from, cut_flow, takes, taken, waits_in, with_speculative, with_held, released, queued, first_flow};
 
-use crate::operands::{Operands, QueueMarks, Renamed};
+use crate::operands::{Operands, Renamed};
 use arrayvec::ArrayVec;
 use core_view::EntryId;
 use issue_queue::{Order, Queue, Waiting};
@@ -101,35 +98,56 @@ impl<A: Allocator> DataFlow<A> {
         Some((first, second))
     }
 
-    /// One more instruction of a context, the youngest. It waits for issue where it is told how.
-    pub fn rename(&mut self, context: Ctx, operands: Operands, marks: Option<QueueMarks>)
+    /// One more instruction of a context, the youngest.
+    pub fn rename(&mut self, context: Ctx, operands: Operands)
         requires younger { All (λ n. n.operands.stamp < operands.stamp) (lane self.old context).nodes }
         requires room { length (lane self.old context).nodes < (lane self.old context).room }
         requires free { 0 < operands.destination → taken self.old < self.old.extra }
-        requires fresh { IsSome marks → waits_in self.old context operands.stamp ≡ false }
-        requires place { IsSome marks → length self.old.waiters < self.old.places }
-        ensures { self.new ≡ with_waiter (with_lane self.old context (with_node (lane self.old context) operands)) context operands.stamp marks }
+        ensures { self.new ≡ with_lane self.old context (with_node (lane self.old context) operands) }
     {
-        // A context's number is below 8.
-        let _number = context.index();
         let first = self.registers.source(context, operands.first.index());
         let second = self.registers.source(context, operands.second.index());
         let destination = rename_in(&mut self.registers, context, operands.destination);
-        let sources = [
-            awaited(&self.registers, first),
-            awaited(&self.registers, second),
-        ];
-        enter(&mut self.queue, context, operands.stamp, sources, marks);
-        push_in(
-            &mut self.renamed,
+        let ring = &mut self.renamed[context.index()];
+        let Ok(()) = ring.push(Renamed {
+            operands,
+            destination,
+            first,
+            second,
+        }) else {
+            unreachable!();
+        };
+    }
+
+    /// The youngest instruction of a context waits for issue.
+    pub fn wait(&mut self, context: Ctx, guessed: bool, speculative: bool)
+        requires some { 0 < length (lane self.old context).nodes }
+        requires fresh { waits_in self.old context (node_at (lane self.old context) (length (lane self.old context).nodes - 1)).operands.stamp ≡ false }
+        requires room { length self.old.waiters < self.old.places }
+        ensures { self.new ≡ record self.old {
+          waiters = self.old.waiters ++ record {
+            stamp = (node_at (lane self.old context) (length (lane self.old context).nodes - 1)).operands.stamp;
+            context = context;
+            guessed = guessed;
+            speculative = speculative;
+            held = false;
+          } ∷ [];
+        } }
+    {
+        let ring = &self.renamed[context.index()];
+        let newest = *ring.last().unwrap();
+        let first = awaited(&self.registers, newest.first);
+        let second = awaited(&self.registers, newest.second);
+        let Ok(()) = self.queue.put(Waiting {
             context,
-            Renamed {
-                operands,
-                destination,
-                first,
-                second,
-            },
-        );
+            stamp: newest.operands.stamp,
+            guessed,
+            speculative,
+            sources: [first, second],
+        })
+        else {
+            unreachable!();
+        };
     }
 
     /// The instruction at a place has its result.
@@ -290,47 +308,6 @@ fn rename_in<A: Allocator>(
         unreachable!();
     };
     register
-}
-
-/// One more instruction of a context.
-fn push_in<A: Allocator>(rings: &mut Vec<Ring<Renamed, A>, A>, context: Ctx, renamed: Renamed)
-    requires eight { length rings.old.items ≡ 8 }
-    requires younger { ForSome (last_item (get_or rings.old.items context no_buffer).items) (λ n. n.operands.stamp < renamed.operands.stamp) }
-    requires room { length (get_or rings.old.items context no_buffer).items < (get_or rings.old.items context no_buffer).capacity }
-    ensures pushed { rings.new.items ≡ slice_set rings.old.items context (with_pushed (get_or rings.old.items context no_buffer) renamed) }
-    ensures growing { IsGrowing (λ n. n.operands.stamp) (with_pushed (get_or rings.old.items context no_buffer) renamed).items }
-{
-    let ring = &mut rings[context.index()];
-    let Ok(()) = ring.push(renamed) else {
-        unreachable!();
-    };
-}
-
-/// The instruction of a context and stamp waits for issue, and there for its sources that have no value yet, where it is
-/// told how.
-fn enter(
-    queue: &mut Queue,
-    context: Ctx,
-    stamp: u64,
-    sources: [Option<PhysicalRegister>; 2],
-    marks: Option<QueueMarks>,
-)
-    requires fresh { IsSome marks → list_any (is_named context stamp) queue.old.entries ≡ false }
-    requires place { IsSome marks → length queue.old.entries < queue.old.capacity }
-    ensures { queue.new ≡ entered queue.old context stamp sources marks }
-{
-    let Some(marks) = marks else {
-        return;
-    };
-    let Ok(()) = queue.put(Waiting {
-        context,
-        stamp,
-        guessed: marks.guessed,
-        speculative: marks.speculative,
-        sources,
-    }) else {
-        unreachable!();
-    };
 }
 
 /// A register, where it has no value yet.

@@ -5,4 +5,4 @@ mod data_flow;
 mod operands;
 
 pub use data_flow::DataFlow;
-pub use operands::{Operands, QueueMarks};
+pub use operands::Operands;

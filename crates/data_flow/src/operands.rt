@@ -19,15 +19,6 @@ pub struct Operands {
     pub second: Register,
 }
 
-/// How an instruction waits for issue.
-#[derive(Clone, Copy, Debug, PartialEq, Eq)]
-pub struct QueueMarks {
-    /// Whether it is a conditional branch or a JALR.
-    pub guessed: bool,
-    /// Whether an older guessed instruction of its context has not completed.
-    pub speculative: bool,
-}
-
 /// An instruction with the physical registers that these stand for.
 #[derive(Clone, Copy, Debug, PartialEq, Eq)]
 pub(crate) struct Renamed {

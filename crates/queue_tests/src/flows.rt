@@ -1,9 +1,9 @@
 //! A worked flow.
-ghost use Rattle.std.specs.Prelude.{◌≡◌, ◌<◌, false, IfOk, IsSome, length};
+ghost use Rattle.std.specs.Prelude.{◌≡◌, ◌<◌, IfOk, IsSome, length};
 ghost use Rattle.data_flow.specs.Flow.{lane, node_at, with_lane, without_oldest};
 ghost use Rattle.queue_tests.specs.Worked.{named, with_x1, of_three, finished};
 
-use data_flow::{DataFlow, Operands, QueueMarks};
+use data_flow::{DataFlow, Operands};
 use issue_queue::{OldestFirst, Order, SpecLast};
 use join_law::Ctx;
 use rv64_decode::Register;
@@ -26,16 +26,6 @@ fn named(stamp: u64, destination: u8, first: u8, second: u8) -> Operands
     }
 }
 
-// How an instruction waits that has no guessed one before it.
-fn marks(guessed: bool) -> QueueMarks
-    ensures { result ≡ record { guessed = guessed; speculative = false } }
-{
-    QueueMarks {
-        guessed,
-        speculative: false,
-    }
-}
-
 // Contexts 0 and 1 hold 10 and 20 in x1.
 fn with_x1(alloc: Global) -> Result<DataFlow, Fail>
     ensures { IfOk result (λ d. d ≡ with_x1) }
@@ -53,9 +43,12 @@ fn of_three(alloc: Global) -> Result<DataFlow, Fail>
 {
     let mut flow = with_x1(alloc)?;
     let [first, second, ..] = Ctx::all();
-    flow.rename(first, named(1, 5, 1, 0), Some(marks(false)));
-    flow.rename(first, named(2, 5, 5, 1), Some(marks(true)));
-    flow.rename(second, named(3, 6, 1, 1), Some(marks(false)));
+    flow.rename(first, named(1, 5, 1, 0));
+    flow.wait(first, false, false);
+    flow.rename(first, named(2, 5, 5, 1));
+    flow.wait(first, true, false);
+    flow.rename(second, named(3, 6, 1, 1));
+    flow.wait(second, false, false);
     Ok(flow)
 }
 
@@ -110,7 +103,7 @@ fn waits_for_an_older_result(rt: HostRuntime) -> Result<(), Fail> {
     commit(&rt, &mut flow, first);
     commit(&rt, &mut flow, first);
     assert_eq!(rt; flow.free_count(), 31);
-    flow.rename(first, named(4, 0, 5, 1), None);
+    flow.rename(first, named(4, 0, 5, 1));
     assert_eq!(rt; flow.sources(first, 0), Some((25, 10)));
     Ok(())
 }
@@ -119,14 +112,14 @@ fn waits_for_an_older_result(rt: HostRuntime) -> Result<(), Fail> {
 fn restores_an_older_value(rt: HostRuntime) -> Result<(), Fail> {
     let mut flow = with_x1(rt.alloc())?;
     let [first, ..] = Ctx::all();
-    flow.rename(first, named(1, 5, 1, 0), None);
+    flow.rename(first, named(1, 5, 1, 0));
     flow.finish(first, 0, 15);
-    flow.rename(first, named(2, 5, 5, 1), None);
+    flow.rename(first, named(2, 5, 5, 1));
     flow.cut_from(first, 2);
-    flow.rename(first, named(3, 0, 5, 1), None);
+    flow.rename(first, named(3, 0, 5, 1));
     assert_eq!(rt; flow.sources(first, 1), Some((15, 10)));
     flow.cut_from(first, 1);
-    flow.rename(first, named(4, 0, 5, 1), None);
+    flow.rename(first, named(4, 0, 5, 1));
     assert_eq!(rt; flow.sources(first, 0), Some((0, 10)));
     Ok(())
 }
