@@ -12,7 +12,7 @@ use Rattle.core_view.specs.Events.{with_stage, renamed_stage, rename_event}
 use Rattle.core_view.specs.View.{Context, View, no_entry, entry_at}
 use Rattle.lawful_cycle.specs.Views.{eight, context_in}
 use Rattle.core_view.specs.Flight.{is_queued}
-use Rattle.lawful_cycle.specs.Rename.{CanRename, IsNext, of_all, renamed_by, has_register, oldest_fetched}
+use Rattle.lawful_cycle.specs.Rename.{CanRename, of_all, renamed_by, has_register, oldest_fetched}
 use Rattle.core_back.specs.Machine.{Machine, context_at, no_context}
 use Rattle.core_back.specs.Fetched.{IsRenamed}
 use Rattle.core_back.specs.Renamable.{IsPastFront, IsPastFrontStamp}

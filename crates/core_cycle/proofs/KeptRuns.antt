@@ -12,7 +12,7 @@ use Rattle.lawful_cycle.specs.Rename.{CanRename, IsNext}
 use Rattle.core_back.specs.Machine.{Machine, context_at}
 use Rattle.core_back.specs.Fetched.{IsRenamed}
 use Rattle.core_cycle.specs.Fronts.{IsFront, AreFronts, IsLeast}
-use Rattle.core_cycle.specs.Runs.{AreBehind, IsGrown, IsOnWay, IsRun}
+use Rattle.core_cycle.specs.Runs.{AreBehind, IsRun}
 use Rattle.core_cycle.proofs.KeptFronts.{is_past_front, one_entry, front_within, could_rename}
 use Rattle.core_cycle.proofs.Renamings.{renamed_next, each_next}
 

@@ -1,11 +1,9 @@
 use Rattle.std.proofs.Common.{◌≡◌, ◌<◌, ◌≤◌, ◌∙◌, refl, sym, ap, subst, length, arith, List, get_or, Option, Some, None, ℕ, ◌≢◌}
-use Rattle.std.specs.Prelude.{set}
 use Rattle.std.proofs.lemmas.Bool.{le-ltb}
 use Rattle.std.proofs.lemmas.Bool.{ltb-false}
 use Rattle.core_view.specs.declared.note.EntryId.{EntryId}
-use Rattle.core_view.specs.View.{View}
 use Rattle.core_cycle.specs.Fronts.{IsFront, IsOldest}
-use Rattle.core_cycle.specs.Runs.{IsGrown, IsOnWay}
+use Rattle.core_cycle.specs.Runs.{IsGrown}
 use Rattle.core_cycle.proofs.Alike.{alike_none, alike_chain}
 use Rattle.core_cycle.proofs.KeptFronts.{none_can}
 use Rattle.core_cycle.proofs.KeptRuns.{behind_fronts, others_left, none_left, turn_decreases}
