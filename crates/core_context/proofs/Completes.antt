@@ -211,7 +211,7 @@ module _ (start : State) (stamp reorder : ℕ) (f : Flow) (c : ℕ) (t : Track) 
           ∙ none_open t.context.flight j (omega (arith, before, le, lt)) (λ m older. ap is_open_guess (sym (same m (omega (arith, older, before, le)))) ∙ none m (omega (arith, older, before)))
 
       told : (j : ℕ) → j < length es → settled c (take n es) (waiter_for c t.context.flight (get_or es j no_entry)) ≡ waiter_for c t.context.flight (get_or es j no_entry)
-      told j within = elim (cases_lt j n) [ | inl before ↦ settled_unmarked c (take n es) (waiter_for c t.context.flight (get_or es j no_entry)) (unmarked j before) | inr from ↦ settled_later c n j t.context.flight es grows from within ]
+      told j within = elim (cases_lt j n) [ inl before ↦ settled_unmarked c (take n es) (waiter_for c t.context.flight (get_or es j no_entry)) (unmarked j before) | inr from ↦ settled_later c n j t.context.flight es grows from within ]
 
       map_both : (ys : List Entry) → map (settled c (take n es)) (map (waiter_for c t.context.flight) ys) ≡ map (λ y. settled c (take n es) (waiter_for c t.context.flight y)) ys
       map_both [] = refl
