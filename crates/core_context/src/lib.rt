@@ -5,6 +5,7 @@ mod decoded_memory;
 pub mod events;
 mod fetching;
 mod lags;
+mod retirement;
 mod track;
 
 pub use fetching::{Onward, fetch};

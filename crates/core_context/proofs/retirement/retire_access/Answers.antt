@@ -5,7 +5,7 @@ use Rattle.load_store_queue.specs.Queues.{Queues, load_stamp, store_stamp}
 use Rattle.load_store_queue.specs.Replaced.{without_oldest}
 use Rattle.core_context.proofs.QueueSlots.{loads_retire, stores_retire, loads_retire_other, stores_retire_other}
 use Rattle.core_context.proofs.Tracks.{memory_unwritten}
-use Rattle.core_context.proofs.track.retire_access.Goals as goal
+use Rattle.core_context.proofs.retirement.retire_access.Goals as goal
 
 pub returns-then-accesses_memory-clause-loads : goal.returns-then-accesses_memory-clause-loads
 returns-then-accesses_memory-clause-loads g c es is rising holds =
