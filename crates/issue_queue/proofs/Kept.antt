@@ -5,7 +5,7 @@ use Rattle.std.specs.List.{All, AllPairs, Contains, filter, list_any, count_by}
 use Rattle.std.proofs.lemmas.Bool.{cases_lt, true≢false, and_parts, and_right, or_parts, or_left, or_right, or_cases, eqb-true, eq-eqb}
 use Rattle.std.proofs.lemmas.Bool.Decides.{eqb_tells}
 use Rattle.std.proofs.lemmas.List.{length-map, map-append}
-use Rattle.std.proofs.lemmas.List.Elements.{All-head, All-tail, All-cons, All-nil}
+use Rattle.std.proofs.lemmas.List.Elements.{All-head, All-tail, All-cons, All-nil, All-weaker, filter_passes}
 use Rattle.std.proofs.lemmas.List.Folds.{list_any-append, list_any_none}
 use Rattle.std.proofs.lemmas.List.Kept.{AllPairs-filter}
 use Rattle.std.proofs.lemmas.List.Quantifiers.{all_pairs_push}
@@ -224,15 +224,18 @@ listed-filter t p [] = refl
 listed-filter t p (q ∷ qs) =
     listed-filter_at p q t (filter t qs) (is_listed qs p) (eqb q p) (t q) refl (λ same. ap t (eqb-true q p same)) (listed-filter t p qs)
 
+All-filtered : (P : ℕ → Type 0) (t : ℕ → Bool) (qs : List ℕ) → ((q : ℕ) → t q ≡ true → P q) → All P (filter t qs)
+All-filtered P t qs h = All-weaker (λ q. t q ≡ true) P h (filter t qs) (filter_passes t qs)
+
 -- the entries whose places are left
-pub entries_left : (f : Entry → Bool) (capacity : ℕ) (b c : Places) (order : List ℕ) → ListsTaken capacity b order → c.slots ≡ b.slots
+pub entries_left : (f : Entry → Bool) (capacity : ℕ) (b c : Places) (order : List ℕ) → ListsTaken capacity b order → ((p : ℕ) → has c.valid p ≡ true → slot c.slots p ≡ slot b.slots p)
     → ((p : ℕ) → has b.valid p ≡ true → has c.valid p ≡ f (slot b.slots p)) → listed c.slots (filter (has c.valid) order) ≡ filter f (listed b.slots order)
 entries_left f capacity b c order k slots h =
-    ap (λ s. listed s (filter (has c.valid) order)) slots
+    map_agree_on (slot c.slots) (slot b.slots) (filter (has c.valid) order) (All-filtered (λ p. slot c.slots p ≡ slot b.slots p) (has c.valid) order slots)
     ∙ ap (map (slot b.slots)) (filter_agree_on (has c.valid) (λ p. f (slot b.slots p)) order (All-taken (λ p. has c.valid p ≡ f (slot b.slots p)) capacity b order k h))
     ∙ sym (filter-of_map (slot b.slots) f order)
 
-pub kept_left : (f : Entry → Bool) (capacity : ℕ) (b c : Places) (order : List ℕ) → ListsTaken capacity b order → c.slots ≡ b.slots → InStep c
+pub kept_left : (f : Entry → Bool) (capacity : ℕ) (b c : Places) (order : List ℕ) → ListsTaken capacity b order → ((p : ℕ) → has c.valid p ≡ true → slot c.slots p ≡ slot b.slots p) → InStep c
     → ((p : ℕ) → has b.valid p ≡ true → has c.valid p ≡ f (slot b.slots p)) → ((p : ℕ) → has c.valid p ≡ (has b.valid p && has c.valid p)) → ListsTaken capacity c (filter (has c.valid) order)
 kept_left f capacity b c order k slots step h fewer = record {
   bounded = k.bounded;

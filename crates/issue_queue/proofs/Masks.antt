@@ -1,11 +1,16 @@
 -- Masks in step with the places.
-use Rattle.std.proofs.Common.{◌≡◌, ℕ, ◌<◌, ◌≤◌, inl, inr, Bool, true, false, cond, not, ◌&&◌, ◌||◌, eqb, List, [], ◌∷◌, length, get_or, set, replicate, refl, ap, ap₂, sym, subst, ◌∙◌, arith, take_all}
+use Rattle.std.proofs.Common.{◌≡◌, ℕ, zero, suc, max, ◌++◌, Option, Some, None, ◌<◌, ◌≤◌, inl, inr, Bool, true, false, cond, not, ◌&&◌, ◌||◌, eqb, List, [], ◌∷◌, length, get_or, set, replicate, refl, ap, ap₂, sym, subst, ◌∙◌, arith, take_all}
 use Rattle.std.specs.Prelude.{slice_index, nat_le}
 use Rattle.std.specs.List.{All, filter, list_any}
-use Rattle.std.proofs.lemmas.Bool.{cases_eq, cases_Bool, eqb-true, true≢false, or_cases, and_parts, and_from, and_right, ne_eqb}
+use Rattle.std.specs.Option.{option_to_list}
+use Rattle.std.specs.Int.{bit_at}
+use Rattle.std.specs.Int.Bits.{bit_or}
+use Rattle.std.proofs.lemmas.Nat.Bits.{bit_at_or, bit_at-lt}
+use Rattle.std.proofs.lemmas.Bool.{cases_eq, cases_Bool, eqb-true, eq-eqb, or_parts, or_right, not-true, true≢false, or_cases, and_parts, and_from, and_right, ne_eqb}
 use Rattle.std.proofs.lemmas.Bool.Decides.{eqb_tells}
 use Rattle.std.proofs.lemmas.List.{get_or-set_same, get_or-set_other, get_or-replicate}
 use Rattle.std.proofs.lemmas.List.Elements.{All-head, All-tail}
+use Rattle.std.proofs.lemmas.List.Sums.{length-filter, count_by-le-length}
 use Rattle.std.proofs.Math.Bool.{and-true, and_assoc}
 use Rattle.core_view.specs.declared.note.EntryId.{EntryId}
 use Rattle.issue_queue.specs.declared.entry.Queued.{Queued}
@@ -14,26 +19,93 @@ use Rattle.issue_queue.specs.declared.slots.Slots.{Slots}
 use Rattle.issue_queue.specs.declared.selecting.Candidate.{Candidate}
 use Rattle.issue_queue.specs.Candidates.{is_at}
 use Rattle.word_mask.specs.Mask.{has}
-use Rattle.issue_queue.specs.Board.{slot, blank, InStep, IsMask, waits_for, is_of, is_guessed}
-use Rattle.issue_queue.specs.Entry.{Entry, is_ready, is_supplied, is_named}
+use Rattle.issue_queue.specs.Board.{slot, narrowed, is_waiter, blank, InStep, IsMask, waits_for, is_of, is_guessed}
+use Rattle.issue_queue.specs.Entry.{Entry, is_ready, is_supplied, is_named, waits_for_two, are_two}
 use Rattle.issue_queue.specs.IssueQueue.{awake, is_from}
-use Rattle.issue_queue.specs.Views.{as_entry}
-use Rattle.word_mask.proofs.Laws.{has_zero}
-use Rattle.issue_queue.proofs.Walks.{IsSought, IsCut, IsWoken, IsTaken}
+use Rattle.issue_queue.specs.Views.{as_entry, waits_of}
+use Rattle.word_mask.proofs.Laws.{has_zero, eqb_swap}
+use Rattle.issue_queue.proofs.Walks.{IsSought, IsCut, IsTaken}
+
+-- ---- what stands at the places
+
+filter_same : {X : Type 0} (f g : X → Bool) (xs : List X) → ((x : X) → f x ≡ g x) → filter f xs ≡ filter g xs
+filter_same f g [] h = refl
+filter_same f g (x ∷ xs) h = rw (h x, filter_same f g xs h) refl
+
+filter_all : (f : ℕ → Bool) (xs : List ℕ) → ((x : ℕ) → list_any (λ w. eqb w x) xs ≡ true → f x ≡ true) → filter f xs ≡ xs
+filter_all f [] h = refl
+filter_all f (x ∷ xs) h =
+    let here : f x ≡ true = h x (rw (eq-eqb x x refl) refl) in
+    rw here (ap (λ ys. x ∷ ys) (filter_all f xs (λ y t. h y (or_right (eqb x y) (list_any (λ w. eqb w y) xs) t))))
+
+filter_both_at : {X : Type 0} (f g : X → Bool) (x : X) (xs : List X) (b : Bool) → filter f (filter g xs) ≡ filter (λ y. g y && f y) xs
+    → filter f (cond b (x ∷ filter g xs) (filter g xs)) ≡ cond (b && f x) (x ∷ filter (λ y. g y && f y) xs) (filter (λ y. g y && f y) xs)
+filter_both_at f g x xs true h = rw h refl
+filter_both_at f g x xs false h = h
+
+filter_both : {X : Type 0} (f g : X → Bool) (xs : List X) → filter f (filter g xs) ≡ filter (λ x. g x && f x) xs
+filter_both f g [] = refl
+filter_both f g (x ∷ xs) = filter_both_at f g x xs (g x) (filter_both f g xs)
 
 -- what stands at the places after one changes
-pub slot-changed : (g : Entry → Entry) (s t : Slots) (place : ℕ) (q old : Queued) → place < length s.entries → t.entries ≡ set s.entries place q → t.held ≡ s.held
-    → old ≡ get_or s.entries place blank → ((held : Bool) → as_entry held q ≡ g (as_entry held old)) → (p : ℕ) → slot t p ≡ cond (eqb p place) (g (slot s p)) (slot s p)
-slot-changed g s t place q old lt entries held is change p = rw (entries, held) (elim (eqb_tells p place) [
+pub slot-changed : (g : Entry → Entry) (s t : Slots) (place : ℕ) (q old : Queued) → place < length s.entries → t.entries ≡ set s.entries place q → t.held ≡ s.held → t.waiters ≡ s.waiters
+    → old ≡ get_or s.entries place blank → ((held : Bool) → as_entry held q ≡ g (as_entry held old)) → ((e : Entry) → narrowed s.waiters place (g e) ≡ g (narrowed s.waiters place e))
+    → (p : ℕ) → slot t p ≡ cond (eqb p place) (g (slot s p)) (slot s p)
+slot-changed g s t place q old lt entries held waiters is change through p = rw (entries, held, waiters) (elim (eqb_tells p place) [
   | inl b ↦
       let flag : Bool = has s.held place in
-      rw (b.0, b.1) (ap (as_entry flag) (get_or-set_same s.entries place q blank lt) ∙ change flag ∙ ap (λ o. g (as_entry flag o)) is)
-  | inr b ↦ rw b.0 (ap (as_entry (has s.held p)) (get_or-set_other s.entries place p q blank b.1))
+      let at_place : Entry → Entry = narrowed s.waiters place in
+      rw (b.0, b.1)
+      (ap (λ o. at_place (as_entry flag o)) (get_or-set_same s.entries place q blank lt) ∙ ap at_place (change flag) ∙ through (as_entry flag old) ∙ ap (λ o. g (at_place (as_entry flag o))) is)
+  | inr b ↦ rw b.0 (ap (λ o. narrowed s.waiters p (as_entry (has s.held p) o)) (get_or-set_other s.entries place p q blank b.1))
 ])
+
+narrowed_same : (v w : List ℕ) (p : ℕ) (e : Entry) → ((r : ℕ) → is_waiter v p r ≡ is_waiter w p r) → narrowed v p e ≡ narrowed w p e
+narrowed_same v w p e h = ap (λ ws. record e { waits = ws }) (filter_same (is_waiter v p) (is_waiter w p) e.waits h)
+
+-- an entry enters, and its place the words of its sources
+pub slot_put : (s t : Slots) (place : ℕ) (q : Queued) (e : Entry) → place < length s.entries → t.entries ≡ set s.entries place q → ((p : ℕ) → has t.held p ≡ cond (eqb p place) false (has s.held p))
+    → ((r p : ℕ) → has (slice_index t.waiters r) p ≡ cond (eqb p place && list_any (λ w. eqb w r) (waits_of q)) true (has (slice_index s.waiters r) p))
+    → as_entry false q ≡ e → (p : ℕ) → slot t p ≡ cond (eqb p place) e (slot s p)
+slot_put s t place q e lt entries held waiters is p = rw entries (elim (eqb_tells p place) [
+  | inl b ↦
+      let flag : has t.held p ≡ false = held p ∙ rw b.0 refl in
+      let all : filter (is_waiter t.waiters p) (waits_of q) ≡ waits_of q = filter_all (is_waiter t.waiters p) (waits_of q) (λ r u. waiters r p ∙ rw (b.0, u) refl) in
+      let same : get_or (set s.entries place q) p blank ≡ q = rw b.1 (get_or-set_same s.entries place q blank lt) in
+      rw (b.0, flag, same) (ap (λ ws. record (as_entry false q) { waits = ws }) all ∙ is)
+  | inr b ↦
+      let flag : has t.held p ≡ has s.held p = held p ∙ rw b.0 refl in
+      rw (b.0, flag, get_or-set_other s.entries place p q blank b.1)
+      (narrowed_same t.waiters s.waiters p (as_entry (has s.held p) (get_or s.entries p blank)) (λ r. waiters r p ∙ rw b.0 refl))
+])
+
+-- the bits of one place left words: what stands at the others is as it was
+pub slot_forgotten : (s t : Slots) (place : ℕ) (ws : List ℕ) → t.entries ≡ s.entries → t.held ≡ s.held
+    → ((r p : ℕ) → has (slice_index t.waiters r) p ≡ cond (eqb p place && list_any (λ w. eqb w r) ws) false (has (slice_index s.waiters r) p))
+    → (p : ℕ) → eqb p place ≡ false → slot t p ≡ slot s p
+slot_forgotten s t place ws entries held waiters p other =
+    rw (entries, held) (narrowed_same t.waiters s.waiters p (as_entry (has s.held p) (get_or s.entries p blank)) (λ r. waiters r p ∙ rw other refl))
+
+is_waiter_without : (w : List ℕ) (r p k : ℕ) → r < length w → is_waiter (set w r 0) p k ≡ (is_waiter w p k && not (eqb k r))
+is_waiter_without w r p k lt = elim (eqb_tells k r) [
+  | inl b ↦ rw (b.0, b.1) (ap (λ x. has x p) (get_or-set_same w r 0 0 lt) ∙ has_zero p ∙ sym (and_right (is_waiter w p r) false refl))
+  | inr b ↦ rw b.0 (ap (λ x. has x p) (get_or-set_other w r k 0 0 b.1) ∙ sym (and-true (is_waiter w p k)))
+]
+
+-- a register's word is emptied: no entry waits for it any more
+pub slot_woken : (s t : Slots) (r : ℕ) → r < length s.waiters → t.entries ≡ s.entries → t.held ≡ s.held → t.waiters ≡ set s.waiters r 0 → (p : ℕ) → slot t p ≡ awake r (slot s p)
+slot_woken s t r lt entries held waiters p =
+    let e : Entry = as_entry (has s.held p) (get_or s.entries p blank) in
+    rw (entries, held, waiters) (ap (λ ws. record e { waits = ws })
+    (filter_same (is_waiter (set s.waiters r 0) p) (λ k. is_waiter s.waiters p k && not (eqb k r)) e.waits (λ k. is_waiter_without s.waiters r p k lt)
+    ∙ sym (filter_both (λ k. not (eqb k r)) (is_waiter s.waiters p) e.waits)))
 
 -- a mask stays where its test answers as before
 pub mask_kept : (test : Entry → Bool) (valid : ℕ) (slots new : Slots) (word : ℕ) → ((p : ℕ) → test (slot new p) ≡ test (slot slots p)) → IsMask test valid slots word → IsMask test valid new word
 mask_kept test valid slots new word same h p = h p ∙ ap (λ b. has valid p && b) (sym (same p))
+
+word_is : (test : Entry → Bool) (valid : ℕ) (slots : Slots) (v w : ℕ) → v ≡ w → IsMask test valid slots w → IsMask test valid slots v
+word_is test valid slots v w same m p = ap (λ x. has x p) same ∙ m p
 
 test_at : (test : Entry → Bool) (b : Bool) (e f : Entry) → (b ≡ true → test e ≡ test f) → test (cond b e f) ≡ test f
 test_at test true e f h = h refl
@@ -41,9 +113,9 @@ test_at test false e f h = refl
 
 -- a change of entries that no test sees keeps all words in step
 pub unseen_in_step : (g : Entry → Entry) → ((e : Entry) → (g e).waits ≡ e.waits) → ((e : Entry) → (g e).guessed ≡ e.guessed) → ((e : Entry) → (g e).context ≡ e.context)
-    → (here : ℕ → Bool) (b c : Places) → c.valid ≡ b.valid → c.supplied ≡ b.supplied → c.guesses ≡ b.guesses → c.contexts ≡ b.contexts → c.waiters ≡ b.waiters
+    → (here : ℕ → Bool) (b c : Places) → c.valid ≡ b.valid → c.supplied ≡ b.supplied → c.guesses ≡ b.guesses → c.contexts ≡ b.contexts → c.slots.waiters ≡ b.slots.waiters → c.two ≡ b.two
     → ((p : ℕ) → slot c.slots p ≡ cond (here p) (g (slot b.slots p)) (slot b.slots p)) → InStep b → InStep c
-unseen_in_step g waits guessed context here b c valid supplied guesses contexts waiters slots h =
+unseen_in_step g waits guessed context here b c valid supplied guesses contexts waiters two slots h =
     let kept : (test : Entry → Bool) → ((e : Entry) → test (g e) ≡ test e) → (word : ℕ) → IsMask test b.valid b.slots word → IsMask test b.valid c.slots word =
     λ test same word m. mask_kept test b.valid b.slots c.slots word
     (λ p. ap test (slots p) ∙ test_at test (here p) (g (slot b.slots p)) (slot b.slots p) (λ t. same (slot b.slots p))) m in
@@ -51,19 +123,22 @@ unseen_in_step g waits guessed context here b c valid supplied guesses contexts 
       supplied = rw (valid, supplied) (kept is_supplied (λ e. ap (λ ws. eqb (length ws) 0) (waits e)) b.supplied h.supplied);
       guesses = rw (valid, guesses) (kept is_guessed guessed b.guesses h.guesses);
       contexts = λ k below. rw (valid, contexts) (kept (is_of k) (λ e. ap (λ x. eqb x k) (context e)) (slice_index b.contexts k) (h.contexts k below));
-      waiters = λ r below. rw (valid, waiters) (kept (waits_for r) (λ e. ap (list_any (λ w. eqb w r)) (waits e)) (slice_index b.waiters r) (h.waiters r below));
+      waiters = λ r below. word_is (waits_for r) c.valid c.slots (slice_index c.slots.waiters r) (slice_index b.slots.waiters r) (ap (λ ws. slice_index ws r) waiters)
+          (rw valid (kept (waits_for r) (λ e. ap (list_any (λ w. eqb w r)) (waits e)) (slice_index b.slots.waiters r) (h.waiters r below)));
+      two = rw (valid, two) (kept waits_for_two (λ e. ap are_two (waits e)) b.two h.two);
     }
 
 -- nothing is in step with nothing
-pub none_in_step : (b : Places) → b.valid ≡ 0 → b.supplied ≡ 0 → b.guesses ≡ 0 → ((c : ℕ) → c < 8 → slice_index b.contexts c ≡ 0) → ((r : ℕ) → r < 480 → slice_index b.waiters r ≡ 0) → InStep b
-none_in_step b valid supplied guesses contexts waiters =
+pub none_in_step : (b : Places) → b.valid ≡ 0 → b.supplied ≡ 0 → b.guesses ≡ 0 → ((c : ℕ) → c < 8 → slice_index b.contexts c ≡ 0) → ((r : ℕ) → r < 480 → slice_index b.slots.waiters r ≡ 0) → b.two ≡ 0 → InStep b
+none_in_step b valid supplied guesses contexts waiters two =
     let none : (test : Entry → Bool) (word : ℕ) → word ≡ 0 → IsMask test b.valid b.slots word =
     λ test word zero p. rw (zero, valid) (rw has_zero refl) in
     record {
       supplied = none is_supplied b.supplied supplied;
       guesses = none is_guessed b.guesses guesses;
       contexts = λ c below. none (is_of c) (slice_index b.contexts c) (contexts c below);
-      waiters = λ r below. none (waits_for r) (slice_index b.waiters r) (waiters r below);
+      waiters = λ r below. none (waits_for r) (slice_index b.slots.waiters r) (waiters r below);
+      two = none waits_for_two b.two two;
     }
 
 and_both : (a b c : Bool) → ((a && b) && (a && c)) ≡ (a && (b && c))
@@ -111,6 +186,38 @@ cut_all a b context stamp left below none h s p =
     let valid = s.valid p in
     rw (empty, h.contexts context below p) at valid ∙ cut_at (has a.valid p) (is_of context (slot a.slots p)) (nat_le stamp (slot a.slots p).stamp)
 
+cut_next_at : (v w l f : Bool) → w ≡ true → l ≡ false → f ≡ true → (v && not ((w && not l) && f)) ≡ false
+cut_next_at true true false true w l f = refl
+cut_next_at false w l f a b c = refl
+cut_next_at true false l f a b c = absurd (true≢false (sym a))
+cut_next_at true true true f a b c = absurd (true≢false b)
+cut_next_at true true false false a b c = absurd (true≢false (sym c))
+
+-- a place that is left is freed
+pub cut_next : (a b d : Places) (context stamp left less place : ℕ) → context < 8 → InStep a → IsCut a b context stamp left → InStep d
+    → ((p : ℕ) → has d.valid p ≡ (has b.valid p && not (eqb p place))) → ((p : ℕ) → eqb p place ≡ false → slot d.slots p ≡ slot b.slots p)
+    → has left place ≡ true → ((p : ℕ) → has less p ≡ (has left p && not (eqb p place))) → is_from context stamp (slot b.slots place) ≡ true → IsCut a d context stamp less
+cut_next a b d context stamp left less place below h s step valid slots here bits from =
+    let word : has (slice_index a.contexts context) place ≡ true = s.within place here in
+    let was : has a.valid place ≡ true = (and_parts (has a.valid place) (is_of context (slot a.slots place)) (sym (h.contexts context below place) ∙ word)).0 in
+    let taken : has b.valid place ≡ true = s.valid place ∙ rw (was, here, word) refl in
+    let old : is_from context stamp (slot a.slots place) ≡ true = ap (is_from context stamp) (sym (s.slots place taken)) ∙ from in
+    record {
+      step = step;
+      slots = λ p t.
+          let parts = and_parts (has b.valid p) (not (eqb p place)) (sym (valid p) ∙ t) in
+          slots p (not-true (eqb p place) parts.1) ∙ s.slots p parts.0;
+      valid = λ p. elim (eqb_tells p place) [
+        | inl t ↦
+            let gone : has less place ≡ false = bits place ∙ rw (eq-eqb place place refl) (and_right (has left place) false refl) in
+            rw (valid p, t.0, t.1) (and_right (has b.valid place) false refl ∙ sym (cut_next_at (has a.valid place) (has (slice_index a.contexts context) place) (has less place) (is_from context stamp (slot a.slots place)) word gone old))
+        | inr t ↦
+            let stays : has less p ≡ has left p = bits p ∙ rw t.0 (and-true (has left p)) in
+            rw (valid p, t.0, stays) (and-true (has b.valid p) ∙ s.valid p)
+      ];
+      within = λ p t. s.within p (and_parts (has left p) (not (eqb p place)) (sym (bits p) ∙ t)).0;
+    }
+
 pub zeros : (n k : ℕ) → k < n → slice_index (replicate n 0) k ≡ 0
 zeros n k lt = get_or-replicate n k 0 0 lt
 
@@ -132,53 +239,187 @@ any_other : (r k : ℕ) (xs : List ℕ) → (k ≡ r → ⊥) → list_any (λ w
 any_other r k [] other = refl
 any_other r k (x ∷ xs) other = any_other_at r k x (filter (λ w. not (eqb w r)) xs) xs (eqb x r) refl other (any_other r k xs other)
 
--- where a register's places are awake, all is in step
-pub woken_in_step : (b c : Places) (r : ℕ) → r < length b.waiters → r < 480 → c.valid ≡ b.valid → c.guesses ≡ b.guesses → c.contexts ≡ b.contexts → c.waiters ≡ set b.waiters r 0
-    → ((p : ℕ) → slot c.slots p ≡ cond (has (slice_index b.waiters r) p) (awake r (slot b.slots p)) (slot b.slots p))
-    → ((p : ℕ) → has c.supplied p ≡ cond (has (slice_index b.waiters r) p) (is_supplied (slot c.slots p)) (has b.supplied p))
+supplied_awake_at : (r x y : ℕ) (a b : Bool) → eqb x r ≡ a → eqb y r ≡ b → eqb (length (filter (λ w. not (eqb w r)) (x ∷ y ∷ []))) 0 ≡ ((eqb x r || (eqb y r || false)) && not (not (eqb x y)))
+supplied_awake_at r x y true true e f = rw (e, f, eq-eqb x y (eqb-true x r e ∙ sym (eqb-true y r f))) refl
+supplied_awake_at r x y true false e f = rw (e, f, ne_eqb x y (λ s. true≢false (sym (eq-eqb y r (sym s ∙ eqb-true x r e)) ∙ f))) refl
+supplied_awake_at r x y false true e f = rw (e, f, ne_eqb x y (λ s. true≢false (sym (eq-eqb x r (s ∙ eqb-true y r f)) ∙ e))) refl
+supplied_awake_at r x y false false e f = rw (e, f) refl
+
+supplied_awake_one : (r x : ℕ) (a : Bool) → eqb x r ≡ a → eqb (length (filter (λ w. not (eqb w r)) (x ∷ []))) 0 ≡ ((eqb x r || false) && true)
+supplied_awake_one r x true e = rw e refl
+supplied_awake_one r x false e = rw e refl
+
+-- of at most two registers none is left without one: there were none, or it was the only one
+supplied_awake : (r : ℕ) (ws : List ℕ) → length ws ≤ 2 → (eqb (length ws) 0 || (list_any (λ w. eqb w r) ws && not (are_two ws))) ≡ eqb (length (filter (λ w. not (eqb w r)) ws)) 0
+supplied_awake r [] h = refl
+supplied_awake r (x ∷ []) h = sym (supplied_awake_one r x (eqb x r) refl)
+supplied_awake r (x ∷ y ∷ []) h = sym (supplied_awake_at r x y (eqb x r) (eqb y r) refl refl)
+supplied_awake r (x ∷ y ∷ z ∷ ws) h = absurd (omega (arith, h))
+
+two_awake_at : (r x y : ℕ) (a b : Bool) → eqb x r ≡ a → eqb y r ≡ b → are_two (filter (λ w. not (eqb w r)) (x ∷ y ∷ [])) ≡ (not (eqb x y) && not (eqb x r || (eqb y r || false)))
+two_awake_at r x y true true e f = rw (e, f) (sym (and_right (not (eqb x y)) false refl))
+two_awake_at r x y true false e f = rw (e, f) (sym (and_right (not (eqb x y)) false refl))
+two_awake_at r x y false true e f = rw (e, f) (sym (and_right (not (eqb x y)) false refl))
+two_awake_at r x y false false e f = rw (e, f) (sym (and-true (not (eqb x y))))
+
+two_awake_one : (r x : ℕ) (a : Bool) → eqb x r ≡ a → are_two (filter (λ w. not (eqb w r)) (x ∷ [])) ≡ false
+two_awake_one r x true e = rw e refl
+two_awake_one r x false e = rw e refl
+
+-- of at most two registers two are left without one, where it was none of them
+two_awake : (r : ℕ) (ws : List ℕ) → length ws ≤ 2 → (are_two ws && not (list_any (λ w. eqb w r) ws)) ≡ are_two (filter (λ w. not (eqb w r)) ws)
+two_awake r [] h = refl
+two_awake r (x ∷ []) h = sym (two_awake_one r x (eqb x r) refl)
+two_awake r (x ∷ y ∷ []) h = sym (two_awake_at r x y (eqb x r) (eqb y r) refl refl)
+two_awake r (x ∷ y ∷ z ∷ ws) h = absurd (omega (arith, h))
+
+sources_short : (first second : Option ℕ) → length (option_to_list first ++ option_to_list second) ≤ 2
+sources_short None None = omega arith
+sources_short None (Some r) = omega arith
+sources_short (Some q) None = omega arith
+sources_short (Some q) (Some r) = omega arith
+
+-- an entry waits for at most two registers
+waits_short : (slots : Slots) (p : ℕ) → length (slot slots p).waits ≤ 2
+waits_short slots p =
+    let q : Queued = get_or slots.entries p blank in
+    omega (arith, sources_short q.first q.second, length-filter (is_waiter slots.waiters p) (waits_of q), count_by-le-length (is_waiter slots.waiters p) (waits_of q))
+
+or_and_at : (v s w t : Bool) → ((v && s) || ((v && w) && not (v && t))) ≡ (v && (s || (w && not t)))
+or_and_at true s w t = refl
+or_and_at false s w t = refl
+
+and_not_at : (v t w : Bool) → ((v && t) && not (v && w)) ≡ (v && (t && not w))
+and_not_at true t w = refl
+and_not_at false t w = refl
+
+-- where a register's word is emptied, all is in step
+pub woken_in_step : (b c : Places) (r : ℕ) → r < 480 → r < length b.slots.waiters → c.valid ≡ b.valid → c.guesses ≡ b.guesses → c.contexts ≡ b.contexts → c.slots.waiters ≡ set b.slots.waiters r 0
+    → ((p : ℕ) → slot c.slots p ≡ awake r (slot b.slots p))
+    → ((p : ℕ) → has c.supplied p ≡ (has b.supplied p || (has (slice_index b.slots.waiters r) p && not (has b.two p))))
+    → ((p : ℕ) → has c.two p ≡ (has b.two p && not (has (slice_index b.slots.waiters r) p)))
     → InStep b → InStep c
-woken_in_step b c r lt below valid guesses contexts waiters slots supplied h =
-    let word : ℕ = slice_index b.waiters r in
+woken_in_step b c r below lt valid guesses contexts waiters slots supplied two h =
     let kept : (test : Entry → Bool) → ((e : Entry) → test (awake r e) ≡ test e) → (w : ℕ) → IsMask test b.valid b.slots w → IsMask test b.valid c.slots w =
-    λ test same w m. mask_kept test b.valid b.slots c.slots w
-    (λ p. ap test (slots p) ∙ test_at test (has word p) (awake r (slot b.slots p)) (slot b.slots p) (λ t. same (slot b.slots p))) m in
+    λ test same w m. mask_kept test b.valid b.slots c.slots w (λ p. ap test (slots p) ∙ same (slot b.slots p)) m in
     record {
-      supplied = λ p. supplied p ∙ rw valid (elim (cases_Bool (has word p)) [
-        | inl t ↦
-            let taken : has b.valid p ≡ true = (and_parts (has b.valid p) (waits_for r (slot b.slots p)) (sym (h.waiters r below p) ∙ t)).0 in
-            rw (t, taken) refl
-        | inr f ↦
-            let same : slot c.slots p ≡ slot b.slots p = slots p ∙ rw f refl in
-            rw f (h.supplied p ∙ ap (λ e. has b.valid p && is_supplied e) (sym same))
-      ]);
+      supplied = λ p.
+          let e : Entry = slot b.slots p in
+          supplied p
+          ∙ ap₂ (λ x y. x || y) (h.supplied p) (ap₂ (λ x y. x && not y) (h.waiters r below p) (h.two p))
+          ∙ or_and_at (has b.valid p) (is_supplied e) (waits_for r e) (waits_for_two e)
+          ∙ ap (λ x. has b.valid p && x) (supplied_awake r e.waits (waits_short b.slots p))
+          ∙ sym (ap₂ (λ v f. has v p && is_supplied f) valid (slots p));
+      two = λ p.
+          let e : Entry = slot b.slots p in
+          two p
+          ∙ ap₂ (λ x y. x && not y) (h.two p) (h.waiters r below p)
+          ∙ and_not_at (has b.valid p) (waits_for_two e) (waits_for r e)
+          ∙ ap (λ x. has b.valid p && x) (two_awake r e.waits (waits_short b.slots p))
+          ∙ sym (ap₂ (λ v f. has v p && waits_for_two f) valid (slots p));
       guesses = rw (valid, guesses) (kept is_guessed (λ e. refl) b.guesses h.guesses);
       contexts = λ k lt. rw (valid, contexts) (kept (is_of k) (λ e. refl) (slice_index b.contexts k) (h.contexts k lt));
-      waiters = λ k small. rw (valid, waiters) (elim (cases_eq k r) [
-        | inl same ↦ rw (same, get_or-set_same b.waiters r 0 0 lt) (λ p. has_zero p ∙ elim (cases_Bool (has word p)) [
-          | inl t ↦
-              let same : slot c.slots p ≡ awake r (slot b.slots p) = slots p ∙ rw t refl in
-              let gone : waits_for r (slot c.slots p) ≡ false = ap (waits_for r) same ∙ any_same r (slot b.slots p).waits in
-              sym (and_right (has b.valid p) (waits_for r (slot c.slots p)) gone)
-          | inr f ↦
-              let same : slot c.slots p ≡ slot b.slots p = slots p ∙ rw f refl in
-              sym f ∙ h.waiters r below p ∙ ap (λ e. has b.valid p && waits_for r e) (sym same)
-        ])
-        | inr other ↦ rw (get_or-set_other b.waiters r k 0 0 other) (kept (waits_for k) (λ e. any_other r k e.waits other) (slice_index b.waiters k) (h.waiters k small))
-      ]);
+      waiters = λ k small p.
+          let e : Entry = slot b.slots p in
+          ap (λ ws. has (slice_index ws k) p) waiters
+          ∙ elim (cases_eq k r) [
+            | inl same ↦
+                ap (λ j. has (slice_index (set b.slots.waiters r 0) j) p) same
+                ∙ ap (λ x. has x p) (get_or-set_same b.slots.waiters r 0 0 lt)
+                ∙ has_zero p
+                ∙ sym (and_right (has c.valid p) (waits_for k (slot c.slots p)) (ap (waits_for k) (slots p) ∙ ap (λ j. waits_for j (awake r e)) same ∙ any_same r e.waits))
+            | inr other ↦
+                ap (λ x. has x p) (get_or-set_other b.slots.waiters r k 0 0 other)
+                ∙ h.waiters k small p
+                ∙ ap (λ x. has b.valid p && x) (sym (any_other r k e.waits other))
+                ∙ sym (ap₂ (λ v f. has v p && waits_for k f) valid (slots p))
+          ];
     }
 
--- the walk has woken all places of the word
-pub woken_all : (slots0 slots : Slots) (supplied woken word left looked register : ℕ) → left ≡ 0 → IsWoken slots0 slots supplied woken word left looked register
-    → (p : ℕ) → slot slots p ≡ cond (has word p) (awake register (slot slots0 p)) (slot slots0 p)
-woken_all slots0 slots supplied woken word left looked register none h p =
-    let empty : has left p ≡ false = ap (λ k. has k p) none ∙ has_zero p in
-    h.awoken p ∙ rw empty (rw (and-true (has word p)) refl)
+cond_true : (t : Bool) → cond t true false ≡ t
+cond_true true = refl
+cond_true false = refl
 
-pub settled_all : (slots0 slots : Slots) (supplied woken word left looked register : ℕ) → left ≡ 0 → IsWoken slots0 slots supplied woken word left looked register
-    → (p : ℕ) → has woken p ≡ cond (has word p) (is_supplied (slot slots p)) (has supplied p)
-settled_all slots0 slots supplied woken word left looked register none h p =
-    let empty : has left p ≡ false = ap (λ k. has k p) none ∙ has_zero p in
-    h.settled p ∙ rw empty (rw (and-true (has word p)) refl)
+-- an entry enters at a place that is free
+put_at : (test : Entry → Bool) (b : Places) (s : Slots) (new place word newer : ℕ) (e : Entry) → has b.valid place ≡ false → ((p : ℕ) → has new p ≡ cond (eqb p place) true (has b.valid p))
+    → ((p : ℕ) → slot s p ≡ cond (eqb p place) e (slot b.slots p)) → ((p : ℕ) → has newer p ≡ cond (eqb p place && test e) true (has word p))
+    → IsMask test b.valid b.slots word → IsMask test new s newer
+put_at test b s new place word newer e free valid slots bits m p = elim (eqb_tells p place) [
+  | inl t ↦
+      let none : has word p ≡ false = m p ∙ rw t.1 (rw free refl) in
+      rw (bits p, valid p, slots p) (rw (t.0, none) (cond_true (test e)))
+  | inr t ↦ rw (bits p, valid p, slots p) (rw t.0 (m p))
+]
+
+assigned_added_at : (here g w : Bool) → (here ≡ true → w ≡ false) → cond here g w ≡ cond (here && g) true w
+assigned_added_at true true w h = refl
+assigned_added_at true false w h = sym (h refl)
+assigned_added_at false g w h = refl
+
+assigned_added : (b : Places) (place p : ℕ) (g : Bool) → has b.valid place ≡ false → IsMask is_guessed b.valid b.slots b.guesses → cond (eqb p place) g (has b.guesses p) ≡ cond (eqb p place && g) true (has b.guesses p)
+assigned_added b place p g free m = assigned_added_at (eqb p place) g (has b.guesses p) (λ t. m p ∙ rw (eqb-true p place t) (rw free refl))
+
+pub put_in_step : (b c : Places) (place : ℕ) (e : Entry) → place < 64 → has b.valid place ≡ false → e.context < 8 → ((p : ℕ) → has c.valid p ≡ cond (eqb p place) true (has b.valid p))
+    → ((p : ℕ) → slot c.slots p ≡ cond (eqb p place) e (slot b.slots p))
+    → ((p : ℕ) → has c.supplied p ≡ cond (eqb p place && is_supplied e) true (has b.supplied p)) → ((p : ℕ) → has c.two p ≡ cond (eqb p place && waits_for_two e) true (has b.two p))
+    → ((p : ℕ) → has c.guesses p ≡ cond (eqb p place) e.guessed (has b.guesses p))
+    → ((i p : ℕ) → has (slice_index c.contexts i) p ≡ cond (eqb p place && eqb i e.context) true (has (slice_index b.contexts i) p))
+    → ((r p : ℕ) → has (slice_index c.slots.waiters r) p ≡ cond (eqb p place && waits_for r e) true (has (slice_index b.slots.waiters r) p))
+    → InStep b → InStep c
+put_in_step b c place e bound free context valid slots supplied two guesses contexts waiters h = record {
+  supplied = put_at is_supplied b c.slots c.valid place b.supplied c.supplied e free valid slots supplied h.supplied;
+  two = put_at waits_for_two b c.slots c.valid place b.two c.two e free valid slots two h.two;
+  guesses = put_at is_guessed b c.slots c.valid place b.guesses c.guesses e free valid slots (λ p. guesses p ∙ assigned_added b place p e.guessed free h.guesses) h.guesses;
+  contexts = λ k below. put_at (is_of k) b c.slots c.valid place (slice_index b.contexts k) (slice_index c.contexts k) e free valid slots (λ p. contexts k p ∙ rw (eqb_swap k e.context) refl) (h.contexts k below);
+  waiters = λ r below. put_at (waits_for r) b c.slots c.valid place (slice_index b.slots.waiters r) (slice_index c.slots.waiters r) e free valid slots (λ p. waiters r p) (h.waiters r below);
+}
+
+any_filtered_at : (r w : ℕ) (ws : List ℕ) (b : Bool) → eqb w r ≡ false → list_any (λ v. eqb v r) ws ≡ false → list_any (λ v. eqb v r) (cond b (w ∷ ws) ws) ≡ false
+any_filtered_at r w ws true e h = rw e h
+any_filtered_at r w ws false e h = h
+
+any_filtered : (f : ℕ → Bool) (r : ℕ) (ws : List ℕ) → list_any (λ w. eqb w r) ws ≡ false → list_any (λ w. eqb w r) (filter f ws) ≡ false
+any_filtered f r [] h = refl
+any_filtered f r (w ∷ ws) h =
+    let parts = or_parts (eqb w r) (list_any (λ v. eqb v r) ws) h in
+    any_filtered_at r w (filter f ws) (f w) parts.0 (any_filtered f r ws parts.1)
+
+freed_bit : (a w : Bool) → (a ≡ false → w ≡ false) → cond a false w ≡ false
+freed_bit true w h = refl
+freed_bit false w h = h refl
+
+-- a place is freed: it leaves each word
+free_at : (test : Entry → Bool) (b : Places) (s : Slots) (new place word newer : ℕ) → ((p : ℕ) → has new p ≡ (has b.valid p && not (eqb p place))) → ((p : ℕ) → eqb p place ≡ false → slot s p ≡ slot b.slots p)
+    → ((p : ℕ) → eqb p place ≡ false → has newer p ≡ has word p) → has newer place ≡ false → IsMask test b.valid b.slots word → IsMask test new s newer
+free_at test b s new place word newer valid slots others here m p = elim (eqb_tells p place) [
+  | inl t ↦ rw (valid p, t.0, t.1) (here ∙ sym (ap (λ x. x && test (slot s place)) (and_right (has b.valid place) false refl)))
+  | inr t ↦ rw (valid p, t.0, slots p t.0) (others p t.0 ∙ m p ∙ ap (λ x. x && test (slot b.slots p)) (sym (and-true (has b.valid p))))
+]
+
+pub free_in_step : (b c : Places) (place : ℕ) (q : Queued) (context : ℕ) → has b.valid place ≡ true → q ≡ get_or b.slots.entries place blank → context ≡ q.context → context < 8
+    → ((p : ℕ) → has c.valid p ≡ (has b.valid p && not (eqb p place)))
+    → ((p : ℕ) → eqb p place ≡ false → slot c.slots p ≡ slot b.slots p)
+    → ((p : ℕ) → has c.supplied p ≡ cond (eqb p place) false (has b.supplied p)) → ((p : ℕ) → has c.two p ≡ cond (eqb p place) false (has b.two p))
+    → ((p : ℕ) → has c.guesses p ≡ cond (eqb p place) false (has b.guesses p))
+    → ((i p : ℕ) → has (slice_index c.contexts i) p ≡ cond (eqb p place && eqb i context) false (has (slice_index b.contexts i) p))
+    → ((r p : ℕ) → has (slice_index c.slots.waiters r) p ≡ cond (eqb p place && list_any (λ w. eqb w r) (waits_of (get_or b.slots.entries place blank))) false (has (slice_index b.slots.waiters r) p))
+    → InStep b → InStep c
+free_in_step b c place q context taken is own bound valid slots supplied two guesses contexts waiters h =
+    let same : eqb place place ≡ true = eq-eqb place place refl in
+    let word : (test : Entry → Bool) (old new : ℕ) → ((p : ℕ) → has new p ≡ cond (eqb p place) false (has old p)) → IsMask test b.valid b.slots old → IsMask test c.valid c.slots new =
+    λ test old new bits m. free_at test b c.slots c.valid place old new valid slots (λ p t. bits p ∙ rw t refl) (bits place ∙ rw same refl) m in
+    record {
+      supplied = word is_supplied b.supplied c.supplied supplied h.supplied;
+      two = word waits_for_two b.two c.two two h.two;
+      guesses = word is_guessed b.guesses c.guesses guesses h.guesses;
+      contexts = λ k below. free_at (is_of k) b c.slots c.valid place (slice_index b.contexts k) (slice_index c.contexts k) valid slots (λ p t. contexts k p ∙ rw t refl)
+          (contexts k place ∙ rw same (freed_bit (eqb k context) (has (slice_index b.contexts k) place) (λ f. h.contexts k below place ∙ and_right (has b.valid place) (is_of k (slot b.slots place)) (ap (λ x. eqb x k) (sym (own ∙ ap (λ x. x.context) is)) ∙ eqb_swap context k ∙ f))))
+          (h.contexts k below);
+      waiters = λ r below. free_at (waits_for r) b c.slots c.valid place (slice_index b.slots.waiters r) (slice_index c.slots.waiters r) valid slots (λ p t. waiters r p ∙ rw t refl)
+          (waiters r place ∙ rw same (freed_bit (list_any (λ w. eqb w r) (waits_of (get_or b.slots.entries place blank))) (has (slice_index b.slots.waiters r) place)
+          (λ f. h.waiters r below place ∙ and_right (has b.valid place) (waits_for r (slot b.slots place)) (any_filtered (is_waiter b.slots.waiters place) r (waits_of (get_or b.slots.entries place blank)) f))))
+          (h.waiters r below);
+    }
 
 -- ---- places of a word that are freed
 
@@ -206,12 +447,13 @@ none_waits r (w ∷ ws) h = absurd (omega (arith, eqb-true (length (w ∷ ws)) 0
 -- places that wait for nothing are freed: no register's word has their bits
 pub freed_in_step : (b c : Places) (word : ℕ) → c.slots ≡ b.slots → ((p : ℕ) → has word p ≡ true → is_supplied (slot b.slots p) ≡ true) → ((p : ℕ) → has c.valid p ≡ (has b.valid p && not (has word p)))
     → ((p : ℕ) → has c.supplied p ≡ (has b.supplied p && not (has word p))) → ((p : ℕ) → has c.guesses p ≡ (has b.guesses p && not (has word p)))
-    → ((i p : ℕ) → i < 8 → has (slice_index c.contexts i) p ≡ (has (slice_index b.contexts i) p && not (has word p))) → c.waiters ≡ b.waiters → InStep b → InStep c
-freed_in_step b c word slots free valid supplied guesses contexts waiters h = record {
+    → ((i p : ℕ) → i < 8 → has (slice_index c.contexts i) p ≡ (has (slice_index b.contexts i) p && not (has word p))) → ((p : ℕ) → has c.two p ≡ (has b.two p && not (has word p))) → InStep b → InStep c
+freed_in_step b c word slots free valid supplied guesses contexts two h = record {
+  two = rw slots (mask_without waits_for_two b.valid c.valid b.slots word b.two c.two valid two h.two);
   supplied = rw slots (mask_without is_supplied b.valid c.valid b.slots word b.supplied c.supplied valid supplied h.supplied);
   guesses = rw slots (mask_without is_guessed b.valid c.valid b.slots word b.guesses c.guesses valid guesses h.guesses);
   contexts = λ k below. rw slots (mask_without (is_of k) b.valid c.valid b.slots word (slice_index b.contexts k) (slice_index c.contexts k) valid (λ p. contexts k p below) (h.contexts k below));
-  waiters = λ r below. rw (slots, waiters) (λ p.
+  waiters = λ r below. rw slots (λ p.
       h.waiters r below p
       ∙ and_unset (has b.valid p) (waits_for r (slot b.slots p)) (has word p) (λ t. none_waits r (slot b.slots p).waits (free p t))
       ∙ ap (λ x. x && waits_for r (slot b.slots p)) (sym (valid p)));
@@ -224,6 +466,20 @@ at_candidates P (c ∷ cs) p h t = elim (or_cases (eqb c.place p) (is_at cs p) t
   | inl here ↦ subst P (eqb-true c.place p here) (All-head (λ d. P d.place) c cs h)
   | inr later ↦ at_candidates P cs p (All-tail (λ d. P d.place) c cs h) later
 ]
+
+bit_of_either : (a b : ℕ) → a < 2 → b < 2 → eqb (max a b) 1 ≡ (eqb a 1 || eqb b 1)
+bit_of_either zero zero p q = refl
+bit_of_either zero (suc zero) p q = refl
+bit_of_either (suc zero) zero p q = refl
+bit_of_either (suc zero) (suc zero) p q = refl
+bit_of_either zero (suc (suc b)) p q = absurd (omega (arith, q))
+bit_of_either (suc zero) (suc (suc b)) p q = absurd (omega (arith, q))
+bit_of_either (suc (suc a)) b p q = absurd (omega (arith, p))
+
+-- the bits that one of two words has
+pub has_either : (v w p : ℕ) → has (bit_or v w) p ≡ (has v p || has w p)
+unfolding has
+has_either v w p = ap (λ b. eqb b 1) (bit_at_or v w p) ∙ bit_of_either (bit_at v p) (bit_at w p) (bit_at-lt v p) (bit_at-lt w p)
 
 pub none_taken : (slots : Slots) (best : List Candidate) (names : List EntryId) → names ≡ [] → IsTaken slots best 0 0 names
 none_taken slots best names none = record {
@@ -238,3 +494,22 @@ pub supplied_all : (slots : Slots) (best : List Candidate) (i chosen : ℕ) (nam
 supplied_all slots best i chosen names whole supplied h p t =
     at_candidates (λ q. is_supplied (slot slots q) ≡ true) best p (λ k d lt. (supplied k d lt).1)
     (ap (λ cs. is_at cs p) (sym (take_all i best whole)) ∙ sym (h.bits p) ∙ t)
+
+-- the registers of two sources that are told by number, where there is one
+told_none : (i : ℕ) (a : Bool) → ((k : ℕ) → false ≡ (eqb i k && a)) → a ≡ false
+told_none i a h = sym (h i ∙ rw (eq-eqb i i refl) refl)
+
+told_some : (r i : ℕ) (a : Bool) → ((k : ℕ) → (eqb r k || false) ≡ (eqb i k && a)) → (i ≡ r) × (a ≡ true)
+told_some r i a h =
+    let parts = and_parts (eqb i r) a (sym (h r) ∙ rw (eq-eqb r r refl) refl) in
+    (eqb-true i r parts.0, parts.1)
+
+pub told_two : (first second : Option ℕ) (i j : ℕ) (a b : Bool) → ((k : ℕ) → list_any (λ r. eqb r k) (option_to_list first) ≡ (eqb i k && a)) → ((k : ℕ) → list_any (λ r. eqb r k) (option_to_list second) ≡ (eqb j k && b))
+    → ((a && b) && not (eqb i j)) ≡ are_two (option_to_list first ++ option_to_list second)
+told_two None None i j a b h k = rw (told_none i a h) refl
+told_two None (Some s) i j a b h k = rw (told_none i a h) refl
+told_two (Some f) None i j a b h k = rw (told_none j b k, and_right a false refl) refl
+told_two (Some f) (Some s) i j a b h k =
+    let x = told_some f i a h in
+    let y = told_some s j b k in
+    rw (x.0, x.1, y.0, y.1) refl

@@ -1,6 +1,6 @@
 -- What walks over the places of a word keep.
-use Rattle.std.proofs.Common.{◌≡◌, ℕ, ◌+◌, ◌<◌, ◌≤◌, true, false, cond, not, ◌&&◌, List, map, take, length, ◌⊎◌}
-use Rattle.std.specs.Prelude.{count_ones, nat_lt, slice_index}
+use Rattle.std.proofs.Common.{◌≡◌, ℕ, ◌<◌, ◌≤◌, true, false, not, ◌&&◌, List, map, take, length, ◌⊎◌}
+use Rattle.std.specs.Prelude.{nat_lt, slice_index}
 use Rattle.std.specs.List.{filter}
 use Rattle.core_view.specs.declared.note.EntryId.{EntryId}
 use Rattle.issue_queue.specs.declared.places.Places.{Places}
@@ -9,17 +9,10 @@ use Rattle.issue_queue.specs.declared.selecting.Candidate.{Candidate}
 use Rattle.word_mask.specs.Mask.{has}
 use Rattle.issue_queue.specs.Board.{slot, InStep}
 use Rattle.issue_queue.specs.Candidates.{is_at}
-use Rattle.issue_queue.specs.Entry.{is_supplied, is_named}
-use Rattle.issue_queue.specs.IssueQueue.{awake, is_from}
+use Rattle.issue_queue.specs.Entry.{is_named}
+use Rattle.issue_queue.specs.IssueQueue.{is_from}
 use Rattle.issue_queue.specs.Stamps.{stamp_at}
 use Rattle.issue_queue.specs.Views.{name_of}
-
--- the places of the word that are not left are awake
-pub record IsWoken (slots0 slots : Slots) (supplied woken word left looked register : ℕ) : Type 0 where
-  pub awoken : (p : ℕ) → slot slots p ≡ cond (has word p && not (has left p)) (awake register (slot slots0 p)) (slot slots0 p)
-  pub settled : (p : ℕ) → has woken p ≡ cond (has word p && not (has left p)) (is_supplied (slot slots p)) (has supplied p)
-  pub within : (p : ℕ) → has left p ≡ true → has word p ≡ true
-  pub count : looked + count_ones left ≡ count_ones word
 
 -- the places of the word that are not left have another name
 pub record IsSought (b : Places) (context stamp left : ℕ) : Type 0 where
@@ -29,7 +22,7 @@ pub record IsSought (b : Places) (context stamp left : ℕ) : Type 0 where
 -- those of the word that are not left are free, where they have at least this stamp
 pub record IsCut (a b : Places) (context stamp left : ℕ) : Type 0 where
   pub step : InStep b
-  pub slots : b.slots ≡ a.slots
+  pub slots : (p : ℕ) → has b.valid p ≡ true → slot b.slots p ≡ slot a.slots p
   pub valid : (p : ℕ) → has b.valid p ≡ (has a.valid p && not ((has (slice_index a.contexts context) p && not (has left p)) && is_from context stamp (slot a.slots p)))
   pub within : (p : ℕ) → has left p ≡ true → has (slice_index a.contexts context) p ≡ true
 

@@ -8,14 +8,22 @@ use Rattle.issue_queue.specs.declared.slots.Slots.{Slots}
 use Rattle.word_mask.specs.Mask.{has}
 use Rattle.issue_queue.specs.Arrivals.{IsListing}
 use Rattle.issue_queue.specs.Views.{as_entry}
-use Rattle.issue_queue.specs.Entry.{Entry, AreDistinct, is_supplied}
+use Rattle.issue_queue.specs.Entry.{Entry, AreDistinct, is_supplied, waits_for_two}
 
 abbrev pub blank : Queued
 blank = record { stamp = 0; context = 0; guessed = false; speculative = false; first = None; second = None }
 
+-- the place stands in the word of a register
+abbrev pub is_waiter : List ℕ → ℕ → ℕ → Bool
+is_waiter waiters place register = has (slice_index waiters register) place
+
+-- the entry, waiting for those registers alone whose words have the place
+abbrev pub narrowed : List ℕ → ℕ → Entry → Entry
+narrowed waiters place e = record e { waits = filter (is_waiter waiters place) e.waits }
+
 -- the entry of a place
 abbrev pub slot : Slots → ℕ → Entry
-slot slots place = as_entry (has slots.held place) (slice_index_or slots.entries place blank)
+slot slots place = narrowed slots.waiters place (as_entry (has slots.held place) (slice_index_or slots.entries place blank))
 
 -- one of its sources is this register
 abbrev pub waits_for : ℕ → Entry → Bool
@@ -34,9 +42,10 @@ IsMask test valid slots word = (p : ℕ) → has word p ≡ (has valid p && test
 -- each word is the mask of its test
 pub record InStep (b : Places) : Type 0 where
   pub supplied : IsMask is_supplied b.valid b.slots b.supplied
+  pub two : IsMask waits_for_two b.valid b.slots b.two
   pub guesses : IsMask is_guessed b.valid b.slots b.guesses
   pub contexts : (c : ℕ) → c < 8 → IsMask (is_of c) b.valid b.slots (slice_index b.contexts c)
-  pub waiters : (r : ℕ) → r < 480 → IsMask (waits_for r) b.valid b.slots (slice_index b.waiters r)
+  pub waiters : (r : ℕ) → r < 480 → IsMask (waits_for r) b.valid b.slots (slice_index b.slots.waiters r)
 
 -- the entries of these places
 abbrev pub listed : Slots → List ℕ → List Entry

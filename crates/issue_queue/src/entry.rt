@@ -1,10 +1,10 @@
 //! Entries of the queue, and what is shown of them.
 
-ghost use Rattle.std.specs.Prelude.{◌≡◌, ◌==◌, Bool, false, not, filter};
+ghost use Rattle.std.specs.Prelude.{◌≡◌, ◌==◌, ◌&&◌, ◌<◌, ◌++◌, ℕ, Bool, false};
 ghost use Rattle.std.specs.Option.{option_to_list};
-ghost use Rattle.std.specs.List.{filter_map};
-ghost use Rattle.issue_queue.specs.Entry.{is_named, is_supplied};
-ghost use Rattle.issue_queue.specs.IssueQueue.{awake, is_from};
+ghost use Rattle.std.specs.List.{filter_map, list_any};
+ghost use Rattle.issue_queue.specs.Entry.{are_two, is_named, is_supplied, waits_for_two};
+ghost use Rattle.issue_queue.specs.IssueQueue.{is_from};
 ghost use Rattle.issue_queue.specs.Views.{as_entry, entry_of, name_of, view_of, waits_of};
 
 use core_view::EntryId;
@@ -24,6 +24,24 @@ pub struct Waiting {
     pub speculative: bool,
     /// The physical registers of its sources that are not ready.
     pub sources: [Option<PhysicalRegister>; 2],
+}
+
+impl Waiting {
+    /// Whether it waits for nothing.
+    pub(crate) fn is_supplied(&self) -> bool
+        ensures { result ≡ is_supplied (entry_of self.now) }
+    {
+        let [first, second] = self.sources;
+        first.is_none() & second.is_none()
+    }
+
+    /// Whether it waits for two registers. It takes no jump.
+    pub(crate) fn waits_for_two(&self) -> bool
+        ensures { result ≡ waits_for_two (entry_of self.now) }
+    {
+        let [first, second] = self.sources;
+        are_two(first, second)
+    }
 }
 
 /// What an order sees of an entry.
@@ -144,21 +162,6 @@ impl Queued {
         self.context == context && self.stamp >= stamp
     }
 
-    /// Whether it waits for nothing.
-    pub(crate) fn is_supplied(&self) -> bool
-        ensures { result ≡ is_supplied (as_entry false self.now) }
-    {
-        self.first.is_none() && self.second.is_none()
-    }
-
-    /// Waits for a register no more.
-    pub(crate) fn wake(&mut self, register: PhysicalRegister)
-        ensures { (held : Bool) → as_entry held self.new ≡ awake register (as_entry held self.old) }
-    {
-        self.first = other_than(self.first, register);
-        self.second = other_than(self.second, register);
-    }
-
     /// Marks whether an older guessed entry of its context has not completed.
     pub(crate) fn set_speculative(&mut self, speculative: bool)
         ensures { (held : Bool) → as_entry held self.new ≡ record (as_entry held self.old) { speculative = speculative } }
@@ -167,12 +170,23 @@ impl Queued {
     }
 }
 
-/// The source, unless it is this register.
-fn other_than(
-    source: Option<PhysicalRegister>,
-    register: PhysicalRegister,
-) -> Option<PhysicalRegister>
-    ensures { option_to_list result ≡ filter (λ r. not (r == register)) (option_to_list source) }
+/// Whether there are two registers that differ.
+fn are_two(first: Option<PhysicalRegister>, second: Option<PhysicalRegister>) -> bool
+    ensures { result ≡ are_two (option_to_list first ++ option_to_list second) }
 {
-    source.filter(|waited| *waited != register)
+    let (first, waits) = told(first);
+    let (second, waits_too) = told(second);
+    waits & waits_too & (first != second)
+}
+
+/// The number of a source's register and true; any other and false where there is no source.
+#[inline(always)]
+pub(crate) fn told(source: Option<PhysicalRegister>) -> (usize, bool)
+    ensures bound { result.0 < 480 }
+    ensures told { (i : ℕ) → list_any (λ r. r == i) (option_to_list source) ≡ ((result.0 == i) && result.1) }
+{
+    match source {
+        Some(register) => (register.index(), true),
+        None => (0, false),
+    }
 }

@@ -1,19 +1,16 @@
 //! The 64 places of the queue, and words with a bit for each.
 
 ghost use Rattle.std.specs.Prelude.{◌≡◌, ℕ, ◌<◌, ◌≤◌, true, false, [], not, ◌&&◌, ◌||◌, ◌==◌, ◌^◌, slice_index, length, map, All, count_ones, if◌then◌else◌, IfSome, IfNone};
-ghost use Rattle.std.specs.List.{list_any};
-ghost use Rattle.std.specs.Option.{option_to_list};
 ghost use Rattle.word_mask.specs.Mask.{has};
 ghost use Rattle.issue_queue.specs.Board.{InStep, IsMask, is_of, slot, waits_for};
 ghost use Rattle.issue_queue.specs.Candidates.{is_at};
 ghost use Rattle.issue_queue.specs.Entry.{is_named, is_ready, is_supplied};
 ghost use Rattle.issue_queue.specs.IssueQueue.{awake, is_from, released};
 ghost use Rattle.issue_queue.specs.Stamps.{IsPlaceOfOldest};
-ghost use Rattle.issue_queue.specs.Views.{entry_of, name_of, waits_of};
+ghost use Rattle.issue_queue.specs.Views.{entry_of, name_of};
 
-use crate::entry::Queued;
 use crate::selecting::Candidate;
-use crate::slots::Slots;
+use crate::slots::{Slots, mark};
 use crate::{Waiting, stamps};
 use arrayvec::ArrayVec;
 use core_view::EntryId;
@@ -29,29 +26,12 @@ pub(crate) struct Places {
     pub(crate) valid: u64,
     /// Those that wait for nothing.
     pub(crate) supplied: u64,
+    /// Those that wait for two registers.
+    pub(crate) two: u64,
     /// Those of conditional branches and JALRs.
     pub(crate) guesses: u64,
     /// Those of each context.
     pub(crate) contexts: [u64; 8],
-    /// Those that wait for each physical register.
-    pub(crate) waiters: [u64; 480],
-}
-
-/// What a wake leaves: the word of places that wait for nothing, and how many places it looked at.
-#[derive(Drop)]
-struct Woken {
-    supplied: u64,
-    looked: usize,
-}
-
-/// Sets the bit of a place in the word of an index, or clears it.
-fn mark(words: &mut [u64], index: usize, place: usize, flag: bool)
-    requires index { index < length words.old }
-    requires place { place < 64 }
-    ensures words { (i p : ℕ) → has (slice_index words.new i) p ≡ (if (p == place) && (i == index) then flag else has (slice_index words.old i) p) }
-    ensures length { length words.new ≡ length words.old }
-{
-    words[index] = word_mask::assigned(words[index], place, flag);
 }
 
 /// The word with the bit of a place that it lacks, where told so.
@@ -76,82 +56,11 @@ fn unmark(words: &mut [u64; 8], word: u64)
     }
 }
 
-/// Sets the bit of a place in the word of a source, if there is one, or clears it.
-fn mark_source(words: &mut [u64], source: Option<PhysicalRegister>, place: usize, flag: bool)
-    requires length { length words.old ≡ 480 }
-    requires place { place < 64 }
-    ensures words { (i p : ℕ) → has (slice_index words.new i) p ≡ (if (p == place) && list_any (λ r. r == i) (option_to_list source) then flag else has (slice_index words.old i) p) }
-    ensures length { length words.new ≡ length words.old }
+/// The bits that one of two words has.
+fn either(left: u64, right: u64) -> u64
+    ensures { (p : ℕ) → has result p ≡ (has left p || has right p) }
 {
-    let Some(register) = source else {
-        return;
-    };
-    mark(words, register.index(), place, flag);
-}
-
-/// The same in the word of each source of an entry.
-fn mark_sources(words: &mut [u64; 480], entry: &Queued, place: usize, flag: bool)
-    requires { place < 64 }
-    ensures { (i p : ℕ) → has (slice_index words.new i) p ≡ (if (p == place) && list_any (λ r. r == i) (waits_of entry.now) then flag else has (slice_index words.old i) p) }
-{
-    let [first, second] = entry.sources();
-    mark_source(words, first, place, flag);
-    mark_source(words, second, place, flag);
-}
-
-/// The number of a source's register and true; any other and false where there is no source.
-#[inline(always)]
-fn told(source: Option<PhysicalRegister>) -> (usize, bool)
-    ensures bound { result.0 < 480 }
-    ensures told { (i : ℕ) → list_any (λ r. r == i) (option_to_list source) ≡ ((result.0 == i) && result.1) }
-{
-    match source {
-        Some(register) => (register.index(), true),
-        None => (0, false),
-    }
-}
-
-/// Sets the bit of a place in the word of a source, if there is one, without a jump.
-fn add_source(words: &mut [u64], source: Option<PhysicalRegister>, place: usize)
-    requires length { length words.old ≡ 480 }
-    requires place { place < 64 }
-    ensures words { (i p : ℕ) → has (slice_index words.new i) p ≡ (if (p == place) && list_any (λ r. r == i) (option_to_list source) then true else has (slice_index words.old i) p) }
-    ensures length { length words.new ≡ length words.old }
-{
-    let (index, waits) = told(source);
-    words[index] = word_mask::added(words[index], place, waits);
-}
-
-/// The same in the word of each source of an entry.
-fn add_sources(words: &mut [u64; 480], entry: &Queued, place: usize)
-    requires { place < 64 }
-    ensures { (i p : ℕ) → has (slice_index words.new i) p ≡ (if (p == place) && list_any (λ r. r == i) (waits_of entry.now) then true else has (slice_index words.old i) p) }
-{
-    let [first, second] = entry.sources();
-    add_source(words, first, place);
-    add_source(words, second, place);
-}
-
-/// Wakes the entries of a word's places.
-fn wake_places(slots: &mut Slots, supplied: u64, word: u64, register: PhysicalRegister) -> Woken
-    ensures slots { (p : ℕ) → slot slots.new p ≡ (if has word p then awake register (slot slots.old p) else slot slots.old p) }
-    ensures supplied { (p : ℕ) → has result.supplied p ≡ (if has word p then is_supplied (slot slots.new p) else has supplied p) }
-    ensures looked { result.looked ≡ count_ones word }
-{
-    let mut woken = supplied;
-    let mut left = word;
-    let mut looked = 0usize;
-    while left != 0 {
-        let place = word_mask::lowest(left);
-        left = word_mask::cleared(left, place);
-        slots.wake(place, register);
-        woken = word_mask::assigned(woken, place, slots.at(place).is_supplied());
-        looked += 1;
-    }
-    Woken {
-        supplied: woken,
-        looked,
-    }
+    left | right
 }
 
 impl Places {
@@ -164,9 +73,9 @@ impl Places {
             slots: Slots::new(),
             valid: 0,
             supplied: 0,
+            two: 0,
             guesses: 0,
             contexts: [0; 8],
-            waiters: [0; 480],
         }
     }
 
@@ -188,12 +97,11 @@ impl Places {
         ensures slots { (p : ℕ) → slot self.new.slots p ≡ (if p == place then entry_of waiting else slot self.old.slots p) }
     {
         self.slots.put(place, waiting);
-        let entry = self.slots.at(place);
         self.valid = word_mask::assigned(self.valid, place, true);
-        self.supplied = marked(self.supplied, place, entry.is_supplied());
-        self.guesses = marked(self.guesses, place, entry.is_guessed());
-        mark(&mut self.contexts, entry.context().index(), place, true);
-        add_sources(&mut self.waiters, entry, place);
+        self.supplied = word_mask::added(self.supplied, place, waiting.is_supplied());
+        self.two = word_mask::added(self.two, place, waiting.waits_for_two());
+        self.guesses = marked(self.guesses, place, waiting.guessed);
+        mark(&mut self.contexts, waiting.context.index(), place, true);
     }
 
     /// Frees a place. It leaves every word.
@@ -203,14 +111,15 @@ impl Places {
         requires set { has self.old.valid place ≡ true }
         ensures step { InStep self.new }
         ensures valid { (p : ℕ) → has self.new.valid p ≡ (has self.old.valid p && not (p == place)) }
-        ensures slots { self.new.slots ≡ self.old.slots }
+        ensures slots { (p : ℕ) → (p == place) ≡ false → slot self.new.slots p ≡ slot self.old.slots p }
     {
-        let entry = self.slots.at(place);
+        let context = self.slots.at(place).context();
+        self.slots.forget(place);
         self.valid = word_mask::cleared(self.valid, place);
         self.supplied = word_mask::assigned(self.supplied, place, false);
+        self.two = word_mask::assigned(self.two, place, false);
         self.guesses = word_mask::assigned(self.guesses, place, false);
-        mark(&mut self.contexts, entry.context().index(), place, false);
-        mark_sources(&mut self.waiters, entry, place, false);
+        mark(&mut self.contexts, context.index(), place, false);
     }
 
     /// No entry waits for a register any more. Gives how many places it looked at.
@@ -218,15 +127,13 @@ impl Places {
         requires step { InStep self.old }
         ensures step { InStep self.new }
         ensures valid { self.new.valid ≡ self.old.valid }
-        ensures slots { (p : ℕ) → has self.old.valid p ≡ true → slot self.new.slots p ≡ awake register (slot self.old.slots p) }
-        ensures looked { result ≡ count_ones (slice_index self.old.waiters register) }
+        ensures slots { (p : ℕ) → slot self.new.slots p ≡ awake register (slot self.old.slots p) }
+        ensures looked { result ≡ count_ones (slice_index self.old.slots.waiters register) }
     {
-        let index = register.index();
-        let word = self.waiters[index];
-        let woken = wake_places(&mut self.slots, self.supplied, word, register);
-        self.supplied = woken.supplied;
-        self.waiters[index] = 0;
-        woken.looked
+        let word = self.slots.wake(register);
+        self.supplied = either(self.supplied, word_mask::without(word, self.two));
+        self.two = word_mask::without(self.two, word);
+        word.count_ones() as usize
     }
 
     /// Holds the entry of a place, or lets it go.
@@ -283,7 +190,7 @@ impl Places {
         requires { InStep self.old }
         ensures step { InStep self.new }
         ensures valid { (p : ℕ) → has self.new.valid p ≡ (has self.old.valid p && not (is_from context stamp (slot self.old.slots p))) }
-        ensures slots { self.new.slots ≡ self.old.slots }
+        ensures slots { (p : ℕ) → has self.new.valid p ≡ true → slot self.new.slots p ≡ slot self.old.slots p }
     {
         let mut left = self.contexts[context.index()];
         while left != 0 {
@@ -364,6 +271,7 @@ impl Places {
     {
         self.valid = word_mask::without(self.valid, word);
         self.supplied = word_mask::without(self.supplied, word);
+        self.two = word_mask::without(self.two, word);
         self.guesses = word_mask::without(self.guesses, word);
         unmark(&mut self.contexts, word);
     }

@@ -1,37 +1,99 @@
 //! What stands at each of the 64 places of the queue.
 
-ghost use Rattle.std.specs.Prelude.{◌≡◌, ℕ, ◌<◌, ◌==◌, if◌then◌else◌};
+ghost use Rattle.std.specs.Prelude.{◌≡◌, ℕ, ◌<◌, ◌==◌, ◌&&◌, true, false, length, slice_index, slice_index_or, slice_set, if◌then◌else◌};
+ghost use Rattle.std.specs.List.{list_any};
+ghost use Rattle.std.specs.Option.{option_to_list};
 ghost use Rattle.word_mask.specs.Mask.{has};
-ghost use Rattle.issue_queue.specs.Board.{slot};
+ghost use Rattle.issue_queue.specs.Board.{blank, slot, waits_for};
 ghost use Rattle.issue_queue.specs.IssueQueue.{awake, released};
-ghost use Rattle.issue_queue.specs.Views.{as_entry, entry_of};
+ghost use Rattle.issue_queue.specs.Views.{entry_of, waits_of};
 
 use crate::Waiting;
-use crate::entry::Queued;
+use crate::entry::{Queued, told};
 use rename_file::PhysicalRegister;
 
-/// An entry at each place, and which of them are held.
+/// An entry at each place, which of them are held, and which wait for a register. An entry waits for those of its sources
+/// whose words have its place.
 #[derive(Drop)]
 pub(crate) struct Slots {
-    /// What stands at each place; at one that is free, what stood there last.
+    /// What entered at each place; at one that is free, what stood there last.
     entries: [Queued; 64],
     /// The places of loads that are held.
     held: u64,
+    /// The places that wait for each physical register.
+    waiters: [u64; 480],
+}
+
+/// Sets the bit of a place in the word of an index, or clears it.
+pub(crate) fn mark(words: &mut [u64], index: usize, place: usize, flag: bool)
+    requires index { index < length words.old }
+    requires place { place < 64 }
+    ensures words { (i p : ℕ) → has (slice_index words.new i) p ≡ (if (p == place) && (i == index) then flag else has (slice_index words.old i) p) }
+    ensures length { length words.new ≡ length words.old }
+{
+    words[index] = word_mask::assigned(words[index], place, flag);
+}
+
+/// Sets the bit of a place in the word of a source, if there is one, or clears it.
+fn mark_source(words: &mut [u64], source: Option<PhysicalRegister>, place: usize, flag: bool)
+    requires length { length words.old ≡ 480 }
+    requires place { place < 64 }
+    ensures words { (i p : ℕ) → has (slice_index words.new i) p ≡ (if (p == place) && list_any (λ r. r == i) (option_to_list source) then flag else has (slice_index words.old i) p) }
+    ensures length { length words.new ≡ length words.old }
+{
+    let Some(register) = source else {
+        return;
+    };
+    mark(words, register.index(), place, flag);
+}
+
+/// The same in the word of each source of an entry.
+fn mark_sources(words: &mut [u64; 480], entry: &Queued, place: usize, flag: bool)
+    requires { place < 64 }
+    ensures { (i p : ℕ) → has (slice_index words.new i) p ≡ (if (p == place) && list_any (λ r. r == i) (waits_of entry.now) then flag else has (slice_index words.old i) p) }
+{
+    let [first, second] = entry.sources();
+    mark_source(words, first, place, flag);
+    mark_source(words, second, place, flag);
+}
+
+/// Sets the bit of a place in the word of a source, if there is one, without a jump.
+fn add_source(words: &mut [u64], source: Option<PhysicalRegister>, place: usize)
+    requires length { length words.old ≡ 480 }
+    requires place { place < 64 }
+    ensures words { (i p : ℕ) → has (slice_index words.new i) p ≡ (if (p == place) && list_any (λ r. r == i) (option_to_list source) then true else has (slice_index words.old i) p) }
+    ensures length { length words.new ≡ length words.old }
+{
+    let (index, waits) = told(source);
+    words[index] = word_mask::added(words[index], place, waits);
+}
+
+/// The same in the word of each source of an entry.
+fn add_sources(words: &mut [u64; 480], entry: &Queued, place: usize)
+    requires { place < 64 }
+    ensures { (i p : ℕ) → has (slice_index words.new i) p ≡ (if (p == place) && list_any (λ r. r == i) (waits_of entry.now) then true else has (slice_index words.old i) p) }
+{
+    let [first, second] = entry.sources();
+    add_source(words, first, place);
+    add_source(words, second, place);
 }
 
 impl Slots {
     /// Blank entries, none of them held.
-    pub(crate) fn new() -> Slots {
+    pub(crate) fn new() -> Slots
+        ensures { (r : ℕ) → r < 480 → slice_index result.waiters r ≡ 0 }
+    {
         Slots {
             entries: [Queued::default(); 64],
             held: 0,
+            waiters: [0; 480],
         }
     }
 
-    /// The entry at a place, but for whether it is held.
+    /// What entered at a place.
     pub(crate) fn at(&self, place: usize) -> &Queued
         requires { place < 64 }
-        ensures { as_entry (has self.now.held place) result.now ≡ slot self.now place }
+        ensures { result.now ≡ slice_index_or self.now.entries place blank }
     {
         &self.entries[place]
     }
@@ -45,27 +107,43 @@ impl Slots {
 
     /// An entry enters at a place.
     pub(crate) fn put(&mut self, place: usize, waiting: Waiting)
-        requires { place < 64 }
-        ensures { (p : ℕ) → slot self.new p ≡ (if p == place then entry_of waiting else slot self.old p) }
+        requires bound { place < 64 }
+        ensures slots { (p : ℕ) → slot self.new p ≡ (if p == place then entry_of waiting else slot self.old p) }
+        ensures waiters { (r p : ℕ) → has (slice_index self.new.waiters r) p ≡ (if (p == place) && waits_for r (entry_of waiting) then true else has (slice_index self.old.waiters r) p) }
     {
-        self.entries[place] = Queued::new(waiting);
+        let entry = Queued::new(waiting);
+        add_sources(&mut self.waiters, &entry, place);
+        self.entries[place] = entry;
         self.held = word_mask::assigned(self.held, place, false);
     }
 
-    /// The entry at a place waits for a register no more.
-    pub(crate) fn wake(&mut self, place: usize, register: PhysicalRegister)
+    /// The bit of a place leaves the words of its entry's sources.
+    pub(crate) fn forget(&mut self, place: usize)
         requires { place < 64 }
-        ensures { (p : ℕ) → slot self.new p ≡ (if p == place then awake register (slot self.old p) else slot self.old p) }
+        ensures slots { (p : ℕ) → (p == place) ≡ false → slot self.new p ≡ slot self.old p }
+        ensures waiters { (r p : ℕ) → has (slice_index self.new.waiters r) p ≡ (if (p == place) && list_any (λ w. w == r) (waits_of (slice_index_or self.old.entries place blank)) then false else has (slice_index self.old.waiters r) p) }
     {
-        let mut entry = self.entries[place];
-        entry.wake(register);
-        self.entries[place] = entry;
+        let entry = self.entries[place];
+        mark_sources(&mut self.waiters, &entry, place, false);
+    }
+
+    /// No entry waits for a register any more. Gives the places of those that did.
+    pub(crate) fn wake(&mut self, register: PhysicalRegister) -> u64
+        ensures word { result ≡ slice_index self.old.waiters register }
+        ensures slots { (p : ℕ) → slot self.new p ≡ awake register (slot self.old p) }
+        ensures waiters { self.new.waiters ≡ slice_set self.old.waiters register 0 }
+    {
+        let index = register.index();
+        let word = self.waiters[index];
+        self.waiters[index] = 0;
+        word
     }
 
     /// Marks whether an older guessed entry of its context has not completed, of the entry at a place.
     pub(crate) fn set_speculative(&mut self, place: usize, speculative: bool)
         requires { place < 64 }
-        ensures { (p : ℕ) → slot self.new p ≡ (if p == place then record (slot self.old p) { speculative = speculative } else slot self.old p) }
+        ensures slots { (p : ℕ) → slot self.new p ≡ (if p == place then record (slot self.old p) { speculative = speculative } else slot self.old p) }
+        ensures waiters { self.new.waiters ≡ self.old.waiters }
     {
         let mut entry = self.entries[place];
         entry.set_speculative(speculative);
@@ -75,14 +153,16 @@ impl Slots {
     /// Holds the entry at a place, or lets it go.
     pub(crate) fn set_held(&mut self, place: usize, held: bool)
         requires { place < 64 }
-        ensures { (p : ℕ) → slot self.new p ≡ (if p == place then record (slot self.old p) { held = held } else slot self.old p) }
+        ensures slots { (p : ℕ) → slot self.new p ≡ (if p == place then record (slot self.old p) { held = held } else slot self.old p) }
+        ensures waiters { self.new.waiters ≡ self.old.waiters }
     {
         self.held = word_mask::assigned(self.held, place, held);
     }
 
     /// Lets all entries go.
     pub(crate) fn release(&mut self)
-        ensures { (p : ℕ) → slot self.new p ≡ released (slot self.old p) }
+        ensures slots { (p : ℕ) → slot self.new p ≡ released (slot self.old p) }
+        ensures waiters { self.new.waiters ≡ self.old.waiters }
     {
         self.held = 0;
     }

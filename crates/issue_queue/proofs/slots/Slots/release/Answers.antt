@@ -1,8 +1,8 @@
 use Rattle.std.proofs.Common.{ap, slice_index_or}
 use Rattle.word_mask.proofs.Laws.{has_zero}
-use Rattle.issue_queue.specs.Board.{blank}
+use Rattle.issue_queue.specs.Board.{blank, narrowed}
 use Rattle.issue_queue.specs.Views.{as_entry}
 use Rattle.issue_queue.proofs.slots.Slots.release.Goals as goal
 
-pub returns : goal.returns
-returns c = λ p. ap (λ held. as_entry held (slice_index_or c.args.self.now.entries p blank)) (has_zero p)
+pub returns-clause-slots : goal.returns-clause-slots
+returns-clause-slots c = λ p. ap (λ held. narrowed c.args.self.now.waiters p (as_entry held (slice_index_or c.args.self.now.entries p blank))) (has_zero p)

@@ -1,9 +1,6 @@
-use Rattle.std.proofs.Common.{refl, arith}
-use Rattle.std.proofs.lemmas.List.{get_or_default}
-use Rattle.issue_queue.specs.Board.{blank}
-use Rattle.issue_queue.specs.IssueQueue.{awake}
-use Rattle.issue_queue.proofs.Masks.{slot-changed}
+use Rattle.std.proofs.Common.{refl, arith, ap, set}
+use Rattle.issue_queue.proofs.Masks.{slot_woken}
 use Rattle.issue_queue.proofs.slots.Slots.wake.Goals as goal
 
-pub returns : goal.returns
-returns c = slot-changed (awake c.args.register) c.args.self.now _ c.args.place _ _ (omega arith) refl refl (get_or_default c.args.self.now.entries c.args.place c.index-self-place.result blank (omega arith)) c.wake.ensures
+pub returns-clause-slots : goal.returns-clause-slots
+returns-clause-slots c = slot_woken c.args.self.now _ c.args.register (omega arith) refl refl (ap (λ i. set c.args.self.now.waiters i 0) c.index-index.ensures.value)
