@@ -21,5 +21,6 @@ pub mod SourcesSeen
 pub mod StoreQueueReads
 pub mod EventsKept
 pub mod PlainNext
+pub mod AnyNext
 pub mod Laws
 pub mod Texts

@@ -9,7 +9,7 @@ ghost use Rattle.core_view.specs.Events.{due_at};
 ghost use Rattle.core_view.specs.declared.entry.Entry.{Entry};
 ghost use Rattle.core_view.specs.declared.entry.Execution.{Execution};
 ghost use Rattle.core_view.specs.Flight.{is_done, is_open_guess, is_missed_load, result_in};
-ghost use Rattle.core_view.specs.Operations.{is_store};
+ghost use Rattle.core_view.specs.Operations.{is_guessed, is_store};
 ghost use Rattle.flight.specs.Marked.{is_waiting, is_waiting_load, word_of};
 ghost use Rattle.flight.specs.Flights.{entry_in, empty_flight, fetched_one, renamed_one, issued_one, finished_one, retired_one, none_left, cut_at, execution_of, IsIssued, guesses_ahead, is_due, NoneFrom, IsNext, IsPlain};
 
@@ -117,17 +117,20 @@ impl<A: Allocator> Flight<A> {
         self.ring.get(place)
     }
 
-    /// An entry is fetched: it is the youngest.
-    pub fn push(&mut self, entry: Entry)
+    /// An entry is fetched, guessed or not: it is the youngest. That it is guessed is passed beside it, since what reads a
+    /// part of an entry has it copied in parts.
+    #[inline(always)]
+    pub fn push(&mut self, entry: Entry, guessed: bool)
         requires room { length self.old.entries < self.old.capacity }
         requires younger { All (λ e. e.stamp < entry.stamp) self.old.entries }
         requires fetched { entry.stage ≡ Fetched }
+        requires guessed { guessed ≡ is_guessed entry.operation }
         ensures { self.new ≡ fetched_one self.old entry }
     {
         push_in(&mut self.ring, entry);
         // How many there are is a bound of how many are guessed.
         let _len = self.ring.len();
-        self.guessed += usize::from(entry.operation.is_guessed());
+        self.guessed += usize::from(guessed);
     }
 
     /// The oldest fetched entry is renamed in a cycle.
@@ -394,7 +397,9 @@ fn push_in<A: Allocator>(ring: &mut Ring<Entry, A>, entry: Entry)
     requires younger { All (λ e. e.stamp < entry.stamp) ring.old.items }
     ensures { ring.new ≡ buffer (ring.old.items ++ entry ∷ []) ring.old.capacity }
 {
-    let _pushed = ring.push(entry);
+    let Ok(_pushed) = ring.push(entry) else {
+        unreachable!();
+    };
 }
 
 /// An entry takes the place of one with its stamp.
