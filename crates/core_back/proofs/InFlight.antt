@@ -1,11 +1,10 @@
 -- How many entries are in flight after an event of one context.
-use Rattle.std.proofs.Common.{◌≡◌, ℕ, zero, suc, ◌+◌, ◌<◌, ◌≤◌, Bool, true, false, List, [], ◌∷◌, length, get_or, refl, sym, ap, subst, ◌∙◌, arith}
-use Rattle.std.specs.Prelude.{◌==◌, set, sum_by}
-use Rattle.std.proofs.lemmas.List.{length-drop, length-map, length-set}
+use Rattle.std.proofs.Common.{◌≡◌, ℕ, zero, suc, ◌+◌, ◌<◌, Bool, List, [], ◌∷◌, length, get_or, refl, sym, ap, subst, ◌∙◌, arith}
+use Rattle.std.specs.Prelude.{set, sum_by}
+use Rattle.std.proofs.lemmas.List.{length-map, length-set}
 use Rattle.std.proofs.lemmas.List.Sums.{sum_by-cons, sum_by-set}
 use Rattle.std.proofs.lemmas.List.FromFn.{length-range_with_len}
-use Rattle.core_view.specs.declared.outcome.Step.{Step}
-use Rattle.core_view.specs.Events.{retire_event, issue_event, rename_event}
+use Rattle.core_view.specs.Events.{issue_event, rename_event}
 use Rattle.core_view.specs.declared.note.Issue.{Issue}
 use Rattle.core_view.specs.declared.note.EntryId.{EntryId}
 use Rattle.rv64_decode.specs.declared.insn.Insn.{Insn}
@@ -32,14 +31,6 @@ pub in_flight_after : {A : Type 0} (m : Inside A) (now v : Machine) (c : ℕ) (x
 in_flight_after m now v c x lost shows lt e fewer =
     let contexts : length (machine_of m).view.contexts ≡ length now.view.contexts = ap (λ (u : Machine). length u.view.contexts) shows in
     in_flight-with_context now v c x lost e (omega (arith, lt, contexts, length-map m.tracks.items (λ (t : Track). t.context))) fewer
-
--- a retirement takes one entry out of its flight, or all
-pub retire_fewer : (x : Context) (step : Step) → 0 < length x.flight → length (retire_event x step).flight + 1 ≤ length x.flight
-retire_fewer x step some = by (x.count + 1 == x.target) refl
-  where
-    by : (b : Bool) → (x.count + 1 == x.target) ≡ b → length (retire_event x step).flight + 1 ≤ length x.flight
-    by true q = rw q (omega (arith, some))
-    by false q = rw q (omega (arith, some, length-drop 1 x.flight))
 
 -- ---- issue, rename, fetch
 

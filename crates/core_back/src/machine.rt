@@ -28,6 +28,7 @@ use crate::selection::Selection;
 use arrayvec::ArrayVec;
 use branch_predict::Guess;
 use checkpoint::Mark;
+use core_context::events::Retired;
 use core_context::{Track, events};
 use core_profile::Profile;
 use core_view::{Entry, EntryId, Issue, Outcome, Status};
@@ -205,29 +206,23 @@ impl<A: Allocator> Machine<A> {
         track.is_head_done()
     }
 
-    /// The oldest entry of a context that has one.
-    pub fn oldest(&self, context: Ctx) -> &Entry
-        requires { 0 < length (context_at self.now context).flight }
-        ensures { result.now ≡ entry_at (context_at self.now context) 0 }
-    {
-        let track = &self.tracks[context.index()];
-        track.entry(0).unwrap()
-    }
-
-    /// The oldest entry of a context, which is done with a step, retires. At its target the context is parked, and its
-    /// younger entries are dropped. Returns how many these are.
-    pub fn retire(&mut self, context: Ctx) -> usize
+    /// The oldest entry of a context, which is done with a step, retires. A branch or jump is shown to the guess. At its
+    /// target the context is parked, and its younger entries are dropped.
+    #[inline(always)]
+    pub fn retire<G: Guess>(&mut self, guess: &mut G, context: Ctx) -> Retired
         requires done { IsGoing (first_done (context_at self.old context).flight) }
         requires idle { self.old.names ≡ [] }
         ensures retired { let x = context_at self.old context in
             self.new ≡ with_context self.old context (retire_event x (step_on (first_done x.flight))) }
-        ensures dropped { result + 1 + in_flight self.new ≡ in_flight self.old }
-        ensures bound { result ≤ 80 }
+        ensures stamp { result.stamp ≡ (entry_at (context_at self.old context) 0).stamp }
+        ensures dropped { result.dropped + 1 + in_flight self.new ≡ in_flight self.old }
+        ensures bound { result.dropped ≤ 80 }
+        ensures keeps { G.may_answer guess.new ≡ G.may_answer guess.old }
     {
         let track = &mut self.tracks[context.index()];
-        let before = track.len();
-        events::retire(&mut self.flow, track, context);
-        before - track.len() - 1
+        // How many there are bounds how many are dropped.
+        let _len = track.len();
+        events::retire(&mut self.flow, track, guess, context)
     }
 
     /// The oldest entry of a context, which is done with a stop, stops it. Returns how many entries are dropped: all.

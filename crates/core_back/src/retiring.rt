@@ -16,7 +16,7 @@ use crate::machine::Machine;
 use arrayvec::ArrayVec;
 use bit_vector::{next, push};
 use branch_predict::Guess;
-use core_view::{Entry, EntryId, Operation, Outcome};
+use core_view::{EntryId, Outcome};
 use join_law::Ctx;
 use std::alloc::Allocator;
 
@@ -119,17 +119,15 @@ fn retire_oldest<A: Allocator, G: Guess>(
         };
     }
     match machine.head(context) {
-        Some(Outcome::Goes { step }) => {
-            let oldest = machine.oldest(context);
-            learn(guess, context, oldest, step.next);
+        Some(Outcome::Goes { .. }) => {
+            let gone = machine.retire(guess, context);
             retired.push(EntryId {
                 context,
-                stamp: oldest.stamp,
+                stamp: gone.stamp,
             });
-            let cut = machine.retire(context);
             Turn {
                 left: left - 1,
-                dropped: cut,
+                dropped: gone.dropped,
                 goes_on: machine.is_head_done(context),
             }
         }
@@ -146,18 +144,6 @@ fn retire_oldest<A: Allocator, G: Guess>(
             dropped: 0,
             goes_on: false,
         },
-    }
-}
-
-/// A branch or jump that retired is shown to the guess, with the pc at which its context went on.
-fn learn<G: Guess>(guess: &mut G, context: Ctx, entry: &Entry, next: u64)
-    ensures { G.may_answer guess.new ≡ G.may_answer guess.old }
-{
-    if !entry.operation.may_turn() {
-        return;
-    }
-    if let Operation::Performs { insn } = entry.operation.operation() {
-        guess.learn(context, entry.pc, insn, next);
     }
 }
 

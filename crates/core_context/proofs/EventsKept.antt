@@ -1,7 +1,7 @@
 -- What each event keeps of its context, of the others, and of the sizes.
-use Rattle.std.proofs.Common.{◌≡◌, ◌≢◌, ℕ, ◌+◌, ◌<◌, Bool, true, false, length, take, None, Some, refl, sym, ap, subst, ◌∙◌, arith}
-use Rattle.std.specs.Prelude.{◌==◌}
-use Rattle.std.proofs.lemmas.Bool.{eq-eqb, ne_eqb}
+use Rattle.std.proofs.Common.{◌≡◌, ℕ, ◌+◌, ◌-◌, ◌<◌, Bool, true, false, [], length, take, drop, None, Some, refl, sym, ap, subst, ◌∙◌, arith}
+use Rattle.std.specs.Prelude.{◌==◌, if◌then◌else◌}
+use Rattle.std.proofs.lemmas.List.{length-drop}
 use Rattle.std.specs.List.{list_any}
 use Rattle.hart_step.specs.declared.stop.Stop.{Stop}
 use Rattle.core_view.specs.declared.outcome.Step.{Step}
@@ -9,12 +9,14 @@ use Rattle.core_view.specs.declared.outcome.Outcome.TheVariants.{Goes, Stops}
 use Rattle.core_view.specs.declared.entry.Execution.{Execution}
 use Rattle.core_view.specs.declared.entry.Stage.TheVariants.{Issued}
 use Rattle.core_view.specs.View.{entry_at}
-use Rattle.core_view.specs.declared.status.Status.TheVariants.{Running}
+use Rattle.core_view.specs.declared.status.Status.{Status}
+use Rattle.core_view.specs.declared.status.Status.TheVariants.{Running, Parked}
+use Rattle.core_view.specs.Outcomes.{moved}
 use Rattle.core_view.specs.Flight.{is_open, pc_past, is_open_guess, result_in}
 use Rattle.core_view.specs.Operations.{is_guessed, operation_at}
 use Rattle.core_view.specs.Events.{MayFollow}
 use Rattle.data_flow.specs.Flow.{Flow, lane, with_lane, with_result, without_oldest, cut_flow}
-use Rattle.core_context.specs.Track.{Track, is_last, retired, stopped, completed, cut_stamp, renamed_one, fetched_one}
+use Rattle.core_context.specs.Track.{Track, is_last, retired, stepped, parked, stopped, completed, cut_stamp, renamed_one, fetched_one}
 use Rattle.core_context.specs.Steps.{retired_flow, completed_flow, renamed_flow}
 use Rattle.core_context.specs.Heads.{first_done}
 use Rattle.core_context.specs.Cores.{front_room}
@@ -82,19 +84,43 @@ nothing_kept f c t = record {
 
 -- ---- by what a retirement does, at the target or before it
 
-module _ (f g : Flow) (c : ℕ) (t u : Track) (step : Step) (count target : ℕ) (lt : c < length f.lanes) (done : first_done t.context.flight ≡ Some (Goes step)) (committed : g ≡ with_lane f c (without_oldest (lane f c)))
-    (track : u ≡ retired t step) (count-is : count ≡ u.context.count) (target-is : target ≡ u.context.target) where
-  last_is : is_last t.context ≡ (count == target)
-  last_is = sym (ap (λ (v : Track). v.context.count == v.context.target) track) ∙ ap (λ k. k == u.context.target) (sym count-is) ∙ ap (λ k. count == k) (sym target-is)
+module _ (f g : Flow) (c : ℕ) (t u : Track) (step : Step) (lt : c < length f.lanes) (done : first_done t.context.flight ≡ Some (Goes step)) (committed : g ≡ with_lane f c (without_oldest (lane f c))) (track : u ≡ stepped t step) where
+  last_is : (u.context.count == u.context.target) ≡ is_last t.context
+  last_is = ap (λ (v : Track). v.context.count == v.context.target) track
 
-  by_last : (last : Bool) → (count == target) ≡ last → IsEventAt c f (retired_flow f c last) t (retired t step)
-  by_last last is = subst (λ b. IsEventAt c f (retired_flow f c b) t (retired t step)) (last_is ∙ is) (retire_kept f c t step lt done)
+  -- retired, by whether it was the last
+  abbrev retired_if : Bool → Track
+  retired_if last = record t {
+    context = record {
+      status = if last then Parked else Running;
+      count = t.context.count + 1;
+      target = t.context.target;
+      state = moved t.context.state (entry_at t.context 0).operation step;
+      flight = if last then [] else drop 1 t.context.flight;
+    };
+    renamed = if last then 0 else t.renamed - 1;
+  }
 
-  pub parked_kept : (h : Flow) → h ≡ cut_flow g c 0 → count ≡ target → IsEventAt c f h t u
-  parked_kept h cut at = rw (cut, committed, track) (by_last true (eq-eqb count target at))
+  by_last : (last : Bool) → is_last t.context ≡ last → IsEventAt c f (retired_flow f c last) t (retired t step)
+  by_last last is = subst (λ b. IsEventAt c f (retired_flow f c b) t (retired t step)) is (retire_kept f c t step lt done)
 
-  pub running_kept : count ≢ target → IsEventAt c f g t u
-  running_kept before = rw (committed, track) (by_last false (ne_eqb count target before))
+  pub parked_is : (v : Track) → v ≡ parked u → (u.context.count == u.context.target) ≡ true → v ≡ retired t step
+  parked_is v is at = is ∙ ap parked track ∙ ap retired_if (sym at ∙ last_is)
+
+  pub parked_kept : (v : Track) (h : Flow) → v ≡ parked u → h ≡ cut_flow g c 0 → (u.context.count == u.context.target) ≡ true → IsEventAt c f h t v
+  parked_kept v h is cut at = rw (cut, committed, parked_is v is at) (by_last true (sym last_is ∙ at))
+
+  pub running_is : t.context.status ≡ Running → (u.context.count == u.context.target) ≡ false → u ≡ retired t step
+  running_is running before = track ∙ ap (λ (s : Status). record (retired_if false) { context = record (retired_if false).context { status = s } }) running ∙ ap retired_if (sym before ∙ last_is)
+
+  pub running_kept : t.context.status ≡ Running → (u.context.count == u.context.target) ≡ false → IsEventAt c f g t u
+  running_kept running before = rw (committed, running_is running before) (by_last false (sym last_is ∙ before))
+
+  -- how many entries are left
+  pub one_fewer : length u.context.flight + 1 ≡ length t.context.flight
+  one_fewer =
+      let some = (is_first_done t.context.flight (Goes step) done).some in
+      omega (arith, some, ap (λ (v : Track). length v.context.flight) track, length-drop 1 t.context.flight)
 
 -- ---- a fetch
 

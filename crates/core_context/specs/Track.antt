@@ -8,6 +8,8 @@ use Rattle.core_view.specs.declared.outcome.Outcome.{Outcome}
 use Rattle.core_view.specs.declared.outcome.Outcome.TheVariants.{Goes, Stops}
 use Rattle.core_view.specs.declared.entry.Execution.{Execution}
 use Rattle.core_view.specs.declared.entry.Entry.{Entry}
+use Rattle.core_view.specs.declared.status.Status.TheVariants.{Parked}
+use Rattle.core_view.specs.Outcomes.{moved}
 use Rattle.core_view.specs.View.{Context, entry_at, first_context}
 use Rattle.core_view.specs.Events.{completed_entry, is_mispredicted, retire_event, stop_event, complete_event, kept_length, issue_event, rename_event, fetch_event, with_flight}
 
@@ -28,6 +30,21 @@ is_last c = c.count + 1 == c.target
 
 abbrev pub retired : Track → Step → Track
 retired t step = record t { context = retire_event t.context step; renamed = if is_last t.context then 0 else t.renamed - 1 }
+
+-- the oldest entry took its step and left, whether the context is at its target or not
+abbrev pub stepped : Track → Step → Track
+stepped t step = record t {
+  context = record t.context {
+    count = t.context.count + 1;
+    state = moved t.context.state (entry_at t.context 0).operation step;
+    flight = drop 1 t.context.flight;
+  };
+  renamed = t.renamed - 1;
+}
+
+-- the context is parked, and all entries are dropped
+abbrev pub parked : Track → Track
+parked t = record t { context = record t.context { status = Parked; flight = [] }; renamed = 0 }
 
 -- all entries are dropped
 abbrev pub emptied : Track → Track

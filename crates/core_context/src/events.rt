@@ -11,7 +11,7 @@ ghost use Rattle.core_view.specs.Operations.{destination_of, stops_at_fetch, is_
 ghost use Rattle.core_view.specs.Queues.{loads_of, stores_of};
 ghost use Rattle.core_view.specs.View.{entry_at};
 ghost use Rattle.core_context.specs.Issuable.{IsAnswered, IsMarked, AreLetGo, must_wait, AreHeld, HoldsNone};
-ghost use Rattle.core_context.specs.Track.{is_last, retired, stopped, completed, renamed_one};
+ghost use Rattle.core_context.specs.Track.{is_last, retired, parked, stopped, completed, renamed_one};
 ghost use Rattle.core_context.specs.Cores.{operands_of, AllFetched};
 ghost use Rattle.core_context.specs.Heads.{IsGoing, first_done, step_on};
 ghost use Rattle.flight.specs.Flights.{execution_of, is_due, IsIssued, IsNext};
@@ -20,6 +20,7 @@ ghost use Rattle.core_context.specs.Renamable.{IsPastFront, IsRenamable};
 ghost use Rattle.core_context.specs.Steps.{retired_flow, settled_flow, completed_flow, cut_by, renamed_flow, IsRemarked, AreTold};
 
 use crate::track::Track;
+use branch_predict::Guess;
 use core_profile::Profile;
 use core_view::Entry;
 use data_flow::{DataFlow, Operands};
@@ -27,18 +28,50 @@ use hart_step::Stop;
 use join_law::Ctx;
 use std::alloc::Allocator;
 
-/// The oldest entry, which is done with a step, retires.
-pub fn retire<A: Allocator>(flow: &mut DataFlow<A>, track: &mut Track<A>, context: Ctx)
+/// What retired: the stamp of the entry, and how many younger ones were dropped with it.
+#[derive(Clone, Copy)]
+pub struct Retired {
+    /// Its stamp.
+    pub stamp: u64,
+    /// How many entries were dropped: all that were left, where the context came to its target.
+    pub dropped: usize,
+}
+
+/// The oldest entry, which is done with a step, retires. A branch or jump is shown to the guess. At the target the
+/// context is parked.
+#[inline(always)]
+pub fn retire<A: Allocator, G: Guess>(
+    flow: &mut DataFlow<A>,
+    track: &mut Track<A>,
+    guess: &mut G,
+    context: Ctx,
+) -> Retired
     requires core { IsIdleCore flow.old context track.old }
     requires done { IsGoing (first_done track.old.context.flight) }
     ensures track { track.new ≡ retired track.old (step_on (first_done track.old.context.flight)) }
     ensures event { IsEventAt context flow.old flow.new track.old track.new }
+    ensures stamp { result.stamp ≡ (entry_at track.old.context 0).stamp }
+    ensures dropped { result.dropped + 1 + length track.new.context.flight ≡ length track.old.context.flight }
+    ensures keeps { G.may_answer guess.new ≡ G.may_answer guess.old }
 {
-    let destination = flow.commit(context);
-    track.retire(destination);
-    if track.count() == track.target() {
-        flow.cut_from(context, 0);
+    let stamp = track.step(guess, context);
+    flow.commit(context);
+    if track.is_at_target() {
+        let dropped = park(flow, track, context);
+        return Retired { stamp, dropped };
     }
+    Retired { stamp, dropped: 0 }
+}
+
+/// A context that has reached its target is parked, and its entries are dropped. Returns how many.
+#[inline(never)]
+fn park<A: Allocator>(flow: &mut DataFlow<A>, track: &mut Track<A>, context: Ctx) -> usize
+    ensures track { track.new ≡ parked track.old }
+    ensures flow { flow.new ≡ cut_flow flow.old context 0 }
+    ensures dropped { result ≡ length track.old.context.flight }
+{
+    flow.cut_from(context, 0);
+    track.park()
 }
 
 /// The oldest entry, which is done with a stop, stops the context.

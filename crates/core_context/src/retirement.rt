@@ -10,8 +10,10 @@ ghost use Rattle.hart_step.specs.State.{written};
 ghost use Rattle.core_context.specs.Heads.{IsGoing, done_outcome, step_on};
 
 use crate::decoded_memory::DecodedMemory;
-use core_view::{Access, Decoded, Entry, Outcome, Stage, Step};
+use branch_predict::Guess;
+use core_view::{Access, Decoded, Entry, Operation, Outcome, Stage, Step};
 use hart_step::Environment;
+use join_law::Ctx;
 use load_store_queue::LoadStoreQueue;
 use rv64_decode::Register;
 use std::alloc::Allocator;
@@ -71,5 +73,18 @@ pub(crate) fn retire_access<A: Allocator>(
     if accesses_memory(&oldest.operation) {
         memory.write(environment, access);
         queue.retire(oldest.stamp);
+    }
+}
+
+/// A branch or jump that retires is shown to the guess, with the pc at which its context goes on.
+#[inline(always)]
+pub(crate) fn learn<G: Guess>(guess: &mut G, context: Ctx, entry: &Entry, next: u64)
+    ensures { G.may_answer guess.new ≡ G.may_answer guess.old }
+{
+    if !entry.operation.may_turn() {
+        return;
+    }
+    if let Operation::Performs { insn } = entry.operation.operation() {
+        guess.learn(context, entry.pc, insn, next);
     }
 }

@@ -153,11 +153,6 @@ front_is found n e =
     split_front [] n e = absurd cc
     split_front (x ∷ ns) n e = cc
 
--- where its result goes
-pub front_destination : {A : Type 0} (d : Inside A) (now : Flow) (c k : ℕ) (found : Buffer Renamed) (n : Renamed) → Here d now c k found → IsFront found n → n.operands.destination ≡ (node_at (lane now c) 0).operands.destination
-front_destination d now c k found n h front =
-    sym (ap (λ (l : Lane). (node_at l 0).operands.destination) (h.lane_is ∙ ap (lane_of d.registers.cells (bank d.registers c)) front.is))
-
 -- what committing asks
 pub commit_asks : {A : Type 0} (d : Inside A) (now : Flow) (c k : ℕ) (found : Buffer Renamed) (n : Renamed) → Here d now c k found → IsFront found n → (n.operands.destination == 0) ≡ false
     → (0 < (node_at (lane now c) 0).operands.destination → IsSome (node_at (lane now c) 0).result) → IsCommittable d.registers.cells (bank d.registers c)

@@ -166,20 +166,18 @@ impl<A: Allocator> DataFlow<A> {
         self.queue.wake(destination);
     }
 
-    /// The oldest instruction of a context is committed. Returns the register that its result goes to.
-    pub fn commit(&mut self, context: Ctx) -> Register
+    /// The oldest instruction of a context is committed.
+    pub fn commit(&mut self, context: Ctx)
         requires some { 0 < length (lane self.old context).nodes }
         requires done { 0 < (node_at (lane self.old context) 0).operands.destination → IsSome (node_at (lane self.old context) 0).result }
         requires idle { waits_in self.old context (node_at (lane self.old context) 0).operands.stamp ≡ false }
-        ensures committed { self.new ≡ with_lane self.old context (without_oldest (lane self.old context)) }
-        ensures destination { result ≡ (node_at (lane self.old context) 0).operands.destination }
+        ensures { self.new ≡ with_lane self.old context (without_oldest (lane self.old context)) }
     {
         let ring = &mut self.renamed[context.index()];
         let oldest = ring.retire().unwrap();
         if oldest.has_destination() {
             self.registers.commit(context);
         }
-        oldest.operands.destination
     }
 
     /// The instructions of a context from a stamp on are forgotten, youngest first.

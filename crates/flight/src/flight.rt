@@ -186,7 +186,9 @@ impl<A: Allocator> Flight<A> {
         requires { 0 < self.old.renamed }
         ensures { self.new ≡ retired_one self.old }
     {
-        let _oldest = self.ring.retire();
+        let Some(_oldest) = self.ring.retire() else {
+            unreachable!();
+        };
         self.marks.retire();
         self.renamed -= 1;
         self.base = (self.base + 1) % 64;

@@ -155,7 +155,9 @@ impl<A: Allocator> Registers<A> {
     {
         let map = &mut self.maps[context.index()];
         let freed = map.commit();
-        let _ = self.free.try_push_back(freed);
+        let Ok(()) = self.free.try_push_back(freed) else {
+            unreachable!();
+        };
     }
 
     /// Takes the newest rename of the context off. Its register is free, and its name stands for what it stood for

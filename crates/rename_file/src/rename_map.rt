@@ -99,7 +99,10 @@ impl<A: Allocator> RenameMap<A> {
         ensures map { self.new ≡ committed_bank self.old }
         ensures freed { result ≡ slice_index self.old.committed (first self.old).rd }
     {
-        let Rename { rd, register } = self.changes.pop_front().unwrap().rename;
+        let Some(oldest) = self.changes.pop_front() else {
+            unreachable!();
+        };
+        let Rename { rd, register } = oldest.rename;
         let freed = self.committed[rd as usize];
         self.committed[rd as usize] = register;
         freed

@@ -1,12 +1,10 @@
-use Rattle.std.proofs.Common.{◌≡◌, ◌+◌, ◌≤◌, length, refl, ap, sym, subst, ◌∙◌, arith}
-use Rattle.core_view.specs.declared.outcome.Outcome.TheVariants.{Goes}
-use Rattle.core_view.specs.View.{Context}
+use Rattle.std.proofs.Common.{◌≡◌, length, refl, ap, sym, subst, ◌∙◌, arith}
+use Rattle.core_view.specs.View.{Context, entry_at}
 use Rattle.core_view.specs.Events.{retire_event}
 use Rattle.core_context.specs.Track.{Track}
 use Rattle.core_back.specs.Machine.{context_at}
 use Rattle.core_context.specs.Heads.{IsGoing, first_done, step_on}
-use Rattle.core_context.proofs.Laws.{is_first_done}
-use Rattle.core_back.proofs.InFlight.{in_flight_after, retire_fewer}
+use Rattle.core_back.proofs.InFlight.{in_flight_after}
 use Rattle.core_back.proofs.Machines.{at_context, is_idle, machine_after_event, shown_after}
 use Rattle.core_back.proofs.machine.Machine.retire.Goals as goal
 
@@ -29,44 +27,23 @@ invariant_of-self g c =
 pub returns-clause-retired : goal.returns-clause-retired
 returns-clause-retired g c =
     let h = at_context c.self.inside c.args.self.now c.args.context c.index.result c.index_mut-track.result.now c.self.view_is c.self.invariant (omega (arith, c.index.ensures)) c.index.ensures.value c.index_mut-track.ensures.value in
-    let d = is_first_done c.index_mut-track.result.now.context.flight (Goes (step_on (first_done c.index_mut-track.result.now.context.flight))) (subst (λ (x : Context). IsGoing (first_done x.flight)) (sym h.context) c.requires.done) in
     shown_after c.self.inside c.args.self.now c.args.context c.index.result c.retire.new.track _ c.self.view_is c.index.ensures.value (ap (λ (t : Track). t.context) c.retire.ensures.track ∙ ap (λ (x : Context). retire_event x (step_on (first_done x.flight))) h.context)
 
-pub overflow_sub-result : goal.overflow_sub-result
-overflow_sub-result g c =
+pub returns-clause-stamp : goal.returns-clause-stamp
+returns-clause-stamp g c =
     let h = at_context c.self.inside c.args.self.now c.args.context c.index.result c.index_mut-track.result.now c.self.view_is c.self.invariant (omega (arith, c.index.ensures)) c.index.ensures.value c.index_mut-track.ensures.value in
-    let d = is_first_done c.index_mut-track.result.now.context.flight (Goes (step_on (first_done c.index_mut-track.result.now.context.flight))) (subst (λ (x : Context). IsGoing (first_done x.flight)) (sym h.context) c.requires.done) in
-    let old : length c.index_mut-track.result.now.context.flight ≡ length (context_at c.args.self.now c.args.context).flight = ap (λ (x : Context). length x.flight) h.context in
-    let new : length c.retire.new.track.context.flight ≡ length (retire_event (context_at c.args.self.now c.args.context) (step_on (first_done (context_at c.args.self.now c.args.context).flight))).flight =
-    ap (λ (t : Track). length t.context.flight) c.retire.ensures.track ∙ ap (λ (x : Context). length (retire_event x (step_on (first_done x.flight))).flight) h.context in
-    let fewer : length (retire_event (context_at c.args.self.now c.args.context) (step_on (first_done (context_at c.args.self.now c.args.context).flight))).flight + 1 ≤ length (context_at c.args.self.now c.args.context).flight =
-    retire_fewer (context_at c.args.self.now c.args.context) (step_on (first_done (context_at c.args.self.now c.args.context).flight)) (omega (arith, d.some, old)) in
-    omega (arith, c.len-before.ensures.value, c.len.ensures.value, old, new, fewer)
-
-pub overflow_sub-result-2 : goal.overflow_sub-result-2
-overflow_sub-result-2 g c =
-    let h = at_context c.self.inside c.args.self.now c.args.context c.index.result c.index_mut-track.result.now c.self.view_is c.self.invariant (omega (arith, c.index.ensures)) c.index.ensures.value c.index_mut-track.ensures.value in
-    let d = is_first_done c.index_mut-track.result.now.context.flight (Goes (step_on (first_done c.index_mut-track.result.now.context.flight))) (subst (λ (x : Context). IsGoing (first_done x.flight)) (sym h.context) c.requires.done) in
-    let old : length c.index_mut-track.result.now.context.flight ≡ length (context_at c.args.self.now c.args.context).flight = ap (λ (x : Context). length x.flight) h.context in
-    let new : length c.retire.new.track.context.flight ≡ length (retire_event (context_at c.args.self.now c.args.context) (step_on (first_done (context_at c.args.self.now c.args.context).flight))).flight =
-    ap (λ (t : Track). length t.context.flight) c.retire.ensures.track ∙ ap (λ (x : Context). length (retire_event x (step_on (first_done x.flight))).flight) h.context in
-    let fewer : length (retire_event (context_at c.args.self.now c.args.context) (step_on (first_done (context_at c.args.self.now c.args.context).flight))).flight + 1 ≤ length (context_at c.args.self.now c.args.context).flight =
-    retire_fewer (context_at c.args.self.now c.args.context) (step_on (first_done (context_at c.args.self.now c.args.context).flight)) (omega (arith, d.some, old)) in
-    omega (arith, c.len-before.ensures.value, c.len.ensures.value, old, new, fewer)
+    c.retire.ensures.stamp ∙ ap (λ (x : Context). (entry_at x 0).stamp) h.context
 
 pub returns-clause-dropped : goal.returns-clause-dropped
 returns-clause-dropped g c =
     let h = at_context c.self.inside c.args.self.now c.args.context c.index.result c.index_mut-track.result.now c.self.view_is c.self.invariant (omega (arith, c.index.ensures)) c.index.ensures.value c.index_mut-track.ensures.value in
-    let d = is_first_done c.index_mut-track.result.now.context.flight (Goes (step_on (first_done c.index_mut-track.result.now.context.flight))) (subst (λ (x : Context). IsGoing (first_done x.flight)) (sym h.context) c.requires.done) in
     let old : length c.index_mut-track.result.now.context.flight ≡ length (context_at c.args.self.now c.args.context).flight = ap (λ (x : Context). length x.flight) h.context in
     let new : length c.retire.new.track.context.flight ≡ length (retire_event (context_at c.args.self.now c.args.context) (step_on (first_done (context_at c.args.self.now c.args.context).flight))).flight =
     ap (λ (t : Track). length t.context.flight) c.retire.ensures.track ∙ ap (λ (x : Context). length (retire_event x (step_on (first_done x.flight))).flight) h.context in
-    let fewer : length (retire_event (context_at c.args.self.now c.args.context) (step_on (first_done (context_at c.args.self.now c.args.context).flight))).flight + 1 ≤ length (context_at c.args.self.now c.args.context).flight =
-    retire_fewer (context_at c.args.self.now c.args.context) (step_on (first_done (context_at c.args.self.now c.args.context).flight)) (omega (arith, d.some, old)) in
     in_flight_after c.self.inside c.args.self.now _ c.args.context (retire_event (context_at c.args.self.now c.args.context) (step_on (first_done (context_at c.args.self.now c.args.context).flight))) _ c.self.view_is h.in_tracks (returns-clause-retired g c)
-    (omega (arith, c.len-before.ensures.value, c.len.ensures.value, old, new, fewer))
+    (omega (arith, c.retire.ensures.dropped, old, new))
 
 pub returns-clause-bound : goal.returns-clause-bound
 returns-clause-bound g c =
     let h = at_context c.self.inside c.args.self.now c.args.context c.index.result c.index_mut-track.result.now c.self.view_is c.self.invariant (omega (arith, c.index.ensures)) c.index.ensures.value c.index_mut-track.ensures.value in
-    let most = c.self.inside.profile.reorder_buffer_in_range.1 in omega (arith, c.len-before.ensures.bound, h.core.capacity, most)
+    let most = c.self.inside.profile.reorder_buffer_in_range.1 in omega (arith, c.len-len.ensures.value, c.len-len.ensures.bound, c.retire.ensures.dropped, h.core.capacity, most)

@@ -2,7 +2,7 @@ use Rattle.std.proofs.Common.{arith, ap, sym, refl, ◌∙◌}
 use Rattle.rename_file.specs.File.{File}
 use Rattle.data_flow.proofs.Places.{here, eight}
 use Rattle.data_flow.proofs.Sources.{not_true, not_false, there_is}
-use Rattle.data_flow.proofs.Steps.{front_is, front_destination, commit_asks, commit_leaves, one_commit, no_commit}
+use Rattle.data_flow.proofs.Steps.{front_is, commit_asks, commit_leaves, one_commit, no_commit}
 use Rattle.data_flow.proofs.data_flow.DataFlow.commit.Goals as goal
 
 pub index_mut-ring-requires : goal.index_mut-ring-requires
@@ -41,28 +41,16 @@ invariant_of-self-else-has_destination g c =
     c.self.view_is c.self.invariant h front c.requires.idle c.retire.ensures.rest c.retire.ensures.growing (no_commit c.self.inside c.args.context _ (not_false _ (sym c.if-has_destination.ensures))) refl in
     record { file = c.self.invariant.file; tied = k.tied; waiting = k.waiting }
 
-pub returns-then-has_destination-clause-committed : goal.returns-then-has_destination-clause-committed
-returns-then-has_destination-clause-committed g c =
+pub returns-then-has_destination : goal.returns-then-has_destination
+returns-then-has_destination g c =
     let h = here c.self.inside c.args.self.now c.args.context c.index.result c.index_mut-ring.result.now c.self.view_is c.self.invariant c.index.ensures.value c.index.ensures.bound c.index_mut-ring.ensures.value in
     let front = front_is c.index_mut-ring.result.now c.unwrap-oldest.result (sym c.retire.ensures.oldest ∙ c.unwrap-oldest.ensures) in
     (commit_leaves c.self.inside c.args.self.now c.args.context c.index.result c.index_mut-ring.result.now c.retire.new.self c.unwrap-oldest.result c.commit.new.self
     c.self.view_is c.self.invariant h front c.requires.idle c.retire.ensures.rest c.retire.ensures.growing (one_commit c.self.inside c.args.context _ c.commit.new.self (not_true _ (sym c.if-has_destination.ensures)) c.commit.ensures.committed) (ap (λ (f : File). f.cells) c.commit.ensures.committed)).shows
 
-pub returns-else-has_destination-clause-committed : goal.returns-else-has_destination-clause-committed
-returns-else-has_destination-clause-committed g c =
+pub returns-else-has_destination : goal.returns-else-has_destination
+returns-else-has_destination g c =
     let h = here c.self.inside c.args.self.now c.args.context c.index.result c.index_mut-ring.result.now c.self.view_is c.self.invariant c.index.ensures.value c.index.ensures.bound c.index_mut-ring.ensures.value in
     let front = front_is c.index_mut-ring.result.now c.unwrap-oldest.result (sym c.retire.ensures.oldest ∙ c.unwrap-oldest.ensures) in
     (commit_leaves c.self.inside c.args.self.now c.args.context c.index.result c.index_mut-ring.result.now c.retire.new.self c.unwrap-oldest.result c.self.inside.registers
     c.self.view_is c.self.invariant h front c.requires.idle c.retire.ensures.rest c.retire.ensures.growing (no_commit c.self.inside c.args.context _ (not_false _ (sym c.if-has_destination.ensures))) refl).shows
-
-pub returns-then-has_destination-clause-destination : goal.returns-then-has_destination-clause-destination
-returns-then-has_destination-clause-destination g c =
-    let h = here c.self.inside c.args.self.now c.args.context c.index.result c.index_mut-ring.result.now c.self.view_is c.self.invariant c.index.ensures.value c.index.ensures.bound c.index_mut-ring.ensures.value in
-    let front = front_is c.index_mut-ring.result.now c.unwrap-oldest.result (sym c.retire.ensures.oldest ∙ c.unwrap-oldest.ensures) in
-    front_destination c.self.inside c.args.self.now c.args.context c.index.result c.index_mut-ring.result.now c.unwrap-oldest.result h front
-
-pub returns-else-has_destination-clause-destination : goal.returns-else-has_destination-clause-destination
-returns-else-has_destination-clause-destination g c =
-    let h = here c.self.inside c.args.self.now c.args.context c.index.result c.index_mut-ring.result.now c.self.view_is c.self.invariant c.index.ensures.value c.index.ensures.bound c.index_mut-ring.ensures.value in
-    let front = front_is c.index_mut-ring.result.now c.unwrap-oldest.result (sym c.retire.ensures.oldest ∙ c.unwrap-oldest.ensures) in
-    front_destination c.self.inside c.args.self.now c.args.context c.index.result c.index_mut-ring.result.now c.unwrap-oldest.result h front

@@ -9,5 +9,5 @@ use Rattle.flight.proofs.flight.Flight.retire.Goals as goal
 pub invariant_of-self : goal.invariant_of-self
 invariant_of-self g c =
     let some : 0 < c.self.inside.renamed = omega (arith, c.requires, ap (λ (f : Flight). f.renamed) c.self.view_is) in
-    let left = ap (λ (b : Buffer Entry). b.items) c.retire-oldest.ensures.rest in
-    (omega arith, flight-retired _ _ _ _ _ _ _ c.self.invariant.1 some left c.retire.ensures, rw left (c.self.invariant.2 ∙ sym (guesses-retired c.self.inside.renamed c.self.inside.ring.items some)))
+    let left = ap (λ (b : Buffer Entry). b.items) c.retire.ensures.rest in
+    (omega arith, flight-retired _ _ _ _ _ _ _ c.self.invariant.1 some left c.retire-2.ensures, rw left (c.self.invariant.2 ∙ sym (guesses-retired c.self.inside.renamed c.self.inside.ring.items some)))
