@@ -275,13 +275,56 @@ fn rename_oldest<A: Allocator>(
     ensures track { track.new ≡ renamed_one cycle track.old }
     ensures flow { flow.new ≡ renamed_flow flow.old context (entry_at track.old.context track.old.renamed) (list_any is_open_guess_entry (take track.old.renamed track.old.context.flight)) }
 {
+    if track.next_stops() {
+        rename_stop(flow, track, context, cycle);
+    } else {
+        rename_waiting(flow, track, context);
+    }
+}
+
+/// The same of an entry that stops at fetch: it doesn't wait.
+// It is rare, and stays out of the way of the others.
+#[inline(never)]
+fn rename_stop<A: Allocator>(flow: &mut DataFlow<A>, track: &mut Track<A>, context: Ctx, cycle: u64)
+    requires some { track.old.renamed < length track.old.context.flight }
+    requires few { track.old.renamed < 64 }
+    requires stops { stops_at_fetch (entry_at track.old.context track.old.renamed).operation ≡ true }
+    requires younger { All (λ n. n.operands.stamp < (entry_at track.old.context track.old.renamed).stamp) (lane flow.old context).nodes }
+    requires room { length (lane flow.old context).nodes < (lane flow.old context).room }
+    requires free { 0 < destination_of (entry_at track.old.context track.old.renamed).operation → taken flow.old < flow.old.extra }
+    requires fetched { AllFetched (drop track.old.renamed track.old.context.flight) }
+    requires load { is_load (entry_at track.old.context track.old.renamed).operation ≡ true → length (loads_of track.old.context.flight) < track.old.load_places }
+    requires store { is_store (entry_at track.old.context track.old.renamed).operation ≡ true → length (stores_of track.old.context.flight) < track.old.store_places }
+    ensures track { track.new ≡ renamed_one cycle track.old }
+    ensures flow { (speculative : Bool) → flow.new ≡ renamed_flow flow.old context (entry_at track.old.context track.old.renamed) speculative }
+{
     let entry = track.entry_at(track.renamed_count());
-    let speculative = track.has_uncompleted_guess();
     track.rename(cycle);
     flow.rename(context, operands(&entry));
-    if !entry.operation.stops_at_fetch() {
-        flow.wait(context, entry.operation.is_guessed(), speculative);
-    }
+}
+
+/// The same of an entry that doesn't stop at fetch: it waits for issue.
+#[inline(always)]
+fn rename_waiting<A: Allocator>(flow: &mut DataFlow<A>, track: &mut Track<A>, context: Ctx)
+    requires some { track.old.renamed < length track.old.context.flight }
+    requires few { track.old.renamed < 64 }
+    requires goes { stops_at_fetch (entry_at track.old.context track.old.renamed).operation ≡ false }
+    requires younger { All (λ n. n.operands.stamp < (entry_at track.old.context track.old.renamed).stamp) (lane flow.old context).nodes }
+    requires room { length (lane flow.old context).nodes < (lane flow.old context).room }
+    requires free { 0 < destination_of (entry_at track.old.context track.old.renamed).operation → taken flow.old < flow.old.extra }
+    requires fresh { waits_in flow.old context (entry_at track.old.context track.old.renamed).stamp ≡ false }
+    requires place { length flow.old.waiters < flow.old.places }
+    requires fetched { AllFetched (drop track.old.renamed track.old.context.flight) }
+    requires load { is_load (entry_at track.old.context track.old.renamed).operation ≡ true → length (loads_of track.old.context.flight) < track.old.load_places }
+    requires store { is_store (entry_at track.old.context track.old.renamed).operation ≡ true → length (stores_of track.old.context.flight) < track.old.store_places }
+    ensures track { (cycle : ℕ) → track.new ≡ renamed_one cycle track.old }
+    ensures flow { flow.new ≡ renamed_flow flow.old context (entry_at track.old.context track.old.renamed) (list_any is_open_guess_entry (take track.old.renamed track.old.context.flight)) }
+{
+    let entry = track.entry_at(track.renamed_count());
+    let speculative = track.has_uncompleted_guess();
+    let guessed = entry.operation.is_guessed();
+    track.rename_waiting();
+    flow.rename_waiting(context, operands(&entry), guessed, speculative);
 }
 
 /// The registers that an entry names.

@@ -15,3 +15,4 @@ pub mod Renames
 pub mod Cuts
 pub mod Queued
 pub mod Starts
+pub mod RenamedWaits

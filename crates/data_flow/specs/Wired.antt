@@ -1,5 +1,5 @@
 -- How physical registers stand for values.
-use Rattle.std.specs.Prelude.{◌≡◌, ℕ, ◌-◌, ◌<◌, List, [], ◌∷◌, ◌++◌, length, map, get_or, slice_index, All, Option, None, is_some, unwrap_or, ◌==◌, if◌then◌else◌}
+use Rattle.std.specs.Prelude.{◌≡◌, ℕ, ◌-◌, ◌<◌, Bool, false, List, [], ◌∷◌, ◌++◌, length, map, get_or, slice_index, All, Option, None, is_some, unwrap_or, ◌==◌, if◌then◌else◌}
 use Rattle.rename_file.specs.declared.rename_map.Rename.{Rename}
 use Rattle.rename_file.specs.File.{Bank, IsFile}
 use Rattle.reorder_buffer.specs.Growing.{IsGrowing}
@@ -75,6 +75,17 @@ no_renamed = record { operands = record { stamp = 0; destination = 0; first = 0;
 -- a register has no value yet
 abbrev pub unready : List (Option ℕ) → ℕ → List ℕ
 unready cells p = if is_some (cell_of cells p) then [] else p ∷ []
+
+-- the entry of an instruction that waits for those of its registers
+abbrev pub waiting_entry : List (Option ℕ) → ℕ → Renamed → Bool → Bool → Entry
+waiting_entry cells c n guessed speculative = record {
+  stamp = n.operands.stamp;
+  context = c;
+  guessed = guessed;
+  speculative = speculative;
+  held = false;
+  waits = unready cells n.first ++ unready cells n.second;
+}
 
 -- an entry of the queue waits for those registers of its instruction that have no value yet
 pub record IsWaiting (cells : List (Option ℕ)) (buffers : List (Buffer Renamed)) (e : Entry) : Type 0 where

@@ -1,14 +1,18 @@
 //! The data flow of eight contexts: registers, renaming, and the queue of what waits for its sources.
 
 ghost use Rattle.std.specs.Prelude.{◌≡◌, ℕ, ◌+◌, ◌-◌, ◌<◌, ◌≤◌, ◌↔◌, [], ◌∷◌, ◌++◌, false, length, map, option_map, All, IfOk, OnErr, IsOk, IsSome, IsTrue, Err, slice_set, count_by, ◌==◌, ◌&&◌};
-ghost use Rattle.std.specs.Option.{option_to_list};
-ghost use Rattle.circular_buffer.specs.Buffer.{last_item};
+ghost use Rattle.std.specs.Option.{ForSome, option_to_list};
+ghost use Rattle.circular_buffer.specs.Buffer.{buffer, last_item};
+ghost use Rattle.reorder_buffer.specs.Growing.{IsGrowing};
+ghost use Rattle.std.specs.List.{list_any};
+ghost use Rattle.issue_queue.specs.Entry.{is_named};
 ghost use Rattle.issue_queue.specs.Views.{view_of};
 ghost use Rattle.issue_queue.specs.IsSelected.{IsSelected};
 ghost use Rattle.issue_queue.specs.Stamps.{place_of_oldest};
 ghost use Rattle.rename_file.specs.File.{IsFile, bank};
-ghost use Rattle.data_flow.specs.Banks.{bank_with, CellsWith};
-ghost use Rattle.data_flow.specs.Wired.{unready};
+ghost use Rattle.data_flow.specs.declared.operands.Renamed.{Renamed};
+ghost use Rattle.data_flow.specs.Banks.{bank_with, CellsWith, IsNamed};
+ghost use Rattle.data_flow.specs.Wired.{unready, waiting_entry};
 ghost use Rattle.data_flow.specs.Flow.{lane, node_at, sources_at, with_lane, with_register, with_node, with_result, without_oldest, cut_from, without_newest, is_waiter_from, cut_flow, takes, taken, waits_in, with_speculative, with_held, released, queued, first_flow};
 
 use crate::operands::{Operands, Renamed};
@@ -148,6 +152,45 @@ impl<A: Allocator> DataFlow<A> {
         else {
             unreachable!();
         };
+    }
+
+    /// One more instruction of a context, the youngest, which waits for issue: `rename` and `wait` in one.
+    // What it reads is at hand here, where `wait` has to look it up.
+    #[inline(always)]
+    pub fn rename_waiting(
+        &mut self,
+        context: Ctx,
+        operands: Operands,
+        guessed: bool,
+        speculative: bool,
+    )
+        requires younger { All (λ n. n.operands.stamp < operands.stamp) (lane self.old context).nodes }
+        requires room { length (lane self.old context).nodes < (lane self.old context).room }
+        requires free { 0 < operands.destination → taken self.old < self.old.extra }
+        requires fresh { waits_in self.old context operands.stamp ≡ false }
+        requires place { length self.old.waiters < self.old.places }
+        ensures { self.new ≡ record (with_lane self.old context (with_node (lane self.old context) operands)) {
+          waiters = self.old.waiters ++ record {
+            stamp = operands.stamp;
+            context = context;
+            guessed = guessed;
+            speculative = speculative;
+            held = false;
+          } ∷ [];
+        } }
+    {
+        let newest = named(&mut self.registers, context, operands);
+        let queue = &mut self.queue;
+        put_in(
+            queue,
+            &self.registers,
+            context,
+            &newest,
+            guessed,
+            speculative,
+        );
+        let ring = &mut self.renamed[context.index()];
+        push_in(ring, newest);
     }
 
     /// The instruction at a place has its result.
@@ -306,6 +349,68 @@ fn rename_in<A: Allocator>(
         unreachable!();
     };
     register
+}
+
+/// The physical registers of one more instruction.
+#[inline(always)]
+fn named<A: Allocator>(registers: &mut Registers<A>, context: Ctx, operands: Operands) -> Renamed
+    requires { 0 < operands.destination → 0 < length registers.old.free }
+    ensures new { IsNamed registers.old context operands result }
+    ensures banks { registers.new.banks ≡ slice_set registers.old.banks context (bank_with (bank registers.old context) operands.destination result.destination) }
+    ensures cells { CellsWith registers.old registers.new operands.destination result.destination }
+    ensures file { IsFile registers.old → IsFile registers.new }
+{
+    let first = registers.source(context, operands.first.index());
+    let second = registers.source(context, operands.second.index());
+    let destination = rename_in(registers, context, operands.destination);
+    Renamed {
+        operands,
+        destination,
+        first,
+        second,
+    }
+}
+
+/// One more instruction that waits, in a queue with room.
+#[inline(always)]
+fn put_in<A: Allocator>(
+    queue: &mut Queue,
+    registers: &Registers<A>,
+    context: Ctx,
+    renamed: &Renamed,
+    guessed: bool,
+    speculative: bool,
+)
+    requires first { renamed.now.first < length registers.now.cells }
+    requires second { renamed.now.second < length registers.now.cells }
+    requires fresh { list_any (is_named context renamed.now.operands.stamp) queue.old.entries ≡ false }
+    requires room { length queue.old.entries < queue.old.capacity }
+    ensures { queue.new ≡ record queue.old { entries = queue.old.entries ++ waiting_entry registers.now.cells context renamed.now guessed speculative ∷ [] } }
+{
+    let first = awaited(registers, renamed.first);
+    let second = awaited(registers, renamed.second);
+    let Ok(()) = queue.put(Waiting {
+        context,
+        stamp: renamed.operands.stamp,
+        guessed,
+        speculative,
+        sources: [first, second],
+    }) else {
+        unreachable!();
+    };
+}
+
+/// One more instruction, the youngest, in a ring with room.
+#[inline(always)]
+fn push_in<A: Allocator>(ring: &mut Ring<Renamed, A>, renamed: Renamed)
+    requires room { length ring.old.items < ring.old.capacity }
+    requires younger { ForSome (last_item ring.old.items) (λ n. n.operands.stamp < renamed.operands.stamp) }
+    ensures pushed { ring.new ≡ buffer (ring.old.items ++ renamed ∷ []) ring.old.capacity }
+    ensures growing { IsGrowing (λ (n : Renamed). n.operands.stamp) ring.new.items }
+{
+    let Ok(()) = ring.push(renamed) else {
+        unreachable!();
+    };
 }
 
 /// A register, where it has no value yet.

@@ -36,6 +36,10 @@ pub and-none : (b : Bool) → false ≡ (b && false)
 and-none true = refl
 and-none false = refl
 
+pub and-all : (b : Bool) → b ≡ (b && true)
+and-all true = refl
+and-all false = refl
+
 -- an entry that a test doesn't tell from the one that it replaces
 pub word-same : (p : Entry → Bool) (es : List Entry) (e : Entry) (w place : ℕ) → w ≡ word_of p es → p e ≡ p (entry_in es place) → w ≡ word_of p (set es place e)
 word-same p es e w place is same = is ∙ ap mask_l (sym (map-set_same p es place e no_entry same))

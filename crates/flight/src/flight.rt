@@ -5,11 +5,11 @@ ghost use Rattle.std.specs.List.{list_any};
 ghost use Rattle.circular_buffer.specs.Buffer.{buffer, last_item};
 ghost use Rattle.reorder_buffer.specs.Growing.{IsGrowing};
 ghost use Rattle.core_view.specs.declared.entry.Stage.TheVariants.{Fetched, Queued, Issued};
-ghost use Rattle.core_view.specs.Events.{due_at};
+ghost use Rattle.core_view.specs.Events.{due_at, with_stage};
 ghost use Rattle.core_view.specs.declared.entry.Entry.{Entry};
 ghost use Rattle.core_view.specs.declared.entry.Execution.{Execution};
 ghost use Rattle.core_view.specs.Flight.{is_done, is_open_guess, is_missed_load, result_in};
-ghost use Rattle.core_view.specs.Operations.{is_guessed, is_store};
+ghost use Rattle.core_view.specs.Operations.{is_guessed, is_store, stops_at_fetch};
 ghost use Rattle.flight.specs.Marked.{is_waiting, is_waiting_load, word_of};
 ghost use Rattle.flight.specs.Flights.{entry_in, empty_flight, fetched_one, renamed_one, issued_one, finished_one, retired_one, none_left, cut_at, execution_of, IsIssued, guesses_ahead, is_due, NoneFrom, IsNext, IsPlain};
 
@@ -146,6 +146,25 @@ impl<A: Allocator> Flight<A> {
         self.slots[(entry.stamp % 256) as usize] = ((self.base + self.renamed) % 64) as u8;
         self.renamed += 1;
         self.guessed -= usize::from(entry.operation.is_guessed());
+    }
+
+    /// The oldest fetched entry, which doesn't stop at fetch, is renamed: it waits for issue.
+    #[inline(always)]
+    pub fn rename_waiting(&mut self)
+        requires some { self.old.renamed < length self.old.entries }
+        requires few { self.old.renamed < 64 }
+        requires goes { stops_at_fetch (entry_in self.old.entries self.old.renamed).operation ≡ false }
+        ensures { (cycle : ℕ) → self.new ≡ renamed_one cycle self.old }
+    {
+        let _len = self.ring.len();
+        let place = self.renamed;
+        let entry = waiting(at(&self.ring, place));
+        set_in(&mut self.ring, place, entry);
+        self.marks.push_waiting(place, &entry);
+        self.slots[(entry.stamp % 256) as usize] = ((self.base + place) % 64) as u8;
+        self.renamed = place + 1;
+        let guessed = usize::from(entry.operation.is_guessed());
+        self.guessed -= guessed;
     }
 
     /// The entry at a place, which waits for issue, issues.
@@ -390,6 +409,17 @@ fn at<A: Allocator>(ring: &Ring<Entry, A>, place: usize) -> &Entry
     ensures { result.now ≡ entry_in ring.now.items place }
 {
     ring.get(place).unwrap()
+}
+
+/// An entry as it is renamed, where it doesn't stop at fetch.
+#[inline(always)]
+fn waiting(entry: &Entry) -> Entry
+    ensures { result ≡ with_stage entry.now Queued }
+{
+    Entry {
+        stage: Stage::Queued,
+        ..*entry
+    }
 }
 
 /// An entry is pushed into a ring with room.

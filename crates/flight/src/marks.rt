@@ -53,6 +53,19 @@ impl Marks {
         self.done = push(self.done, place, entry.stage.is_done());
     }
 
+    /// With an entry more, the youngest, which waits for issue.
+    #[inline]
+    pub fn push_waiting(&mut self, place: usize, entry: &Entry)
+        requires { place < 64 }
+        ensures { (es : List Entry) → self.old ≡ marks_of es → place ≡ length es → entry.now.stage ≡ Queued → self.new ≡ marks_of (es ++ entry.now ∷ []) }
+    {
+        self.waiting = push(self.waiting, place, true);
+        self.waiting_loads = push(self.waiting_loads, place, entry.operation.is_load());
+        self.open_guesses = push(self.open_guesses, place, entry.operation.is_guessed());
+        self.missed_loads = push(self.missed_loads, place, false);
+        self.done = push(self.done, place, false);
+    }
+
     /// With an entry at a place that has issued, where it waited.
     #[inline]
     pub fn issue(&mut self, place: usize, entry: &Entry)
