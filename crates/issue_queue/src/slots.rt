@@ -112,9 +112,9 @@ impl Slots {
         ensures waiters { (r p : ℕ) → has (slice_index self.new.waiters r) p ≡ (if (p == place) && waits_for r (entry_of waiting) then true else has (slice_index self.old.waiters r) p) }
     {
         let entry = Queued::new(waiting);
-        add_sources(&mut self.waiters, &entry, place);
         self.entries[place] = entry;
         self.held = word_mask::assigned(self.held, place, false);
+        add_sources(&mut self.waiters, &entry, place);
     }
 
     /// The bit of a place leaves the words of its entry's sources.
