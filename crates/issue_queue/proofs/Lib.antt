@@ -1,5 +1,6 @@
 pub mod Named
 pub mod Lists
+pub mod Ranked
 pub mod Walks
 pub mod Masks
 pub mod Kept

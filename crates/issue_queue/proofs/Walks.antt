@@ -1,7 +1,6 @@
 -- What walks over the places of a word keep.
 use Rattle.std.proofs.Common.{◌≡◌, ℕ, ◌<◌, ◌≤◌, true, false, not, ◌&&◌, List, map, take, length, ◌⊎◌}
 use Rattle.std.specs.Prelude.{nat_lt, slice_index}
-use Rattle.std.specs.List.{filter}
 use Rattle.core_view.specs.declared.note.EntryId.{EntryId}
 use Rattle.issue_queue.specs.declared.places.Places.{Places}
 use Rattle.issue_queue.specs.declared.slots.Slots.{Slots}
@@ -13,6 +12,7 @@ use Rattle.issue_queue.specs.Entry.{is_named}
 use Rattle.issue_queue.specs.IssueQueue.{is_from}
 use Rattle.issue_queue.specs.Stamps.{stamp_at}
 use Rattle.issue_queue.specs.Views.{name_of}
+use Rattle.issue_queue.proofs.Ranked.{rank_in}
 
 -- the places of the word that are not left have another name
 pub record IsSought (b : Places) (context stamp left : ℕ) : Type 0 where
@@ -48,9 +48,8 @@ pub record IsOlder (slots : Slots) (word left older stamp : ℕ) : Type 0 where
   pub within : (p : ℕ) → has left p ≡ true → has word p ≡ true
   pub bits : (p : ℕ) → has older p ≡ ((has word p && not (has left p)) && nat_lt (stamp_at slots p) stamp)
 
--- those of the first i places that are taken stand in front, and the places from i on are as they were
-pub record IsGathered (old places : List ℕ) (taken i kept : ℕ) : Type 0 where
-  pub within : kept ≤ i
-  pub size : length places ≡ length old
-  pub front : take kept places ≡ filter (has taken) (take i old)
-  pub rest : (k : ℕ) → i ≤ k → slice_index places k ≡ slice_index old k
+-- the ranks of the first i numbers stand at their places, and 0 at the others
+pub record IsRanked (numbers ranks : List ℕ) (i : ℕ) : Type 0 where
+  pub size : length ranks ≡ 64
+  pub done : (k : ℕ) → k < i → slice_index ranks k ≡ rank_in numbers (slice_index numbers k)
+  pub left : (k : ℕ) → i ≤ k → slice_index ranks k ≡ 0

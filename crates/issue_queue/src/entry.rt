@@ -60,12 +60,12 @@ pub struct QueueView {
 /// An entry in the queue, but for whether it is held.
 #[derive(Clone, Copy)]
 pub(crate) struct Queued {
-    context: Ctx,
     stamp: u64,
-    guessed: bool,
-    speculative: bool,
     first: Option<PhysicalRegister>,
     second: Option<PhysicalRegister>,
+    context: Ctx,
+    guessed: bool,
+    speculative: bool,
 }
 
 impl Default for Queued {

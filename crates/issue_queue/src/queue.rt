@@ -158,7 +158,14 @@ impl Queue {
     {
         let ready = self.places.ready();
         let mut best = ArrayVec::new();
-        selecting::choose(&mut best, &self.places.slots, ready, order, width);
+        selecting::choose(
+            &mut best,
+            &self.places.slots,
+            ready,
+            order,
+            width,
+            self.arrivals.above,
+        );
         let mut selected = ArrayVec::new();
         self.places.take(best.as_slice(), &mut selected);
         selected
