@@ -16,7 +16,7 @@ use Rattle.core_view.specs.declared.entry.Stage.TheVariants.{Queued}
 use Rattle.core_back.specs.declared.machine.Machine.TheInside.{Inside}
 use Rattle.data_flow.specs.Flow.{Flow, lane, queued, waits_in, sources_at, released}
 use Rattle.core_context.specs.Track.{Track, issued}
-use Rattle.core_context.specs.Issuable.{may_issue_at, IsMarked, AreLetGo, AreHeld, HoldsNone, IsClear}
+use Rattle.core_context.specs.Issuable.{may_issue_at, IsMarked, AreLetGo, AreHeld, HoldsNone, IsClear, IsIssuable}
 use Rattle.data_tags.specs.declared.delay.Kind.{Kind}
 use Rattle.data_tags.specs.declared.delay.Lag.{Lag}
 use Rattle.lawful_cycle.specs.Delays.{kind_of, address_in, IsLagOf}
@@ -42,17 +42,9 @@ first_and_rest : (names : List EntryId) (n : EntryId) → 0 < length names → n
 first_and_rest [] n some is = absurd (omega arith)
 first_and_rest (m ∷ names) n some is = ap (λ x. x ∷ names) (sym is)
 
--- the place that was found is that of the stamp
-pub found_place : (t : Track) (k : ℕ) (found : Option ℕ) (i : ℕ) → IfSome found (λ j. (j < length t.context.flight) × ((entry_at t.context j).stamp ≡ k)) → found ≡ Some i → (i < length t.context.flight) × ((entry_at t.context i).stamp ≡ k)
-found_place t k found i h is = subst (λ (o : Option ℕ). IfSome o (λ j. (j < length t.context.flight) × ((entry_at t.context j).stamp ≡ k))) is h
-
 -- a context is that of its number
 pub numbered : (found : Option ℕ) (c number : ℕ) → IfSome found (λ d. d ≡ number) → found ≡ Some c → c ≡ number
 numbered found c number h is = subst (λ (o : Option ℕ). IfSome o (λ d. d ≡ number)) is h
-
--- what was read has the values that there are
-pub some_sources : (sources read : Option (ℕ × ℕ)) → sources ≡ read → is_some read ≡ true → is_some sources ≡ true
-some_sources sources read is some = ap is_some is ∙ some
 
 -- a name is clear over these contexts
 abbrev IsClearIn : Flow → List Track → EntryId → Type 0
@@ -104,6 +96,20 @@ module _ {A : Type 0} where
   pub first_clear : (m : Inside A) (now : Machine) (n : EntryId) (rest : List EntryId) (t : Track) → IsFirstName m now n rest t → (i : ℕ) (values : ℕ × ℕ) (sources : Option (ℕ × ℕ))
       → i < length t.context.flight → (entry_at t.context i).stamp ≡ n.stamp → sources ≡ sources_at (lane m.flow n.context) i → sources ≡ Some values → may_issue_at t.context i values.0 values.1 ≡ true
   first_clear m now n rest t h i values sources lt is read some = h.clear i values.0 values.1 (ready_place h.core n.stamp i h.selected h.supplied lt is).renamed is (sym read ∙ some)
+
+  pub first_issuable : (m : Inside A) (now : Machine) (n : EntryId) (rest : List EntryId) (t : Track) → IsFirstName m now n rest t → IsIssuable m.flow n.context t n.stamp
+  first_issuable m now n rest t h = record {
+    queued = h.core.selected n.stamp h.selected;
+    here = λ i lt is.
+        let place = ready_place h.core n.stamp i h.selected h.supplied lt is in
+        record {
+          known = place.known;
+          stage = place.stage;
+          sources = place.sources;
+          answered = core_answered h.core i (omega (arith, place.renamed));
+          clear = λ a b some. h.clear i a b place.renamed is some;
+        };
+  }
 
   -- the context of the first name is a core once its entry has issued
   pub issued_core : (m : Inside A) (now : Machine) (n : EntryId) (rest : List EntryId) (t : Track) → IsFirstName m now n rest t → (i : ℕ) (x : Execution) (values : ℕ × ℕ) (sources : Option (ℕ × ℕ))

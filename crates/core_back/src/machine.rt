@@ -325,9 +325,14 @@ impl<A: Allocator> Machine<A> {
     {
         let name = self.selected.take_first();
         let track = &mut self.tracks[name.context.index()];
-        let place = track.queued_place(name.stamp).unwrap();
-        let values = self.flow.sources(name.context, place).unwrap();
-        let lag = track.perform(place, values, name.context, self.cycle, delay);
+        let lag = events::issue(
+            &self.flow,
+            track,
+            name.context,
+            name.stamp,
+            self.cycle,
+            delay,
+        );
         issue_of(name, lag)
     }
 

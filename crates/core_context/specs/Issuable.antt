@@ -1,14 +1,20 @@
 -- Which entries may issue: a load waits where the newest older store that has completed and shares a byte with it has only some of its bytes.
-use Rattle.std.specs.Prelude.{◌≡◌, ℕ, ◌<◌, Bool, true, false, not, take, All, Option, Some, None}
+use Rattle.std.specs.Prelude.{◌≡◌, ℕ, ◌+◌, ◌<◌, Bool, true, false, not, length, take, All, Option, Some, None, is_some}
+use Rattle.hart_step.specs.declared.effect.Effect.{Effect}
 use Rattle.core_view.specs.declared.entry.Stage.TheVariants.{Queued}
 use Rattle.core_view.specs.declared.outcome.Outcome.{Outcome}
-use Rattle.core_view.specs.Outcomes.{image_of, outcome_in}
+use Rattle.core_view.specs.Outcomes.{image_of, outcome_in, outcome_with}
 use Rattle.core_view.specs.Flight.{seen_of, IsSound, IsGrowing}
 use Rattle.core_view.specs.Queues.{AllRenamed}
 use Rattle.core_view.specs.View.{Context, entry_at, seen_at}
 use Rattle.lawful_cycle.specs.Issue.{is_clear_on}
 use Rattle.data_flow.specs.Flow.{Flow, Waiter, is_waiter, lane, sources_at}
-use Rattle.core_context.specs.Track.{Track}
+use Rattle.data_tags.specs.declared.delay.Kind.{Kind}
+use Rattle.data_tags.specs.declared.delay.Lag.{Lag}
+use Rattle.lawful_cycle.specs.Delays.{kind_of, address_in, IsLagOf}
+use Rattle.core_context.specs.Effects.{answered_in}
+use Rattle.core_context.specs.Queued.{queued_at}
+use Rattle.core_context.specs.Track.{Track, issued}
 
 -- the entry at a place may issue on the values of its sources
 abbrev pub may_issue_at : Context → ℕ → ℕ → ℕ → Bool
@@ -17,6 +23,10 @@ may_issue_at x i a b = is_clear_on (take i x.flight) (entry_at x i).operation (e
 -- what the entry at a place does on the values of its sources
 abbrev pub performed_at : Context → ℕ → ℕ → ℕ → Outcome
 performed_at x i a b = outcome_in (image_of x.state) (seen_at x i).bytes (entry_at x i).operation (entry_at x i).pc a b
+
+-- what an effect of it comes to, where memory gives what the effect asks for
+abbrev pub effected_at : Context → ℕ → Effect → Outcome
+effected_at x i e = outcome_with (entry_at x i).pc e (answered_in x.state (seen_at x i).bytes e)
 
 -- the queues of loads and stores give what the flight says of the entry at a place
 pub record IsAnswered (x : Context) (i : ℕ) : Type 0 where
@@ -48,3 +58,27 @@ HoldsNone t = (f : Flow) (c : ℕ) → ((i : ℕ) → i < t.renamed → IsAnswer
 -- the entry of a context and stamp may issue on the values of its sources
 abbrev pub IsClear : Flow → ℕ → Track → ℕ → Type 0
 IsClear f c t k = (i a b : ℕ) → i < t.renamed → (entry_at t.context i).stamp ≡ k → sources_at (lane f c) i ≡ Some (a, b) → may_issue_at t.context i a b ≡ true
+
+-- the entry of a context at a place may issue: it is queued, and has the values of its sources, on which it is clear
+pub record IsIssuableAt (f : Flow) (c : ℕ) (t : Track) (i : ℕ) : Type 0 where
+  pub known : i < length (lane f c).nodes
+  pub stage : (entry_at t.context i).stage ≡ Queued
+  pub sources : is_some (sources_at (lane f c) i) ≡ true
+  pub answered : IsAnswered t.context i
+  pub clear : (a b : ℕ) → sources_at (lane f c) i ≡ Some (a, b) → may_issue_at t.context i a b ≡ true
+
+-- one with a stamp is queued, and may issue
+pub record IsIssuable (f : Flow) (c : ℕ) (t : Track) (k : ℕ) : Type 0 where
+  pub queued : queued_at k t.context.flight ≡ true
+  pub here : (i : ℕ) → i < length t.context.flight → (entry_at t.context i).stamp ≡ k → IsIssuableAt f c t i
+
+-- it has issued in a cycle on the values of its sources, after a lag that a delay states
+pub record HasIssued (delays : Kind → ℕ → Lag → Bool) (f : Flow) (c k cycle : ℕ) (old new : Track) (lag : Lag) : Type 0 where
+  pub place : ℕ
+  pub first : ℕ
+  pub second : ℕ
+  pub within : place < length old.context.flight
+  pub stamp : (entry_at old.context place).stamp ≡ k
+  pub sources : sources_at (lane f c) place ≡ Some (first, second)
+  pub stated : let e = entry_at old.context place in IsLagOf delays (kind_of e.operation) (address_in e.operation e.pc first second) (performed_at old.context place first second) lag
+  pub after : new ≡ issued old place (record { due = cycle + lag.cycles; miss = lag.miss; outcome = performed_at old.context place first second })

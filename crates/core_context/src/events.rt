@@ -1,6 +1,6 @@
 //! The events of a cycle, each on one context and the data flow.
 
-ghost use Rattle.std.specs.Prelude.{◌≡◌, ◌≢◌, ◌↔◌, ℕ, ◌+◌, ◌<◌, ◌≤◌, ◌==◌, ◌&&◌, length, take, drop, IsSome, IsTrue, IfSome, Some, None, All, Bool, true, false, map};
+ghost use Rattle.std.specs.Prelude.{◌≡◌, ◌≢◌, ◌↔◌, ℕ, ◌+◌, ◌<◌, ◌≤◌, ◌^◌, ◌==◌, ◌&&◌, length, take, drop, IsSome, IsTrue, IfSome, Some, None, All, Bool, true, false, map};
 ghost use Rattle.std.specs.List.{list_any};
 ghost use Rattle.core_view.specs.Outcomes.{image_of, IsSized};
 ghost use Rattle.data_flow.specs.Flow.{lane, node_at, sources_at, taken, waits_in, cut_flow, released};
@@ -10,7 +10,7 @@ ghost use Rattle.core_view.specs.Flight.{seen_of, IsSound, is_open_guess as is_o
 ghost use Rattle.core_view.specs.Operations.{destination_of, stops_at_fetch, is_load, is_store};
 ghost use Rattle.core_view.specs.Queues.{loads_of, stores_of};
 ghost use Rattle.core_view.specs.View.{entry_at};
-ghost use Rattle.core_context.specs.Issuable.{IsAnswered, IsMarked, AreLetGo, must_wait, AreHeld, HoldsNone};
+ghost use Rattle.core_context.specs.Issuable.{HasIssued, IsAnswered, IsIssuable, IsIssuableAt, IsMarked, AreLetGo, must_wait, AreHeld, HoldsNone};
 ghost use Rattle.core_context.specs.Track.{is_last, retired, parked, stopped, completed, renamed_one};
 ghost use Rattle.core_context.specs.Cores.{operands_of, AllFetched};
 ghost use Rattle.core_context.specs.Heads.{IsGoing, first_done, step_on};
@@ -19,11 +19,13 @@ ghost use Rattle.core_context.specs.Left.{IsIdleCore, IsEventAt};
 ghost use Rattle.core_context.specs.Renamable.{IsPastFront, IsRenamable};
 ghost use Rattle.core_context.specs.Steps.{retired_flow, settled_flow, completed_flow, cut_by, renamed_flow, IsRemarked, AreTold};
 
+use crate::issuing::perform;
 use crate::track::Track;
 use branch_predict::Guess;
 use core_profile::Profile;
 use core_view::Entry;
 use data_flow::{DataFlow, Operands};
+use data_tags::{Delay, Lag};
 use hart_step::Stop;
 use join_law::Ctx;
 use std::alloc::Allocator;
@@ -363,6 +365,69 @@ fn settle_speculation<A: Allocator>(
         flow.speculate(context, entry.stamp, false);
         first = place + 1;
     }
+}
+
+/// The entry with a stamp issues in a cycle, after the lag that a delay gives.
+#[inline(always)]
+pub fn issue<A: Allocator, D: Delay>(
+    flow: &DataFlow<A>,
+    track: &mut Track<A>,
+    context: Ctx,
+    stamp: u64,
+    cycle: u64,
+    delay: &mut D,
+) -> Lag
+    requires issuable { IsIssuable flow.now context track.old stamp }
+    requires cycle { cycle < 2 ^ 56 }
+    ensures issued { HasIssued (D.may_answer delay.old context) flow.now context stamp cycle track.old track.new result }
+    ensures keeps { D.may_answer delay.new ≡ D.may_answer delay.old }
+    ensures keeps_greatest { D.greatest_lag delay.new ≡ D.greatest_lag delay.old }
+{
+    let Some(place) = track.known_place(stamp) else {
+        return issue_searched(flow, track, context, stamp, cycle, delay);
+    };
+    issue_at(flow, track, context, place, cycle, delay)
+}
+
+/// The same, where the place isn't known.
+#[inline(never)]
+fn issue_searched<A: Allocator, D: Delay>(
+    flow: &DataFlow<A>,
+    track: &mut Track<A>,
+    context: Ctx,
+    stamp: u64,
+    cycle: u64,
+    delay: &mut D,
+) -> Lag
+    requires issuable { IsIssuable flow.now context track.old stamp }
+    requires cycle { cycle < 2 ^ 56 }
+    ensures issued { HasIssued (D.may_answer delay.old context) flow.now context stamp cycle track.old track.new result }
+    ensures keeps { D.may_answer delay.new ≡ D.may_answer delay.old }
+    ensures keeps_greatest { D.greatest_lag delay.new ≡ D.greatest_lag delay.old }
+{
+    let place = track.queued_place(stamp).unwrap();
+    issue_at(flow, track, context, place, cycle, delay)
+}
+
+/// The entry at a place issues in a cycle, after the lag that a delay gives.
+#[inline(always)]
+fn issue_at<A: Allocator, D: Delay>(
+    flow: &DataFlow<A>,
+    track: &mut Track<A>,
+    context: Ctx,
+    place: usize,
+    cycle: u64,
+    delay: &mut D,
+) -> Lag
+    requires place { place < length track.old.context.flight }
+    requires issuable { IsIssuableAt flow.now context track.old place }
+    requires cycle { cycle < 2 ^ 56 }
+    ensures issued { HasIssued (D.may_answer delay.old context) flow.now context (entry_at track.old.context place).stamp cycle track.old track.new result }
+    ensures keeps { D.may_answer delay.new ≡ D.may_answer delay.old }
+    ensures keeps_greatest { D.greatest_lag delay.new ≡ D.greatest_lag delay.old }
+{
+    let values = flow.sources(context, place).unwrap();
+    perform(track, place, values, context, cycle, delay)
 }
 
 /// Lets all loads go, where one may be held.

@@ -1,16 +1,15 @@
 //! How long what issues takes.
 
-ghost use Rattle.std.specs.Prelude.{◌≡◌, ℕ, ◌<◌, ◌≤◌, IfSome, Result};
-ghost use Rattle.paged_memory.specs.declared.Fault.{Fault};
-ghost use Rattle.core_view.specs.Outcomes.{outcome_with, goes_to};
-ghost use Rattle.lawful_cycle.specs.Delays.{kind_of_insn, address_of as address_of_effect, IsLagOf};
+ghost use Rattle.std.specs.Prelude.{◌≡◌, ◌<◌, ◌≤◌};
+ghost use Rattle.core_view.specs.Outcomes.{goes_to, loads_at, stores_at};
+ghost use Rattle.lawful_cycle.specs.Delays.{kind_of_insn, IsLagOf};
 
-use crate::track::Performed;
-use core_view::{Access, Outcome, Step};
+use crate::issuing::Performed;
+use core_view::{Access, Bytes, Outcome, Span, Step};
 use data_tags::{Delay, Kind, Lag};
-use hart_step::Effect;
+use hart_step::{following, load_width, loaded, store_width};
 use join_law::Ctx;
-use rv64_decode::Insn;
+use rv64_decode::{Insn, LoadKind, StoreWidth};
 
 /// What a delay is told of an instruction.
 pub(crate) fn kind_of(insn: &Insn) -> Kind
@@ -21,28 +20,6 @@ pub(crate) fn kind_of(insn: &Insn) -> Kind
         Insn::Load { .. } => Kind::Load,
         Insn::Store { .. } => Kind::Store,
         _ => Kind::Alu,
-    }
-}
-
-/// The address of a load or store, 0 for others.
-pub(crate) fn address_of(effect: Effect) -> u64
-    ensures { result ≡ address_of_effect effect }
-{
-    match effect {
-        Effect::Loads { address, .. } | Effect::Stores { address, .. } => address,
-        _ => 0,
-    }
-}
-
-/// The value that an effect gives, 0 where it gives none, and where it goes on, if it neither stops nor asks memory.
-#[inline(always)]
-pub(crate) fn plain(effect: Effect) -> Option<(u64, u64)>
-    ensures { IfSome result (λ r. (pc : ℕ) (answered : Result ℕ Fault) → (outcome_with pc effect answered ≡ goes_to r.0 r.1) × (address_of_effect effect ≡ 0)) }
-{
-    match effect {
-        Effect::Goes { target } => Some((0, target)),
-        Effect::Writes { value, target } => Some((value, target)),
-        _ => None,
     }
 }
 
@@ -61,6 +38,52 @@ pub(crate) fn went(kind: Kind, value: u64, target: u64) -> Performed
         },
         kind,
         address: 0,
+    }
+}
+
+/// A load of a number at an address, by an instruction at a pc.
+#[inline(always)]
+pub(crate) fn loaded_at(pc: u64, kind: LoadKind, address: u64, number: u64) -> Performed
+    ensures { result ≡ record { outcome = loads_at pc kind address number; kind = Kind.Load; address = address } }
+{
+    let span = Span {
+        address,
+        size: load_width(kind).bytes(),
+    };
+    Performed {
+        outcome: Outcome::Goes {
+            step: Step {
+                result: loaded(kind, number),
+                next: following(pc),
+                access: Access::Reads { span },
+            },
+        },
+        kind: Kind::Load,
+        address,
+    }
+}
+
+/// A store of a value at an address, by an instruction at a pc.
+#[inline(always)]
+pub(crate) fn stored_at(pc: u64, width: StoreWidth, address: u64, value: u64) -> Performed
+    ensures { result ≡ record { outcome = stores_at pc width address value; kind = Kind.Store; address = address } }
+{
+    let span = Span {
+        address,
+        size: store_width(width).bytes(),
+    };
+    Performed {
+        outcome: Outcome::Goes {
+            step: Step {
+                result: 0,
+                next: following(pc),
+                access: Access::Writes {
+                    bytes: Bytes { span, value },
+                },
+            },
+        },
+        kind: Kind::Store,
+        address,
     }
 }
 

@@ -4,6 +4,7 @@
 mod decoded_memory;
 pub mod events;
 mod fetching;
+mod issuing;
 mod lags;
 mod retirement;
 mod track;

@@ -9,7 +9,7 @@ ghost use Rattle.core_view.specs.Events.{due_at, with_stage};
 ghost use Rattle.core_view.specs.declared.entry.Entry.{Entry};
 ghost use Rattle.core_view.specs.declared.entry.Execution.{Execution};
 ghost use Rattle.core_view.specs.Flight.{is_done, is_open_guess, is_missed_load, result_in};
-ghost use Rattle.core_view.specs.Operations.{is_guessed, is_store, stops_at_fetch};
+ghost use Rattle.core_view.specs.Operations.{is_guessed, is_load, is_store, stops_at_fetch};
 ghost use Rattle.flight.specs.Marked.{is_waiting, is_waiting_load, word_of};
 ghost use Rattle.flight.specs.Flights.{entry_in, empty_flight, fetched_one, renamed_one, issued_one, finished_one, retired_one, none_left, cut_at, execution_of, IsIssued, guesses_ahead, is_due, NoneFrom, IsNext, IsPlain};
 
@@ -179,6 +179,21 @@ impl<A: Allocator> Flight<A> {
         self.marks.issue(place, &entry);
         let cycle = (execution.due % 64) as usize;
         self.hints[cycle] = set_slot(self.hints[cycle], (self.base + place) % 64);
+    }
+
+    /// The same of one that is no load.
+    #[inline(always)]
+    pub fn issue_other(&mut self, place: usize, execution: Execution)
+        requires place { place < length self.old.entries }
+        requires queued { (entry_in self.old.entries place).stage ≡ Queued }
+        requires other { is_load (entry_in self.old.entries place).operation ≡ false }
+        ensures { self.new ≡ issued_one self.old place execution }
+    {
+        let issued = at(&self.ring, place).issued(execution);
+        set_in(&mut self.ring, place, issued);
+        self.marks.issue_other(place);
+        let word = (execution.due % 64) as usize;
+        self.hints[word] = set_slot(self.hints[word], (self.base + place) % 64);
     }
 
     /// The entry at a place, which is issued, completes. Nothing is cut.

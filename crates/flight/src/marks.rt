@@ -1,9 +1,10 @@
 //! The words of a flight.
 
-ghost use Rattle.std.specs.Prelude.{◌≡◌, ◌&&◌, ◌<◌, ◌≤◌, List, [], ◌∷◌, ◌++◌, length, take, drop, slice_set};
+ghost use Rattle.std.specs.Prelude.{◌≡◌, false, ◌&&◌, ◌<◌, ◌≤◌, List, [], ◌∷◌, ◌++◌, length, take, drop, slice_set};
 ghost use Rattle.core_view.specs.declared.entry.Entry.{Entry};
 ghost use Rattle.core_view.specs.declared.entry.Execution.{Execution};
 ghost use Rattle.core_view.specs.declared.entry.Stage.TheVariants.{Queued, Issued, Done};
+ghost use Rattle.core_view.specs.Operations.{is_load};
 ghost use Rattle.core_view.specs.Flight.{is_open_guess, is_missed_load, has_missed};
 ghost use Rattle.flight.specs.Marked.{marks_of, is_waiting, is_waiting_load};
 ghost use Rattle.flight.specs.Flights.{entry_in};
@@ -76,6 +77,17 @@ impl Marks {
         self.waiting = assign(self.waiting, place, false);
         self.waiting_loads = assign(self.waiting_loads, place, false);
         self.missed_loads = assign(self.missed_loads, place, is_missed_load(entry));
+    }
+
+    /// With another entry at a place, which is no load and has issued, where it waited.
+    #[inline]
+    pub fn issue_other(&mut self, place: usize)
+        requires { place < 64 }
+        ensures { (es : List Entry) (e : Entry) (x : Execution) → self.old ≡ marks_of es → (entry_in es place).stage ≡ Queued → (entry_in es place).operation ≡ e.operation → is_load e.operation ≡ false → e.stage ≡ Issued x →
+            place < length es → length es ≤ 64 → self.new ≡ marks_of (slice_set es place e) }
+    {
+        let waiting = self.waiting;
+        self.waiting = assign(waiting, place, false);
     }
 
     /// With another entry at a place, which was issued and is done now: it waits neither before nor after.

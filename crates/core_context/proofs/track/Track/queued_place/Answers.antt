@@ -1,7 +1,7 @@
 use Rattle.std.proofs.Common.{rules, Bool, ℕ, ◌≡◌, ◌∙◌, sym, ap, refl, slice_get, Some, arith, if◌then◌else◌}
 use Rattle.std.proofs.lemmas.Bool.{ne_eqb}
 use Rattle.core_context.proofs.Tracks.{queued_here, none_up_to, none_queued}
-use Rattle.core_context.proofs.track.Track.search_queued.Goals as goal
+use Rattle.core_context.proofs.track.Track.queued_place.Goals as goal
 
 pub returns-then-entry-stamp-clause-known : goal.returns-then-entry-stamp-clause-known
 returns-then-entry-stamp-clause-known g c =
