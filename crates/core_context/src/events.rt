@@ -1,6 +1,6 @@
 //! The events of a cycle, each on one context and the data flow.
 
-ghost use Rattle.std.specs.Prelude.{◌≡◌, ◌≢◌, ◌↔◌, ℕ, ◌+◌, ◌<◌, ◌≤◌, ◌==◌, ◌&&◌, length, take, drop, IsSome, IsTrue, IfSome, Some, None, All, Bool, true, false, map};
+ghost use Rattle.std.specs.Prelude.{◌≡◌, ◌≢◌, ◌↔◌, ℕ, ◌+◌, ◌<◌, ◌≤◌, ◌^◌, ◌==◌, ◌&&◌, length, take, drop, IsSome, IsTrue, IfSome, Some, None, All, Bool, true, false, map};
 ghost use Rattle.std.specs.List.{list_any};
 ghost use Rattle.core_view.specs.Outcomes.{image_of, IsSized};
 ghost use Rattle.data_flow.specs.Flow.{lane, node_at, sources_at, taken, waits_in, cut_flow, released};
@@ -138,17 +138,27 @@ fn finish_entry<A: Allocator>(
     }
 }
 
-/// The stamp of the oldest fetched entry, if it was fetched as many cycles ago as the front delay says.
+/// The stamp of the oldest fetched entry, if it was fetched as many cycles ago as the front delay says. It isn't the
+/// greatest number.
 pub fn front<A: Allocator>(track: &Track<A>, cycle: u64, profile: &Profile) -> Option<u64>
+    requires below { track.now.renamed < length track.now.context.flight → (entry_at track.now.context track.now.renamed).stamp + 1 < 2 ^ 64 }
     ensures can { IfSome result (IsPastFront track.now profile.now cycle) }
     ensures none { result ≡ None → (stamp : ℕ) → ¬ (IsPastFront track.now profile.now cycle stamp) }
 {
     let entry = track.entry(track.renamed_count())?;
-    if is_past_front(entry, cycle, profile) {
-        Some(entry.stamp)
-    } else {
-        None
-    }
+    let key = front_key(entry, cycle, profile);
+    if key < u64::MAX { Some(key) } else { None }
+}
+
+/// The stamp of an entry that was fetched as many cycles ago as the front delay says, and of another the greatest number.
+// It takes no jump, which would be guessed wrongly too often: who asks puts the greatest number for none, too.
+#[inline(always)]
+fn front_key(entry: &Entry, cycle: u64, profile: &Profile) -> u64
+    ensures past { entry.now.fetched + profile.now.front_delay ≤ cycle → result ≡ entry.now.stamp }
+    ensures early { cycle < entry.now.fetched + profile.now.front_delay → result + 1 ≡ 2 ^ 64 }
+{
+    let early = u64::from(!is_past_front(entry, cycle, profile));
+    entry.stamp.max(early * u64::MAX)
 }
 
 /// The stamp of the oldest fetched entry, if it is no greater than a limit and the entry can be renamed in a cycle: it was
