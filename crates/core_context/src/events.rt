@@ -252,11 +252,21 @@ fn rename_oldest<A: Allocator>(
     ensures track { track.new ≡ renamed_one cycle track.old }
     ensures flow { flow.new ≡ renamed_flow flow.old context (entry_at track.old.context track.old.renamed) (list_any is_open_guess_entry (take track.old.renamed track.old.context.flight)) }
 {
-    if track.next_stops() {
+    if next_stops(track) {
         rename_stop(flow, track, context, cycle);
     } else {
         rename_waiting(flow, track, context);
     }
+}
+
+/// Whether the oldest fetched entry stops at fetch.
+#[inline(always)]
+fn next_stops<A: Allocator>(track: &Track<A>) -> bool
+    requires { track.now.renamed < length track.now.context.flight }
+    ensures { result ≡ stops_at_fetch (entry_at track.now.context track.now.renamed).operation }
+{
+    let next = track.entry_at(track.renamed_count());
+    next.operation.stops_at_fetch()
 }
 
 /// The same of an entry that stops at fetch: it doesn't wait.
