@@ -248,5 +248,9 @@ module _ {A : Type 0} where
   front_below m now c t None fits h is = tt
   front_below m now c t (Some stamp) fits h is = let below = stamped_below m.stamp t.context.flight t.renamed h.core.live.flight.below is.some in omega (arith, below, is.stamp_is, fits)
 
+  -- so is that of the oldest fetched entry
+  pub oldest_below : (m : Inside A) (now : Machine) (c : ℕ) (t : Track) → m.stamp < 2 ^ 64 → At m now c t → t.renamed < length t.context.flight → (entry_at t.context t.renamed).stamp + 1 < 2 ^ 64
+  oldest_below m now c t fits h some = let below = stamped_below m.stamp t.context.flight t.renamed h.core.live.flight.below some in omega (arith, below, fits)
+
   pub may_not_rename : (m : Inside A) (now : Machine) (c : ℕ) (t : Track) → IsCounted m now c t → (limit : ℕ) → ((stamp : ℕ) → stamp ≤ limit → ¬ (IsRenamable m.flow t m.profile m.cycle stamp)) → (e : Entry) → e.stamp ≤ limit → ¬ (CanRename now.view c e)
   may_not_rename m now c t h limit not_one e within can = not_one e.stamp within (is_renamable m now c t e h can)

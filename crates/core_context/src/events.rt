@@ -173,17 +173,27 @@ fn finish_entry<A: Allocator>(
     }
 }
 
-/// The stamp of the oldest fetched entry, if it was fetched as many cycles ago as the front delay says.
+/// The stamp of the oldest fetched entry, if it was fetched as many cycles ago as the front delay says. It isn't the
+/// greatest number.
 pub fn front<A: Allocator>(track: &Track<A>, cycle: u64, profile: &Profile) -> Option<u64>
+    requires below { track.now.renamed < length track.now.context.flight → (entry_at track.now.context track.now.renamed).stamp + 1 < 2 ^ 64 }
     ensures can { IfSome result (IsPastFront track.now profile.now cycle) }
     ensures none { result ≡ None → (stamp : ℕ) → ¬ (IsPastFront track.now profile.now cycle stamp) }
 {
     let entry = track.entry(track.renamed_count())?;
-    if is_past_front(entry, cycle, profile) {
-        Some(entry.stamp)
-    } else {
-        None
-    }
+    let key = front_key(entry, cycle, profile);
+    if key < u64::MAX { Some(key) } else { None }
+}
+
+/// The stamp of an entry that was fetched as many cycles ago as the front delay says, and of another the greatest number.
+// It takes no jump, which would be guessed wrongly too often: who asks puts the greatest number for none, too.
+#[inline(always)]
+fn front_key(entry: &Entry, cycle: u64, profile: &Profile) -> u64
+    ensures past { entry.now.fetched + profile.now.front_delay ≤ cycle → result ≡ entry.now.stamp }
+    ensures early { cycle < entry.now.fetched + profile.now.front_delay → result + 1 ≡ 2 ^ 64 }
+{
+    let early = u64::from(!is_past_front(entry, cycle, profile));
+    entry.stamp.max(early * u64::MAX)
 }
 
 /// The stamp of the oldest fetched entry, if it is no greater than a limit and the entry can be renamed in a cycle: it was
@@ -277,11 +287,21 @@ fn rename_oldest<A: Allocator>(
     ensures track { track.new ≡ renamed_one cycle track.old }
     ensures flow { flow.new ≡ renamed_flow flow.old context (entry_at track.old.context track.old.renamed) (list_any is_open_guess_entry (take track.old.renamed track.old.context.flight)) }
 {
-    if track.next_stops() {
+    if next_stops(track) {
         rename_stop(flow, track, context, cycle);
     } else {
         rename_waiting(flow, track, context);
     }
+}
+
+/// Whether the oldest fetched entry stops at fetch.
+#[inline(always)]
+fn next_stops<A: Allocator>(track: &Track<A>) -> bool
+    requires { track.now.renamed < length track.now.context.flight }
+    ensures { result ≡ stops_at_fetch (entry_at track.now.context track.now.renamed).operation }
+{
+    let next = track.entry_at(track.renamed_count());
+    next.operation.stops_at_fetch()
 }
 
 /// The same of an entry that stops at fetch: it doesn't wait.

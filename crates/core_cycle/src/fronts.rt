@@ -71,16 +71,17 @@ impl Fronts {
         ensures above { (h : IsLeast self.old context) → h.stamp ≤ result }
     {
         self.stamps[context.index()] = u64::MAX;
-        self.stamps[least_place(&self.stamps)]
+        let left = least(&self.stamps);
+        left.number
     }
 
     /// The context of the oldest front.
     pub(crate) fn oldest(&self) -> Option<Ctx>
         ensures { IsOldest self.now result }
     {
-        let place = least_place(&self.stamps);
-        if self.stamps[place] < u64::MAX {
-            return Some(context_of(place));
+        let oldest = least(&self.stamps);
+        if oldest.number < u64::MAX {
+            return Some(context_of(oldest.place));
         }
         None
     }
@@ -149,16 +150,17 @@ fn lesser_from(numbers: &[u64; 8], place: usize) -> Placed
     )
 }
 
-/// The place of the least of eight numbers, in three rounds: few choices wait for others.
+/// The least of eight numbers and its place, in three rounds: few choices wait for others. Where only the number is used,
+/// no place is chosen.
 #[inline(always)]
-fn least_place(numbers: &[u64; 8]) -> usize
-    ensures bound { result < 8 }
-    ensures least { (d : ℕ) → d < 8 → slice_index numbers.now result ≤ slice_index numbers.now d }
+fn least(numbers: &[u64; 8]) -> Placed
+    ensures bound { result.place < 8 }
+    ensures number { slice_index numbers.now result.place ≡ result.number }
+    ensures least { (d : ℕ) → d < 8 → slice_index numbers.now result.place ≤ slice_index numbers.now d }
 {
     let front = lesser(numbers, lesser_from(numbers, 0), lesser_from(numbers, 2));
     let back = lesser(numbers, lesser_from(numbers, 4), lesser_from(numbers, 6));
-    let least = lesser(numbers, front, back);
-    least.place
+    lesser(numbers, front, back)
 }
 
 /// The context of a number below 8.

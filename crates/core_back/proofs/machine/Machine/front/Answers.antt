@@ -1,8 +1,15 @@
 use Rattle.std.proofs.Common.{◌<◌, ◌^◌, ap, arith}
 use Rattle.core_back.specs.Machine.{Machine}
 use Rattle.core_back.proofs.Machines.{at_context}
-use Rattle.core_back.proofs.Renamable.{has_oldest, past_front, not_past_front, front_below}
+use Rattle.core_back.proofs.Renamable.{has_oldest, past_front, not_past_front, front_below, oldest_below}
 use Rattle.core_back.proofs.machine.Machine.front.Goals as goal
+
+pub front-requires : goal.front-requires
+front-requires g c =
+    let h = at_context c.self.inside c.args.self.now c.args.context c.index.result c.index-track.result.now c.self.view_is c.self.invariant (omega (arith, c.index.ensures)) c.index.ensures.value c.index-track.ensures in
+    let next = ap (λ (v : Machine). v.view.stamp) c.self.view_is in
+    let fits : c.self.inside.stamp < 2 ^ 64 = omega (arith, next, c.next_stamp-next.ensures.value, c.next_stamp-next.ensures.bound) in
+    record { below = oldest_below c.self.inside c.args.self.now c.args.context c.index-track.result.now fits h }
 
 pub returns-clause-front : goal.returns-clause-front
 returns-clause-front g c =
