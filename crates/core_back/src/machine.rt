@@ -449,14 +449,6 @@ impl<A: Allocator> Machine<A> {
         asked.can_fetch()
     }
 
-    /// Whether a context runs and its front list has room: no other can fetch.
-    pub fn has_front_room(&self, context: Ctx) -> bool
-        ensures { is_eligible (context_at self.now context) ≡ true → result ≡ true }
-    {
-        let track = &self.tracks[context.index()];
-        track.has_front_room()
-    }
-
     /// A context that may fetch does so in its turn, at most so many entries and up to the end of a block, at most eight of
     /// all contexts in a cycle. What is fetched is listed in order.
     #[inline(always)]

@@ -1,11 +1,12 @@
 //! Fetch policies and the contexts that they pick, on worked views.
 
 ghost use Rattle.std.specs.Prelude.{◌≤◌};
+ghost use Rattle.fetch_policy.specs.Least.{AreRanks};
 
 use core_profile::FetchPolicy;
 use fetch_policy::{
     Brcount, FetchContext, FetchView, Icount, Iqposn, Misscount, NO_KEY, NamedPick, Pick,
-    RoundRobin, choose, first_by_key,
+    RoundRobin, choose, first_by_rank, rank,
 };
 use join_law::{Ctx, Eight};
 
@@ -85,9 +86,11 @@ fn round_robin_takes_turns(rt: HostRuntime) {
     );
 }
 
-/// The number of the context that goes first by keys, 8 where none is looked for.
-fn first(keys: &[u64; 8], cycle: u64) -> usize {
-    match first_by_key(keys, cycle) {
+/// The number of the context that goes first by ranks, 8 where none is looked for.
+fn first(ranks: &[u64; 8], cycle: u64) -> usize
+    requires { AreRanks cycle ranks.now }
+{
+    match first_by_rank(ranks, cycle) {
         Some(context) => context.index(),
         None => 8,
     }
@@ -95,10 +98,15 @@ fn first(keys: &[u64; 8], cycle: u64) -> usize {
 
 #[test]
 fn the_least_key_goes_first_and_of_equal_ones_the_earlier_turn(rt: HostRuntime) {
-    let keys = [NO_KEY, 7, 7, NO_KEY, 9, NO_KEY, NO_KEY, NO_KEY];
-    assert_eq!(rt; first(&keys, 0), 1);
-    assert_eq!(rt; first(&keys, 2), 2);
-    assert_eq!(rt; first(&[NO_KEY; 8], 0), 8);
+    let [_, second, third, _, fifth, ..] = Ctx::all();
+    assert_eq!(rt;
+        [rank(7, 2, second), rank(7, 2, third), rank(9, 2, fifth)],
+        [63, 56, 74]
+    );
+    let none = NO_KEY;
+    assert_eq!(rt; first(&[none, 57, 58, none, 76, none, none, none], 0), 1);
+    assert_eq!(rt; first(&[none, 63, 56, none, 74, none, none, none], 2), 2);
+    assert_eq!(rt; first(&[none; 8], 0), 8);
 }
 
 #[test]
