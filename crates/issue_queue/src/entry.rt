@@ -65,19 +65,18 @@ impl Default for Queued {
 }
 
 impl Queued {
-    /// The entry that enters.
-    pub(crate) fn new(waiting: Waiting) -> Queued
-        ensures { as_entry false result ≡ entry_of waiting }
+    /// An entry enters in its place. It is written field by field: a new value would be written with its padding.
+    #[inline(always)]
+    pub(crate) fn enter(&mut self, waiting: Waiting)
+        ensures { as_entry false self.new ≡ entry_of waiting }
     {
         let [first, second] = waiting.sources;
-        Queued {
-            context: waiting.context,
-            stamp: waiting.stamp,
-            guessed: waiting.guessed,
-            speculative: waiting.speculative,
-            first,
-            second,
-        }
+        self.stamp = waiting.stamp;
+        self.first = first;
+        self.second = second;
+        self.context = waiting.context;
+        self.guessed = waiting.guessed;
+        self.speculative = waiting.speculative;
     }
 
     /// Its context.

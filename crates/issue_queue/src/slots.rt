@@ -48,7 +48,7 @@ impl Slots {
         requires { place < 64 }
         ensures { (p : ℕ) → slot self.new p ≡ (if p == place then entry_of waiting else slot self.old p) }
     {
-        self.entries[place] = Queued::new(waiting);
+        self.entries[place].enter(waiting);
         self.held = word_mask::assigned(self.held, place, false);
     }
 
