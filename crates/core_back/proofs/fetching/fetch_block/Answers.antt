@@ -1,12 +1,12 @@
-use Rattle.std.proofs.Common.{◌≡◌, ◌+◌, refl, subst, ◌∙◌, arith}
+use Rattle.std.proofs.Common.{◌+◌, refl, subst, ◌∙◌, arith}
 use Rattle.core_context.specs.NextEntry.{IsFetchedBy}
-use Rattle.core_back.specs.Fetched.{IsBlockBy}
 use Rattle.core_back.proofs.Blocks.{block_open}
 use Rattle.core_back.proofs.BlockTurns.{fetched_none, fetched_next, ends_so, next_pc, block_by}
 use Rattle.core_back.proofs.fetching.fetch_block.Goals as goal
 
 pub loop-number-init : goal.loop-number-init
 loop-number-init g c = record {
+  within = omega arith;
   fetched = fetched_none (g.G.Guess.may_answer c.args.guess.now c.args.context) c.args.cycle c.args.stamp c.args.context c.args.track.now c.args.fetched.now.items;
   goes = λ some. absurd (omega (arith, some));
   pc = c.fetch_pc-pc.ensures;
@@ -77,6 +77,7 @@ loop-number-preserved g c =
     let f = c.fetch-onward.result in
     let one : IsFetchedBy may (c.args.stamp + k) c.args.cycle u v f.pc f.ends = subst (λ says. IsFetchedBy (says c.args.context) (c.args.stamp + k) c.args.cycle u v f.pc f.ends) i.keeps c.fetch-onward.ensures.fetched in
     record {
+      within = omega (arith, c.loop-number-test.true);
       fetched = fetched_next may c.args.cycle c.args.stamp c.args.context k c.args.track.now u v c.args.fetched.now.items c.loop-number.fetched.items c.push.new.self.items i.fetched i.goes (c.args.stamp + k) f.pc f.ends refl one c.fetch-onward.ensures.kept c.push.ensures.items;
       goes = λ some. ends_so may c.args.cycle c.args.stamp c.args.context k c.args.track.now u v c.args.fetched.now.items c.loop-number.fetched.items c.push.new.self.items i.fetched i.goes (c.args.stamp + k) f.pc f.ends refl one ∙ c.if-onward.false;
       pc = next_pc may c.args.cycle c.args.stamp c.args.context k c.args.track.now u v c.args.fetched.now.items c.loop-number.fetched.items c.push.new.self.items i.fetched i.goes (c.args.stamp + k) f.pc f.ends refl one;
@@ -86,7 +87,4 @@ loop-number-preserved g c =
 
 pub returns-clause-block : goal.returns-clause-block
 returns-clause-block g c =
-    let i = c.loop-number.invariant in
-    let most : c.loop-number.number ≡ c.args.most = omega (arith, c.loop-number-test.false, c.loop-number.auto.number-end) in
-    subst (λ k. IsBlockBy (g.G.Guess.may_answer c.args.guess.now c.args.context) c.args.cycle c.args.stamp c.args.context k c.args.track.now c.loop-number.track) most
-    (block_by (g.G.Guess.may_answer c.args.guess.now c.args.context) c.args.cycle c.args.stamp c.args.context c.loop-number.number c.args.track.now c.loop-number.track c.args.fetched.now.items c.loop-number.fetched.items i.fetched)
+    block_by (g.G.Guess.may_answer c.args.guess.now c.args.context) c.args.cycle c.args.stamp c.args.context c.loop-number.number c.args.track.now c.loop-number.track c.args.fetched.now.items c.loop-number.fetched.items c.loop-number.invariant.fetched
