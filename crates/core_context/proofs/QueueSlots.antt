@@ -1,6 +1,6 @@
 -- What the queues hold of a flight, after each event.
 use Rattle.std.proofs.Common.{◌≡◌, ◌≢◌, ℕ, zero, suc, ◌+◌, ◌<◌, ◌≤◌, Bool, true, false, ◌&&◌, cond, List, [], ◌∷◌, ◌++◌, length, get_or, drop, map, Option, Some, None, slice_get, refl, sym, ap, subst, ◌∙◌, arith}
-use Rattle.std.specs.Prelude.{All, set, ◌==◌, ◌||◌, nat_lt, filter_map, if◌then◌else◌}
+use Rattle.std.specs.Prelude.{All, set, ◌==◌, nat_lt, filter_map, if◌then◌else◌}
 use Rattle.std.specs.List.{cons_option}
 use Rattle.std.proofs.lemmas.Bool.{eq-eqb, ne_eqb}
 use Rattle.std.proofs.lemmas.Option.{get_or_from_slice_get, slice_get_within}
@@ -19,7 +19,6 @@ use Rattle.core_view.specs.Flight.{IsGrowing, span_in, span_read, bytes_in, byte
 use Rattle.core_view.specs.Queues.{is_renamed, LoadSlot, StoreSlot, load_slot, store_slot, loads_of, stores_of}
 use Rattle.core_view.specs.Events.{with_stage, renamed_stage, completed_entry}
 use Rattle.load_store_queue.specs.Queues.{Queues, load_stamp, store_stamp, with_span, slot_with_bytes}
-use Rattle.load_store_queue.specs.Replaced.{without_oldest}
 use Rattle.core_context.specs.Cores.{AllFetched}
 
 -- ---- stamps that grow
@@ -76,26 +75,6 @@ module _ {Q : Type 0} (slot : Entry → Option Q) (stamp : Q → ℕ) (own : (e 
       go (Some q) here ih =
           let differ : stamp q ≢ (get_or es i d).stamp = λ same. omega (arith, own f q here, same, stamp_from (f.stamp + 1) es i d (omega arith) g.1) in
           rw (others q differ, ih) refl
-
-  none_oldest : (k low : ℕ) (es : List Entry) → k < low → IsGrowing low es → without_oldest stamp k (filter_map slot es) ≡ filter_map slot es
-  none_oldest k low [] lt g = refl
-  none_oldest k low (e ∷ es) lt g = let from = g.0 in go (slot e) refl (none_oldest k (e.stamp + 1) es (omega (arith, from)) g.1)
-    where
-      go : (o : Option Q) → slot e ≡ o → without_oldest stamp k (filter_map slot es) ≡ filter_map slot es → without_oldest stamp k (cons_option o (filter_map slot es)) ≡ cons_option o (filter_map slot es)
-      go None is ih = ih
-      go (Some q) is ih =
-          let from = g.0 in
-          let differ : (stamp q == k) ≡ false = ne_eqb (stamp q) k (λ same. omega (arith, from, own e q is, same)) in
-          rw differ refl
-
-  -- the oldest entry leaves
-  drop_oldest : (low : ℕ) (es : List Entry) (d : Entry) → 0 < length es → IsGrowing low es → without_oldest stamp (get_or es 0 d).stamp (filter_map slot es) ≡ filter_map slot (drop 1 es)
-  drop_oldest low [] d some g = absurd (omega arith)
-  drop_oldest low (e ∷ es) d some g = go (slot e) refl
-    where
-      go : (o : Option Q) → slot e ≡ o → without_oldest stamp e.stamp (cons_option o (filter_map slot es)) ≡ filter_map slot es
-      go None is = none_oldest e.stamp (e.stamp + 1) es (omega arith) g.1
-      go (Some q) is = let same : (stamp q == e.stamp) ≡ true = eq-eqb (stamp q) e.stamp (own e q is) in rw same refl
 
   -- all from a stamp on leave
   below_slots : (k : ℕ) (es : List Entry) → below stamp k (filter_map slot es) ≡ filter_map slot (below (λ (e : Entry). e.stamp) k es)
@@ -182,13 +161,8 @@ none_unless false u x h = refl
 slot_unless : {X : Type 0} (t u : Bool) (x : X) → t ≡ false → (if t && u then Some x else None) ≡ None
 slot_unless t u x h = rw h refl
 
-first_not : (t u : Bool) → (t || u) ≡ false → t ≡ false
-first_not true u h = absurd cc
-first_not false u h = refl
-
-second_not : (t u : Bool) → (t || u) ≡ false → u ≡ false
-second_not true u h = absurd cc
-second_not false u h = h
+slot_where : {X : Type 0} (t u : Bool) (x : X) → t ≡ true → u ≡ true → (if t && u then Some x else None) ≡ Some x
+slot_where t u x h k = rw (h, k) refl
 
 load_fetched : (e : Entry) → e.stage ≡ Fetched → load_slot e ≡ None
 load_fetched e is = none_unless (is_load e.operation) (is_renamed e.stage) (record { stamp = e.stamp; span = span_read e.stage }) (ap is_renamed is)
@@ -211,6 +185,14 @@ load_only (operation.Performs insn) h = by_insn insn h
     by_insn insn h = refl
 load_only (operation.Stops why) h = refl
 
+-- and no store is a load
+pub store_only : (o : Operation) → is_store o ≡ true → is_load o ≡ false
+store_only o h = by_load (is_load o) refl
+  where
+    by_load : (b : Bool) → is_load o ≡ b → is_load o ≡ false
+    by_load true is = let clash : true ≡ false = sym h ∙ load_only o is in absurd cc
+    by_load false is = is
+
 -- queues that hold the loads and stores of a flight
 pub record Holds (q : Queues) (es : List Entry) : Type 0 where
   pub loads : q.loads ≡ loads_of es
@@ -225,28 +207,29 @@ loads_below k es = below_slots load_slot load_stamp load_own load_fetched k es
 pub stores_below : (k : ℕ) (es : List Entry) → below store_stamp k (stores_of es) ≡ stores_of (below (λ (e : Entry). e.stamp) k es)
 stores_below k es = below_slots store_slot store_stamp store_own store_fetched k es
 
-pub loads_retire : (es : List Entry) (e : Entry) → slice_get es 0 ≡ Some e → IsRising (λ (f : Entry). f.stamp) es → without_oldest load_stamp e.stamp (loads_of es) ≡ loads_of (drop 1 es)
-loads_retire es e is rising =
-    ap (λ (f : Entry). without_oldest load_stamp f.stamp (loads_of es)) (sym (get_or_from_slice_get es 0 e e is))
-    ∙ drop_oldest load_slot load_stamp load_own load_fetched 0 es e (slice_get_within es 0 e is) (growing_whole es rising)
+-- the oldest entry has a place in a queue
+with_slot : {X : Type 0} (slot : Entry → Option X) (es : List Entry) (e : Entry) (x : X) → slice_get es 0 ≡ Some e → slot e ≡ Some x → drop 1 (filter_map slot es) ≡ filter_map slot (drop 1 es)
+with_slot slot [] e x is some = absurd cc
+with_slot slot (f ∷ es) e x is some = let same : f ≡ e = cc in ap (λ o. drop 1 (cons_option o (filter_map slot es))) (ap slot same ∙ some)
 
-pub stores_retire : (es : List Entry) (e : Entry) → slice_get es 0 ≡ Some e → IsRising (λ (f : Entry). f.stamp) es → without_oldest store_stamp e.stamp (stores_of es) ≡ stores_of (drop 1 es)
-stores_retire es e is rising =
-    ap (λ (f : Entry). without_oldest store_stamp f.stamp (stores_of es)) (sym (get_or_from_slice_get es 0 e e is))
-    ∙ drop_oldest store_slot store_stamp store_own store_fetched 0 es e (slice_get_within es 0 e is) (growing_whole es rising)
+pub loads_retire : (es : List Entry) (e : Entry) → slice_get es 0 ≡ Some e → is_load e.operation ≡ true → is_renamed e.stage ≡ true → drop 1 (loads_of es) ≡ loads_of (drop 1 es)
+loads_retire es e is own renamed =
+    with_slot load_slot es e (record { stamp = e.stamp; span = span_read e.stage }) is (slot_where (is_load e.operation) (is_renamed e.stage) (record { stamp = e.stamp; span = span_read e.stage }) own renamed)
 
--- an entry that has no place in a queue
+pub stores_retire : (es : List Entry) (e : Entry) → slice_get es 0 ≡ Some e → is_store e.operation ≡ true → is_renamed e.stage ≡ true → drop 1 (stores_of es) ≡ stores_of (drop 1 es)
+stores_retire es e is own renamed =
+    with_slot store_slot es e (record { stamp = e.stamp; bytes = bytes_done e.stage }) is (slot_where (is_store e.operation) (is_renamed e.stage) (record { stamp = e.stamp; bytes = bytes_done e.stage }) own renamed)
+
+-- it has none
 without_slot : {X : Type 0} (slot : Entry → Option X) (es : List Entry) (e : Entry) → slice_get es 0 ≡ Some e → slot e ≡ None → filter_map slot es ≡ filter_map slot (drop 1 es)
 without_slot slot [] e is none = absurd cc
 without_slot slot (f ∷ es) e is none = let same : f ≡ e = cc in ap (λ o. cons_option o (filter_map slot es)) (ap slot same ∙ none)
 
-pub loads_retire_other : (es : List Entry) (e : Entry) → slice_get es 0 ≡ Some e → (is_load e.operation || is_store e.operation) ≡ false → loads_of es ≡ loads_of (drop 1 es)
-loads_retire_other es e is other =
-    without_slot load_slot es e is (slot_unless (is_load e.operation) (is_renamed e.stage) (record { stamp = e.stamp; span = span_read e.stage }) (first_not (is_load e.operation) (is_store e.operation) other))
+pub loads_retire_other : (es : List Entry) (e : Entry) → slice_get es 0 ≡ Some e → is_load e.operation ≡ false → loads_of es ≡ loads_of (drop 1 es)
+loads_retire_other es e is other = without_slot load_slot es e is (slot_unless (is_load e.operation) (is_renamed e.stage) (record { stamp = e.stamp; span = span_read e.stage }) other)
 
-pub stores_retire_other : (es : List Entry) (e : Entry) → slice_get es 0 ≡ Some e → (is_load e.operation || is_store e.operation) ≡ false → stores_of es ≡ stores_of (drop 1 es)
-stores_retire_other es e is other =
-    without_slot store_slot es e is (slot_unless (is_store e.operation) (is_renamed e.stage) (record { stamp = e.stamp; bytes = bytes_done e.stage }) (second_not (is_load e.operation) (is_store e.operation) other))
+pub stores_retire_other : (es : List Entry) (e : Entry) → slice_get es 0 ≡ Some e → is_store e.operation ≡ false → stores_of es ≡ stores_of (drop 1 es)
+stores_retire_other es e is other = without_slot store_slot es e is (slot_unless (is_store e.operation) (is_renamed e.stage) (record { stamp = e.stamp; bytes = bytes_done e.stage }) other)
 
 -- ---- one more entry is fetched
 

@@ -25,7 +25,7 @@ use Rattle.core_view.specs.Operations.{stops_at_fetch, is_guessed, is_store}
 use Rattle.core_view.specs.Outcomes.{Image, bytes_written, memory_after}
 use Rattle.core_view.specs.Flight.{is_queued, is_done, Seen, seen_past, pc_past, is_open, span_read, bytes_in, touches, clean_length, HasOutcome, IsSoundEntry, IsSound}
 use Rattle.core_view.specs.Events.{is_mispredicted, kept_length, completed_entry, complete_in}
-use Rattle.core_view.specs.Queues.{loads_of, conflict_in, conflict_of}
+use Rattle.core_view.specs.Queues.{is_renamed, loads_of, conflict_in, conflict_of}
 use Rattle.core_view.specs.View.{no_entry}
 use Rattle.core_view.proofs.Accesses.{stage_bytes}
 use Rattle.core_view.proofs.Accesses.{store_predicted}
@@ -34,7 +34,7 @@ use Rattle.core_view.proofs.RingForm.{complete_take}
 use Rattle.core_view.proofs.Sound.{sound_at}
 use Rattle.flight.specs.Flights.{NoneFrom, IsNext}
 use Rattle.flight.specs.Marked.{is_waiting}
-use Rattle.core_context.specs.Heads.{done_outcome, first_done}
+use Rattle.core_context.specs.Heads.{IsGoing, done_outcome, first_done}
 use Rattle.core_context.specs.Queued.{queued_at}
 use Rattle.core_context.specs.Track.{Track, left_by, cut_stamp, finished, cut_at, completed, is_mispredicted_by}
 use Rattle.core_context.proofs.QueueSlots.{growing_whole}
@@ -67,6 +67,12 @@ memory_unwritten environment memory (Reads span) none = refl
 memory_unwritten environment memory (Writes bytes) none = absurd (none-some bytes (sym none))
 
 -- the oldest entry as it is read
+pub going_renamed : (s : Stage) → IsGoing (done_outcome s) → is_renamed s ≡ true
+going_renamed Fetched h = absurd cc
+going_renamed Queued h = refl
+going_renamed (Issued x) h = refl
+going_renamed (Done x) h = refl
+
 pub first_read : (es : List Entry) (e : Entry) → slice_get es 0 ≡ Some e → first_done es ≡ done_outcome e.stage
 first_read [] e h = absurd cc
 first_read (x ∷ es) e h = let same : x ≡ e = cc in ap (λ (f : Entry). done_outcome f.stage) same

@@ -1,17 +1,16 @@
 //! What the oldest entry of a context does as it retires.
 
-ghost use Rattle.std.specs.Prelude.{◌≡◌, ◌||◌, List, false, drop, Some, None, slice_get};
-ghost use Rattle.reorder_buffer.specs.Growing.{IsGrowing};
+ghost use Rattle.std.specs.Prelude.{◌≡◌, List, true, false, drop, Some, None, slice_get};
 ghost use Rattle.core_view.specs.Outcomes.{memory_after, bytes_written, IsSized};
-ghost use Rattle.core_view.specs.Operations.{is_load, is_store};
+ghost use Rattle.core_view.specs.Operations.{is_store};
 ghost use Rattle.core_view.specs.declared.entry.Entry.{Entry};
-ghost use Rattle.core_view.specs.Queues.{loads_of, stores_of};
+ghost use Rattle.core_view.specs.Queues.{is_renamed, loads_of, stores_of};
 ghost use Rattle.hart_step.specs.State.{written};
 ghost use Rattle.core_context.specs.Heads.{IsGoing, done_outcome, step_on};
 
 use crate::decoded_memory::DecodedMemory;
 use branch_predict::Guess;
-use core_view::{Access, Decoded, Entry, Operation, Outcome, Stage, Step};
+use core_view::{Access, Entry, Operation, Outcome, Stage, Step};
 use hart_step::Environment;
 use join_law::Ctx;
 use load_store_queue::LoadStoreQueue;
@@ -44,16 +43,8 @@ pub(crate) fn set_register(registers: &mut [u64; 32], destination: Register, val
     registers[place] = value;
 }
 
-/// Whether an operation has a place in the load queue or the store queue.
-#[inline(always)]
-fn accesses_memory(operation: &Decoded) -> bool
-    ensures { result ≡ (is_load operation.now || is_store operation.now) }
-{
-    operation.is_load() || operation.is_store()
-}
-
-/// The access of the oldest entry, which retires: memory gets what it writes, and the entry leaves the queue that it is in.
-/// One jump says that there is neither.
+/// The access of the oldest entry, which retires: memory gets what it writes, and the entry leaves the queue that it is
+/// in, as its oldest.
 #[inline(always)]
 pub(crate) fn retire_access<A: Allocator>(
     memory: &mut DecodedMemory<A>,
@@ -63,16 +54,19 @@ pub(crate) fn retire_access<A: Allocator>(
     access: &Access,
 )
     requires sized { IsSized access.now }
+    requires renamed { is_renamed oldest.now.stage ≡ true }
     requires unwritten { is_store oldest.now.operation ≡ false → bytes_written access.now ≡ None }
     ensures memory { memory.new ≡ memory_after environment memory.old access.now }
-    ensures loads { (es : List Entry) → slice_get es 0 ≡ Some oldest.now → IsGrowing (λ (e : Entry). e.stamp) es → queue.old.loads ≡ loads_of es → queue.new.loads ≡ loads_of (drop 1 es) }
-    ensures stores { (es : List Entry) → slice_get es 0 ≡ Some oldest.now → IsGrowing (λ (e : Entry). e.stamp) es → queue.old.stores ≡ stores_of es → queue.new.stores ≡ stores_of (drop 1 es) }
+    ensures loads { (es : List Entry) → slice_get es 0 ≡ Some oldest.now → queue.old.loads ≡ loads_of es → queue.new.loads ≡ loads_of (drop 1 es) }
+    ensures stores { (es : List Entry) → slice_get es 0 ≡ Some oldest.now → queue.old.stores ≡ stores_of es → queue.new.stores ≡ stores_of (drop 1 es) }
     ensures load_places { queue.new.load_places ≡ queue.old.load_places }
     ensures store_places { queue.new.store_places ≡ queue.old.store_places }
 {
-    if accesses_memory(&oldest.operation) {
+    if oldest.operation.is_store() {
         memory.write(environment, access);
-        queue.retire(oldest.stamp);
+        queue.retire_store();
+    } else if oldest.operation.is_load() {
+        queue.retire_load();
     }
 }
 

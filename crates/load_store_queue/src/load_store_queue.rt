@@ -1,6 +1,6 @@
 //! The load queue and the store queue of one context.
 
-ghost use Rattle.std.specs.Prelude.{◌≡◌, ◌↔◌, ◌<◌, ◌≤◌, [], ◌∷◌, ◌++◌, All, length, map, false, None, Some, Err, is_some, IfOk, IfSome, OnOk, OnErr, IsOk, IsTrue, if◌then◌else◌};
+ghost use Rattle.std.specs.Prelude.{◌≡◌, ◌↔◌, ◌<◌, ◌≤◌, [], ◌∷◌, ◌++◌, All, length, map, drop, false, None, Some, Err, is_some, IfOk, IfSome, OnOk, OnErr, IsOk, IsTrue, if◌then◌else◌};
 ghost use Rattle.reorder_buffer.specs.Growing.{IsGrowing, below};
 ghost use Rattle.paged_memory.specs.Cells.{byte_at, bytes_of};
 ghost use Rattle.core_view.specs.Outcomes.{load_span};
@@ -158,6 +158,20 @@ impl<A: Allocator> LoadStoreQueue<A> {
         } else {
             LoadAnswer::Wait
         }
+    }
+
+    /// The oldest load leaves.
+    pub fn retire_load(&mut self)
+        ensures { self.new ≡ record self.old { loads = drop 1 self.old.loads } }
+    {
+        let _oldest = self.loads.retire();
+    }
+
+    /// The oldest store leaves.
+    pub fn retire_store(&mut self)
+        ensures { self.new ≡ record self.old { stores = drop 1 self.old.stores } }
+    {
+        let _oldest = self.stores.retire();
     }
 
     /// Where the oldest load or the oldest store has this stamp, it leaves.

@@ -1,27 +1,32 @@
-use Rattle.std.proofs.Common.{sym, ap, ◌∙◌}
-use Rattle.std.proofs.lemmas.Bool.{or_parts}
-use Rattle.core_view.specs.Operations.{is_load, is_store}
-use Rattle.load_store_queue.specs.Queues.{Queues, load_stamp, store_stamp}
-use Rattle.load_store_queue.specs.Replaced.{without_oldest}
-use Rattle.core_context.proofs.QueueSlots.{loads_retire, stores_retire, loads_retire_other, stores_retire_other}
+use Rattle.std.proofs.Common.{drop, sym, ap, ◌∙◌}
+use Rattle.load_store_queue.specs.Queues.{Queues}
+use Rattle.core_context.proofs.QueueSlots.{loads_retire, stores_retire, loads_retire_other, stores_retire_other, store_only}
 use Rattle.core_context.proofs.Tracks.{memory_unwritten}
 use Rattle.core_context.proofs.retirement.retire_access.Goals as goal
 
-pub returns-then-accesses_memory-clause-loads : goal.returns-then-accesses_memory-clause-loads
-returns-then-accesses_memory-clause-loads g c es is rising holds =
-    ap (λ (q : Queues). q.loads) c.retire.ensures ∙ ap (without_oldest load_stamp c.args.oldest.now.stamp) holds ∙ loads_retire es c.args.oldest.now is rising
+pub returns-then-is_store-clause-loads : goal.returns-then-is_store-clause-loads
+returns-then-is_store-clause-loads g c es is holds =
+    ap (λ (q : Queues). q.loads) c.retire_store.ensures ∙ holds ∙ loads_retire_other es c.args.oldest.now is (store_only c.args.oldest.now.operation (sym c.is_store.ensures ∙ c.if-is_store.true))
 
-pub returns-then-accesses_memory-clause-stores : goal.returns-then-accesses_memory-clause-stores
-returns-then-accesses_memory-clause-stores g c es is rising holds =
-    ap (λ (q : Queues). q.stores) c.retire.ensures ∙ ap (without_oldest store_stamp c.args.oldest.now.stamp) holds ∙ stores_retire es c.args.oldest.now is rising
+pub returns-then-is_store-clause-stores : goal.returns-then-is_store-clause-stores
+returns-then-is_store-clause-stores g c es is holds =
+    ap (λ (q : Queues). q.stores) c.retire_store.ensures ∙ ap (drop 1) holds ∙ stores_retire es c.args.oldest.now is (sym c.is_store.ensures ∙ c.if-is_store.true) c.requires.renamed
 
-pub returns-else-accesses_memory-clause-loads : goal.returns-else-accesses_memory-clause-loads
-returns-else-accesses_memory-clause-loads g c es is rising holds = holds ∙ loads_retire_other es c.args.oldest.now is (sym c.accesses_memory.ensures ∙ c.if-accesses_memory.false)
+pub returns-then-is_load-clause-loads : goal.returns-then-is_load-clause-loads
+returns-then-is_load-clause-loads g c es is holds =
+    ap (λ (q : Queues). q.loads) c.retire_load.ensures ∙ ap (drop 1) holds ∙ loads_retire es c.args.oldest.now is (sym c.is_load.ensures ∙ c.if-is_load.true) c.requires.renamed
 
-pub returns-else-accesses_memory-clause-stores : goal.returns-else-accesses_memory-clause-stores
-returns-else-accesses_memory-clause-stores g c es is rising holds = holds ∙ stores_retire_other es c.args.oldest.now is (sym c.accesses_memory.ensures ∙ c.if-accesses_memory.false)
+pub returns-then-is_load-clause-stores : goal.returns-then-is_load-clause-stores
+returns-then-is_load-clause-stores g c es is holds = ap (λ (q : Queues). q.stores) c.retire_load.ensures ∙ holds ∙ stores_retire_other es c.args.oldest.now is (sym c.is_store.ensures ∙ c.if-is_store.false)
 
-pub returns-else-accesses_memory-clause-memory : goal.returns-else-accesses_memory-clause-memory
-returns-else-accesses_memory-clause-memory g c =
-    let parts = or_parts (is_load c.args.oldest.now.operation) (is_store c.args.oldest.now.operation) (sym c.accesses_memory.ensures ∙ c.if-accesses_memory.false) in
-    sym (memory_unwritten c.args.environment c.args.memory.now c.args.access.now (c.requires.unwritten parts.1))
+pub returns-then-is_load-clause-memory : goal.returns-then-is_load-clause-memory
+returns-then-is_load-clause-memory g c = sym (memory_unwritten c.args.environment c.args.memory.now c.args.access.now (c.requires.unwritten (sym c.is_store.ensures ∙ c.if-is_store.false)))
+
+pub returns-else-is_load-clause-loads : goal.returns-else-is_load-clause-loads
+returns-else-is_load-clause-loads g c es is holds = holds ∙ loads_retire_other es c.args.oldest.now is (sym c.is_load.ensures ∙ c.if-is_load.false)
+
+pub returns-else-is_load-clause-stores : goal.returns-else-is_load-clause-stores
+returns-else-is_load-clause-stores g c es is holds = holds ∙ stores_retire_other es c.args.oldest.now is (sym c.is_store.ensures ∙ c.if-is_store.false)
+
+pub returns-else-is_load-clause-memory : goal.returns-else-is_load-clause-memory
+returns-else-is_load-clause-memory g c = sym (memory_unwritten c.args.environment c.args.memory.now c.args.access.now (c.requires.unwritten (sym c.is_store.ensures ∙ c.if-is_store.false)))
