@@ -151,6 +151,11 @@ module _ {A : Type 0} where
       } in v) ≡ now
   shown_same m now c k u shows same context = shown_after m now c k u (context_at now c) shows same context ∙ ap (with_contexts now) (set-get_or now.view.contexts c no_context)
 
+  -- the context after an event
+  pub shown_there : (m : Inside A) (c k : ℕ) (u : Track) → c < length m.tracks.items → k ≡ c → u.context ≡ get_or (map (λ (t : Track). t.context) (set m.tracks.items k u)) c no_context
+  shown_there m c k u lt same =
+      rw (same, map-set (λ (t : Track). t.context) m.tracks.items c u, get_or-set_same (map (λ (t : Track). t.context) m.tracks.items) c u.context no_context (omega (arith, lt, length-map m.tracks.items (λ (t : Track). t.context)))) refl
+
   -- how many entries a context has after an event
   pub shown_length : (m : Inside A) (c k : ℕ) (u : Track) → c < length m.tracks.items → k ≡ c → (cut before : ℕ) → cut + length u.context.flight ≡ before
       → cut + length (get_or (map (λ (t : Track). t.context) (set m.tracks.items k u)) c no_context).flight ≡ before

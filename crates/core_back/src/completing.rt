@@ -39,11 +39,10 @@ pub fn complete<A: Allocator>(machine: &mut Machine<A>) -> Completion
     let mut left = hinted(machine);
     while left != 0 {
         let context = first_context(left);
-        let done = complete_next(machine, context);
-        completed += done.completed;
-        cut += done.cut;
-        let more = may_have_more(machine, context, done.completed);
-        left = word_mask::assigned(left, context.index(), more);
+        let turn = complete_next(machine, context);
+        completed += turn.completed;
+        cut += turn.cut;
+        left = word_mask::assigned(left, context.index(), turn.more);
     }
     Completion { completed, cut }
 }
@@ -80,22 +79,53 @@ fn may_have_more<A: Allocator>(machine: &Machine<A>, context: Ctx, completed: us
     completed != 0 && machine.may_be_due(context)
 }
 
+/// What a turn did, and whether one more entry of its context may be due.
+#[derive(Clone, Copy)]
+pub struct Turn {
+    /// How many entries completed: one, or none.
+    pub completed: usize,
+    /// How many were squashed.
+    pub cut: usize,
+    /// Whether the context has another turn.
+    pub more: bool,
+}
+
 /// The oldest entry of a context that is due completes, if there is one.
 #[inline(always)]
-fn complete_next<A: Allocator>(machine: &mut Machine<A>, context: Ctx) -> Completion
+fn complete_next<A: Allocator>(machine: &mut Machine<A>, context: Ctx) -> Turn
     requires idle { machine.old.names ≡ [] }
-    ensures { IsTurn machine.old machine.new context result.completed result.cut }
+    ensures turn { IsTurn machine.old machine.new context result.completed result.cut }
+    ensures more { IsTrue result.more → 0 < result.completed }
+    ensures none { result.more ≡ false → 0 < result.completed → NoneFrom (is_due machine.new.view.cycle) (context_at machine.new context).flight 0 }
 {
-    let Some(_place) = machine.complete_plain(context) else {
-        return complete_found(machine, context);
+    let Some(finished) = machine.complete_plain(context) else {
+        return search_turn(machine, context);
     };
-    Completion {
+    Turn {
         completed: 1,
         cut: 0,
+        more: finished.more,
     }
 }
 
 /// The same, by a search.
+#[inline(always)]
+fn search_turn<A: Allocator>(machine: &mut Machine<A>, context: Ctx) -> Turn
+    requires idle { machine.old.names ≡ [] }
+    ensures turn { IsTurn machine.old machine.new context result.completed result.cut }
+    ensures more { IsTrue result.more → 0 < result.completed }
+    ensures none { result.more ≡ false → 0 < result.completed → NoneFrom (is_due machine.new.view.cycle) (context_at machine.new context).flight 0 }
+{
+    let done = complete_found(machine, context);
+    let more = may_have_more(machine, context, done.completed);
+    Turn {
+        completed: done.completed,
+        cut: done.cut,
+        more,
+    }
+}
+
+/// The oldest entry of a context that is due, by a search, completes, if there is one.
 fn complete_found<A: Allocator>(machine: &mut Machine<A>, context: Ctx) -> Completion
     requires idle { machine.old.names ≡ [] }
     ensures { IsTurn machine.old machine.new context result.completed result.cut }

@@ -34,6 +34,7 @@ use core_profile::Profile;
 use core_view::{Entry, EntryId, Issue, Outcome, Status};
 use data_flow::DataFlow;
 use data_tags::{Delay, Lag};
+use flight::Finished;
 use hart_step::Stop;
 use issue_queue::Order;
 use join_law::{Ctx, Eight};
@@ -249,14 +250,15 @@ impl<A: Allocator> Machine<A> {
     }
 
     /// The oldest entry of a context that is due in this cycle completes, if its hint comes first and it is plain. It
-    /// squashes nothing. Returns its place.
+    /// squashes nothing.
     #[inline(always)]
-    pub fn complete_plain(&mut self, context: Ctx) -> Option<usize>
+    pub fn complete_plain(&mut self, context: Ctx) -> Option<Finished>
         requires idle { self.old.names ≡ [] }
         ensures none { result ≡ None → self.new ≡ self.old }
-        ensures next { IfSome result (IsNext (is_due self.old.view.cycle) (context_at self.old context).flight 0) }
-        ensures completed { IfSome result (λ place. self.new ≡ with_context self.old context (complete_event (context_at self.old context) place (execution_of (entry_at (context_at self.old context) place).stage))) }
+        ensures next { IfSome result (λ f. IsNext (is_due self.old.view.cycle) (context_at self.old context).flight 0 f.place) }
+        ensures completed { IfSome result (λ f. self.new ≡ with_context self.old context (complete_event (context_at self.old context) f.place (execution_of (entry_at (context_at self.old context) f.place).stage))) }
         ensures kept { IfSome result (λ _. length (context_at self.new context).flight ≡ length (context_at self.old context).flight) }
+        ensures more { IfSome result (λ f. f.more ≡ false → NoneFrom (is_due self.new.view.cycle) (context_at self.new context).flight 0) }
     {
         let track = &mut self.tracks[context.index()];
         events::complete_plain(&mut self.flow, track, context, self.cycle)

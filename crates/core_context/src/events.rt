@@ -26,6 +26,7 @@ use core_profile::Profile;
 use core_view::Entry;
 use data_flow::{DataFlow, Operands};
 use data_tags::{Delay, Lag};
+use flight::Finished;
 use hart_step::Stop;
 use join_law::Ctx;
 use std::alloc::Allocator;
@@ -88,24 +89,24 @@ pub fn stop<A: Allocator>(flow: &mut DataFlow<A>, track: &mut Track<A>, context:
 }
 
 /// The oldest entry that is due in a cycle completes, if its hint comes first and it is plain. It squashes nothing.
-/// Returns its place.
 #[inline(always)]
 pub fn complete_plain<A: Allocator>(
     flow: &mut DataFlow<A>,
     track: &mut Track<A>,
     context: Ctx,
     cycle: u64,
-) -> Option<usize>
+) -> Option<Finished>
     requires core { IsIdleCore flow.old context track.old }
     ensures none { result ≡ None → (flow.new ≡ flow.old) × (track.new ≡ track.old) }
-    ensures next { IfSome result (IsNext (is_due cycle) track.old.context.flight 0) }
-    ensures track { IfSome result (λ place. track.new ≡ completed track.old place (execution_of (entry_at track.old.context place).stage)) }
+    ensures next { IfSome result (λ f. IsNext (is_due cycle) track.old.context.flight 0 f.place) }
+    ensures track { IfSome result (λ f. track.new ≡ completed track.old f.place (execution_of (entry_at track.old.context f.place).stage)) }
     ensures kept { IfSome result (λ _. length track.new.context.flight ≡ length track.old.context.flight) }
+    ensures more { IfSome result (λ f. f.more ≡ false → (i : ℕ) → is_due cycle (entry_at track.new.context i) ≡ false) }
     ensures event { IsEventAt context flow.old flow.new track.old track.new }
 {
     let finished = track.finish_plain(cycle)?;
     flow.finish(context, finished.place, finished.value);
-    Some(finished.place)
+    Some(finished)
 }
 
 /// The entry at a place, which is issued, completes, and squashes what it doesn't keep. Returns how many entries are

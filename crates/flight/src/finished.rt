@@ -7,4 +7,6 @@ pub struct Finished {
     pub place: usize,
     /// Its result.
     pub value: u64,
+    /// Whether one more may be due in the same cycle.
+    pub more: bool,
 }

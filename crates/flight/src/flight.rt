@@ -344,6 +344,7 @@ impl<A: Allocator> Flight<A> {
         ensures none { result ≡ None → self.new ≡ self.old }
         ensures plain { IfSome result (IsPlain cycle self.old.entries) }
         ensures done { IfSome result (λ f. self.new ≡ finished_one self.old f.place (execution_of (entry_in self.old.entries f.place).stage)) }
+        ensures more { IfSome result (λ f. f.more ≡ false → (i : ℕ) → is_due cycle (entry_in self.new.entries i) ≡ false) }
     {
         let place = self.next_hint(cycle, 0);
         if place >= self.renamed_count() || has(self.marks.open_guesses, place) {
@@ -351,7 +352,8 @@ impl<A: Allocator> Flight<A> {
         }
         let value = plain_result(at(&self.ring, place), cycle)?;
         self.finish(place);
-        Some(Finished { place, value })
+        let more = self.may_be_due(cycle);
+        Some(Finished { place, value, more })
     }
 
     /// The first place from one on whose entry is due in a cycle. Bits of what was cut are cleared on the way.

@@ -11,7 +11,7 @@ pub loop-left-init : goal.loop-left-init
 loop-left-init g c = turned_first c.args.machine.now c.hinted-left.result c.cycle-cycle.ensures.contexts c.hinted-left.ensures.known c.hinted-left.ensures.none
 
 pub overflow_add-completed : goal.overflow_add-completed
-overflow_add-completed g c = omega (arith, c.loop-left.invariant.number, total_most c.args.machine.now.view.cycle c.args.machine.now c.cycle-cycle.ensures.few, c.complete_next-done.ensures.one)
+overflow_add-completed g c = omega (arith, c.loop-left.invariant.number, total_most c.args.machine.now.view.cycle c.args.machine.now c.cycle-cycle.ensures.few, c.complete_next-turn.ensures.turn.one)
 
 pub overflow_add-cut : goal.overflow_add-cut
 overflow_add-cut g c =
@@ -19,22 +19,22 @@ overflow_add-cut g c =
     omega (
       arith,
       most,
-      turned_cut c.args.machine.now c.loop-left.machine c.complete_next-done.new.machine c.loop-left.left c.first_context-context.result c.loop-left.completed c.loop-left.cut _ _ c.loop-left.invariant c.complete_next-done.ensures
+      turned_cut c.args.machine.now c.loop-left.machine c.complete_next-turn.new.machine c.loop-left.left c.first_context-context.result c.loop-left.completed c.loop-left.cut _ _ c.loop-left.invariant c.complete_next-turn.ensures.turn
           (c.loop-left.invariant.known c.first_context-context.result c.first_context-context.ensures),
     )
 
 pub loop-left-smaller : goal.loop-left-smaller
 loop-left-smaller g c =
-    let word = subst (λ i. (p : ℕ) → has c.assigned-left.result p ≡ (if p == i then c.may_have_more-more.result else has c.loop-left.left p)) c.index.ensures.value c.assigned-left.ensures in
-    less_left c.args.machine.now c.loop-left.machine c.complete_next-done.new.machine c.loop-left.left c.assigned-left.result c.first_context-context.result c.loop-left.completed c.loop-left.cut c.complete_next-done.result.completed c.complete_next-done.result.cut c.may_have_more-more.result
-    c.loop-left.invariant c.complete_next-done.ensures c.first_context-context.ensures word c.may_have_more-more.ensures.more
+    let word = subst (λ i. (p : ℕ) → has c.assigned-left.result p ≡ (if p == i then c.complete_next-turn.result.more else has c.loop-left.left p)) c.index.ensures.value c.assigned-left.ensures in
+    less_left c.args.machine.now c.loop-left.machine c.complete_next-turn.new.machine c.loop-left.left c.assigned-left.result c.first_context-context.result c.loop-left.completed c.loop-left.cut c.complete_next-turn.result.completed c.complete_next-turn.result.cut c.complete_next-turn.result.more
+    c.loop-left.invariant c.complete_next-turn.ensures.turn c.first_context-context.ensures word c.complete_next-turn.ensures.more
 
 pub loop-left-preserved : goal.loop-left-preserved
 loop-left-preserved g c =
-    let word = subst (λ i. (p : ℕ) → has c.assigned-left.result p ≡ (if p == i then c.may_have_more-more.result else has c.loop-left.left p)) c.index.ensures.value c.assigned-left.ensures in
-    turned_next c.args.machine.now c.loop-left.machine c.complete_next-done.new.machine c.loop-left.left c.assigned-left.result c.first_context-context.result c.loop-left.completed c.loop-left.cut c.complete_next-done.result.completed c.complete_next-done.result.cut c.may_have_more-more.result
-    c.loop-left.invariant c.complete_next-done.ensures c.first_context-context.ensures word
-    (λ none. none_left c.loop-left.machine c.complete_next-done.new.machine c.first_context-context.result c.complete_next-done.result.completed c.complete_next-done.result.cut c.complete_next-done.ensures (c.may_have_more-more.ensures.none none))
+    let word = subst (λ i. (p : ℕ) → has c.assigned-left.result p ≡ (if p == i then c.complete_next-turn.result.more else has c.loop-left.left p)) c.index.ensures.value c.assigned-left.ensures in
+    turned_next c.args.machine.now c.loop-left.machine c.complete_next-turn.new.machine c.loop-left.left c.assigned-left.result c.first_context-context.result c.loop-left.completed c.loop-left.cut c.complete_next-turn.result.completed c.complete_next-turn.result.cut c.complete_next-turn.result.more
+    c.loop-left.invariant c.complete_next-turn.ensures.turn c.first_context-context.ensures word
+    (λ none. none_left c.loop-left.machine c.complete_next-turn.new.machine c.first_context-context.result c.complete_next-turn.result.completed c.complete_next-turn.result.cut c.complete_next-turn.ensures.turn (c.complete_next-turn.ensures.none none))
 
 pub returns-clause-completed : goal.returns-clause-completed
 returns-clause-completed g c =

@@ -15,7 +15,7 @@ returns-clause-plain g c =
     let renamed : place < c.self.inside.renamed = omega (arith, c.if-place-renamed_count.false, c.renamed_count.ensures.value, ap (λ (f : Flight). f.renamed) c.self.view_is) in
     let due : is_due c.args.cycle (entry_in es place) ≡ true = ap (is_due c.args.cycle) (sym c.at.ensures) ∙ c.in_ok-value.ensures.due in
     let closed = bit-clear is_open_guess es c.self.inside.marks.open_guesses c.self.inside.renamed place (ap (λ (m : Marks). m.open_guesses) c.self.invariant.1.marked) c.self.invariant.1.within renamed (c.has.ensures.clear c.if-has.false) in
-    subst (λ (f : Flight). IsPlain c.args.cycle f.entries (record { place = place; value = c.in_ok-value.value })) c.self.view_is (record {
+    subst (λ (f : Flight). IsPlain c.args.cycle f.entries (record { place = place; value = c.in_ok-value.value; more = c.may_be_due-more.result })) c.self.view_is (record {
       next = record {
         after = omega arith;
         within = omega (arith, renamed, c.self.invariant.1.within);
