@@ -125,7 +125,21 @@ fn value_at(pc: u64, value: u64) -> Effect
     }
 }
 
-/// On at a target, which four has to divide, with the address of the next instruction in line as the value.
+/// On at a target, which four has to divide.
+#[inline(always)]
+fn went_to(target: u64) -> Effect
+    ensures { result ≡ went_to_of target }
+{
+    if target % 4 == 0 {
+        Effect::Goes { target }
+    } else {
+        Effect::Stops {
+            why: Stop::TargetMisaligned,
+        }
+    }
+}
+
+/// The same, with the address of the next instruction in line as the value.
 #[inline(always)]
 fn linked_to(pc: u64, target: u64) -> Effect
     ensures { result ≡ linked_to_of pc target }
@@ -180,16 +194,11 @@ fn branched(condition: BranchCondition, offset: BranchOffset, pc: u64, a: u64, b
     ensures effect { result ≡ (if condition_holds condition a b then went_to_of (offset_from pc offset) else Effect.Goes (following_of pc)) }
     ensures aligned { pc % 4 ≡ 0 → LeadsToAligned result }
 {
-    // Without a jump on the condition: where it doesn't hold, 0 is asked for, which four divides.
-    let taken = usize::from(holds(condition, a, b));
-    let there = offset_by(pc, i64::from(offset.value()));
-    if [0, there][taken] % 4 == 0 {
-        Effect::Goes {
-            target: [following(pc), there][taken],
-        }
+    if holds(condition, a, b) {
+        went_to(offset_by(pc, i64::from(offset.value())))
     } else {
-        Effect::Stops {
-            why: Stop::TargetMisaligned,
+        Effect::Goes {
+            target: following(pc),
         }
     }
 }

@@ -1,7 +1,7 @@
 //! What instructions compute on 64-bit values.
 
 ghost use Rattle.std.specs.Prelude.{◌≡◌, ◌<◌};
-ghost use Rattle.hart_step.specs.Values.{chosen_of, condition_holds, extended as extended_of, low as low_of, shifted_right as shifted_right_of, shifted_right_word as shifted_right_word_of, imm_result, shift_result, shift_word_result, alu_result, word_result, loaded as loaded_of};
+ghost use Rattle.hart_step.specs.Values.{condition_holds, extended as extended_of, low as low_of, shifted_right as shifted_right_of, shifted_right_word as shifted_right_word_of, imm_result, shift_result, shift_word_result, alu_result, word_result, loaded as loaded_of};
 
 use rv64_decode::{AluOp, BranchCondition, ImmOp, LoadKind, ShiftOp, WordOp};
 
@@ -10,19 +10,14 @@ use rv64_decode::{AluOp, BranchCondition, ImmOp, LoadKind, ShiftOp, WordOp};
 pub fn holds(condition: BranchCondition, a: u64, b: u64) -> bool
     ensures { result ≡ condition_holds condition a b }
 {
-    let equal = a == b;
-    let less = a.cast_signed() < b.cast_signed();
-    let below = a < b;
-    chosen(condition, equal, less, below)
-}
-
-/// Whether a condition holds of two numbers, by whether they are equal, the first is less, and less without signs. A
-/// look-up takes no jump.
-#[inline(always)]
-fn chosen(condition: BranchCondition, equal: bool, less: bool, below: bool) -> bool
-    ensures { result ≡ chosen_of condition equal less below }
-{
-    [equal, !equal, less, !less, below, !below][condition as usize]
+    match condition {
+        BranchCondition::Equal => a == b,
+        BranchCondition::NotEqual => a != b,
+        BranchCondition::Less => a.cast_signed() < b.cast_signed(),
+        BranchCondition::NotLess => a.cast_signed() >= b.cast_signed(),
+        BranchCondition::LessUnsigned => a < b,
+        BranchCondition::NotLessUnsigned => a >= b,
+    }
 }
 
 /// 32 bits, sign-extended to 64.
