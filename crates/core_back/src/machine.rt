@@ -369,6 +369,8 @@ impl<A: Allocator> Machine<A> {
 
     /// The oldest fetched entry of a context is renamed, if it can be and its stamp is no greater than a limit. Returns
     /// its stamp.
+    // It stays out of line: in a caller's loop its conditional moves become jumps, which are guessed wrongly.
+    #[inline(never)]
     pub fn try_rename(&mut self, context: Ctx, limit: u64) -> Option<u64>
         requires { self.old.names ≡ [] }
         ensures none { result ≡ None → self.new ≡ self.old }

@@ -47,8 +47,6 @@ pub(crate) fn rename<A: Allocator>(machine: &mut Machine<A>, renamed: &mut Array
 /// Entries of a context are renamed for as long as they can be, come before what can be renamed of the other contexts, and
 /// there are fewer in all than the width. What can be renamed of another context then could be before, so that none but
 /// this context's front changes.
-// It stays out of line: what the fronts need isn't held in registers then while an entry is renamed.
-#[inline(never)]
 fn rename_run<A: Allocator>(
     machine: &mut Machine<A>,
     renamed: &mut ArrayVec<EntryId, 8>,
