@@ -18,7 +18,9 @@ fn load() -> Decoded {
 #[test]
 fn a_load_waits_and_is_cut(rt: HostRuntime) -> Result<(), Fail> {
     let mut flight = Flight::new(rt.alloc(), 80)?;
-    flight.push(Entry::new(7, 1, 0x1000, load(), 0x1004));
+    let operation = load();
+    let guessed = operation.is_guessed();
+    flight.push(Entry::new(7, 1, 0x1000, operation, 0x1004), guessed);
     flight.rename(5);
     assert_eq!(rt; flight.next_waiting_load(0), Some(0));
     assert_eq!(rt; flight.known_waiting(7), Some(0));
