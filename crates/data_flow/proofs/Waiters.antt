@@ -1,18 +1,13 @@
 -- What waits, after the calls of the queue that wake, drop and put entries.
-use Rattle.std.proofs.Common.{◌≡◌, ℕ, ◌<◌, Bool, true, false, not, List, [], ◌∷◌, ◌++◌, length, get_or, map, Option, Some, None, refl, sym, ap, ap₂, ◌∙◌}
+use Rattle.std.proofs.Common.{◌≡◌, ℕ, Bool, true, false, not, List, [], ◌∷◌, ◌++◌, map, refl, ap}
 use Rattle.std.specs.Prelude.{All, filter}
-use Rattle.std.specs.Option.{option_to_list}
 use Rattle.std.proofs.lemmas.Bool.{not-true}
 use Rattle.std.proofs.lemmas.List.{map-append}
-use Rattle.std.proofs.lemmas.List.Elements.{All-weaker, All-push, filter_passes}
-use Rattle.circular_buffer.specs.Buffer.{Buffer}
-use Rattle.issue_queue.specs.declared.entry.Waiting.{Waiting}
+use Rattle.std.proofs.lemmas.List.Elements.{All-weaker, filter_passes}
 use Rattle.issue_queue.specs.Entry.{Entry}
 use Rattle.issue_queue.specs.IssueQueue.{awake, is_from}
-use Rattle.issue_queue.specs.Views.{entry_of}
-use Rattle.data_flow.specs.declared.operands.Renamed.{Renamed}
 use Rattle.data_flow.specs.Flow.{Waiter, is_waiter_from}
-use Rattle.data_flow.specs.Wired.{no_buffer, no_renamed, unready, waiter_of, IsWaiting}
+use Rattle.data_flow.specs.Wired.{waiter_of}
 
 -- a result changes nothing of what waits but the registers
 pub waiters_awake : (p : ℕ) (es : List Entry) → map waiter_of (map (awake p) es) ≡ map waiter_of es
@@ -39,4 +34,3 @@ none_from c k ws =
 
 pub waiters_put : (es : List Entry) (e : Entry) → map waiter_of (es ++ e ∷ []) ≡ map waiter_of es ++ waiter_of e ∷ []
 waiters_put es e = map-append waiter_of es (e ∷ [])
-

@@ -1,5 +1,5 @@
 -- Masks in step with the places.
-use Rattle.std.proofs.Common.{◌≡◌, ℕ, zero, suc, max, ◌++◌, Option, Some, None, ◌<◌, ◌≤◌, inl, inr, Bool, true, false, cond, not, ◌&&◌, ◌||◌, eqb, List, [], ◌∷◌, length, get_or, set, replicate, refl, ap, ap₂, sym, subst, ◌∙◌, arith, take_all}
+use Rattle.std.proofs.Common.{◌≡◌, ℕ, zero, suc, max, ◌++◌, ◌<◌, ◌≤◌, inl, inr, Bool, true, false, cond, not, ◌&&◌, ◌||◌, eqb, List, [], ◌∷◌, length, get_or, set, replicate, refl, ap, ap₂, sym, subst, ◌∙◌, arith, take_all}
 use Rattle.std.specs.Prelude.{slice_index, nat_le}
 use Rattle.std.specs.List.{All, filter, list_any}
 use Rattle.std.specs.Int.{bit_at}
@@ -31,12 +31,6 @@ use Rattle.issue_queue.proofs.Walks.{IsSought, IsCut, IsTaken}
 filter_same : {X : Type 0} (f g : X → Bool) (xs : List X) → ((x : X) → f x ≡ g x) → filter f xs ≡ filter g xs
 filter_same f g [] h = refl
 filter_same f g (x ∷ xs) h = rw (h x, filter_same f g xs h) refl
-
-filter_all : (f : ℕ → Bool) (xs : List ℕ) → ((x : ℕ) → list_any (λ w. eqb w x) xs ≡ true → f x ≡ true) → filter f xs ≡ xs
-filter_all f [] h = refl
-filter_all f (x ∷ xs) h =
-    let here : f x ≡ true = h x (rw (eq-eqb x x refl) refl) in
-    rw here (ap (λ ys. x ∷ ys) (filter_all f xs (λ y t. h y (or_right (eqb x y) (list_any (λ w. eqb w y) xs) t))))
 
 filter_both_at : {X : Type 0} (f g : X → Bool) (x : X) (xs : List X) (b : Bool) → filter f (filter g xs) ≡ filter (λ y. g y && f y) xs
     → filter f (cond b (x ∷ filter g xs) (filter g xs)) ≡ cond (b && f x) (x ∷ filter (λ y. g y && f y) xs) (filter (λ y. g y && f y) xs)

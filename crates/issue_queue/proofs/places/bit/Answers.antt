@@ -1,4 +1,4 @@
-use Rattle.std.proofs.Common.{◌≡◌, Bool, true, false, cond, refl, ◌∙◌, ap}
+use Rattle.std.proofs.Common.{◌∙◌}
 use Rattle.std.specs.Prelude.{◌==◌, ◌&&◌}
 use Rattle.word_mask.proofs.Laws.{has_zero}
 use Rattle.issue_queue.proofs.Masks.{cond_true}

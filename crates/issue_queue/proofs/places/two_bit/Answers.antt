@@ -1,5 +1,5 @@
 use Rattle.std.proofs.Common.{◌∙◌, rules}
-use Rattle.std.specs.Prelude.{◌==◌, ◌&&◌}
+use Rattle.std.specs.Prelude.{◌==◌}
 use Rattle.word_mask.proofs.Laws.{has_zero}
 use Rattle.issue_queue.proofs.Masks.{one_at}
 use Rattle.issue_queue.proofs.places.two_bit.Goals as goal

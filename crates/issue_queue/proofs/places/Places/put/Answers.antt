@@ -1,4 +1,4 @@
-use Rattle.std.proofs.Common.{◌≡◌, ℕ, arith, refl, ap, ◌∙◌, ◌||◌, ◌&&◌, ◌==◌}
+use Rattle.std.proofs.Common.{◌≡◌, ℕ, arith, ap, ◌∙◌, ◌||◌, ◌&&◌, ◌==◌}
 use Rattle.word_mask.specs.Mask.{has}
 use Rattle.issue_queue.specs.Entry.{is_supplied, waits_for_two}
 use Rattle.issue_queue.specs.Views.{entered}

@@ -1,4 +1,4 @@
-use Rattle.std.proofs.Common.{◌<◌, ◌∙◌, ap, sym, length, arith, rules}
+use Rattle.std.proofs.Common.{◌∙◌, ap, arith, rules}
 use Rattle.std.proofs.lemmas.List.{length-map}
 use Rattle.issue_queue.specs.Board.{order_of, slot}
 use Rattle.issue_queue.specs.Views.{entered}
