@@ -13,6 +13,5 @@ pub mod Steps
 pub mod Waiters
 pub mod Renames
 pub mod Cuts
-pub mod Queued
 pub mod Starts
 pub mod RenamedWaits

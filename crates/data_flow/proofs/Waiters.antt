@@ -1,18 +1,13 @@
 -- What waits, after the calls of the queue that wake, drop and put entries.
-use Rattle.std.proofs.Common.{◌≡◌, ℕ, ◌<◌, Bool, true, false, not, List, [], ◌∷◌, ◌++◌, length, get_or, map, Option, Some, None, refl, sym, ap, ap₂, ◌∙◌}
+use Rattle.std.proofs.Common.{◌≡◌, ℕ, Bool, true, false, not, List, [], ◌∷◌, ◌++◌, map, refl, ap}
 use Rattle.std.specs.Prelude.{All, filter}
-use Rattle.std.specs.Option.{option_to_list}
 use Rattle.std.proofs.lemmas.Bool.{not-true}
 use Rattle.std.proofs.lemmas.List.{map-append}
-use Rattle.std.proofs.lemmas.List.Elements.{All-weaker, All-push, filter_passes}
-use Rattle.circular_buffer.specs.Buffer.{Buffer}
-use Rattle.issue_queue.specs.declared.entry.Waiting.{Waiting}
+use Rattle.std.proofs.lemmas.List.Elements.{All-weaker, filter_passes}
 use Rattle.issue_queue.specs.Entry.{Entry}
 use Rattle.issue_queue.specs.IssueQueue.{awake, is_from}
-use Rattle.issue_queue.specs.Views.{entry_of}
-use Rattle.data_flow.specs.declared.operands.Renamed.{Renamed}
 use Rattle.data_flow.specs.Flow.{Waiter, is_waiter_from}
-use Rattle.data_flow.specs.Wired.{no_buffer, no_renamed, unready, waiter_of, IsWaiting}
+use Rattle.data_flow.specs.Wired.{waiter_of}
 
 -- a result changes nothing of what waits but the registers
 pub waiters_awake : (p : ℕ) (es : List Entry) → map waiter_of (map (awake p) es) ≡ map waiter_of es
@@ -39,23 +34,3 @@ none_from c k ws =
 
 pub waiters_put : (es : List Entry) (e : Entry) → map waiter_of (es ++ e ∷ []) ≡ map waiter_of es ++ waiter_of e ∷ []
 waiters_put es e = map-append waiter_of es (e ∷ [])
-
-awaited_both : (w : Waiting) (a b : Option ℕ) → w.sources ≡ a ∷ b ∷ [] → (entry_of w).waits ≡ option_to_list a ++ option_to_list b
-awaited_both w None None is = rw is refl
-awaited_both w None (Some y) is = rw is refl
-awaited_both w (Some x) None is = rw is refl
-awaited_both w (Some x) (Some y) is = rw is refl
-
--- the instruction at a place waits
-pub waiting_put : (cells : List (Option ℕ)) (buffers : List (Buffer Renamed)) (es : List Entry) (w : Waiting) (n : Renamed) (a b : Option ℕ) (i : ℕ) → w.context < 8
-    → i < length (get_or buffers w.context no_buffer).items → get_or (get_or buffers w.context no_buffer).items i no_renamed ≡ n → n.operands.stamp ≡ w.stamp
-    → w.sources ≡ a ∷ b ∷ [] → option_to_list a ≡ unready cells n.first → option_to_list b ≡ unready cells n.second
-    → All (IsWaiting cells buffers) es → All (IsWaiting cells buffers) (es ++ entry_of w ∷ [])
-waiting_put cells buffers es w n a b i lt within is stamped sources first second h =
-    All-push (IsWaiting cells buffers) es (entry_of w) h (record {
-      context = lt;
-      place = i;
-      within = within;
-      stamp = ap (λ (m : Renamed). m.operands.stamp) is ∙ stamped;
-      waits = awaited_both w a b sources ∙ ap₂ (λ (xs ys : List ℕ). xs ++ ys) first second ∙ ap (λ (m : Renamed). unready cells m.first ++ unready cells m.second) (sym is);
-    })

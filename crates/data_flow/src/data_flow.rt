@@ -1,7 +1,7 @@
 //! The data flow of eight contexts: registers, renaming, and the queue of what waits for its sources.
 
-ghost use Rattle.std.specs.Prelude.{◌≡◌, ℕ, ◌+◌, ◌-◌, ◌<◌, ◌≤◌, ◌↔◌, [], ◌∷◌, ◌++◌, false, length, map, option_map, All, IfOk, OnErr, IsOk, IsSome, IsTrue, Err, slice_set, count_by, ◌==◌, ◌&&◌};
-ghost use Rattle.std.specs.Option.{ForSome, option_to_list};
+ghost use Rattle.std.specs.Prelude.{◌≡◌, ℕ, ◌+◌, ◌-◌, ◌<◌, ◌≤◌, ◌↔◌, [], ◌∷◌, ◌++◌, false, length, map, option_map, All, IfOk, OnErr, IsOk, IsSome, IsTrue, Err, not, is_some, slice_set, count_by, ◌==◌, ◌&&◌};
+ghost use Rattle.std.specs.Option.{ForSome};
 ghost use Rattle.circular_buffer.specs.Buffer.{buffer, last_item};
 ghost use Rattle.reorder_buffer.specs.Growing.{IsGrowing};
 ghost use Rattle.std.specs.List.{list_any};
@@ -12,13 +12,13 @@ ghost use Rattle.issue_queue.specs.Stamps.{place_of_oldest};
 ghost use Rattle.rename_file.specs.File.{IsFile, bank};
 ghost use Rattle.data_flow.specs.declared.operands.Renamed.{Renamed};
 ghost use Rattle.data_flow.specs.Banks.{bank_with, CellsWith, IsNamed};
-ghost use Rattle.data_flow.specs.Wired.{unready, waiting_entry};
+ghost use Rattle.data_flow.specs.Wired.{cell_of, waiting_entry};
 ghost use Rattle.data_flow.specs.Flow.{lane, node_at, sources_at, with_lane, with_register, with_node, with_result, without_oldest, cut_from, without_newest, is_waiter_from, cut_flow, takes, taken, waits_in, with_speculative, with_held, released, queued, first_flow};
 
 use crate::operands::{Operands, Renamed};
 use arrayvec::ArrayVec;
 use core_view::EntryId;
-use issue_queue::{Order, Queue, Waiting};
+use issue_queue::{Order, Queue, Reading, Source};
 use join_law::Ctx;
 use rename_file::{PhysicalRegister, Registers, RenameFault};
 use reorder_buffer::Ring;
@@ -123,39 +123,7 @@ impl<A: Allocator> DataFlow<A> {
         };
     }
 
-    /// The youngest instruction of a context waits for issue.
-    pub fn wait(&mut self, context: Ctx, guessed: bool, speculative: bool)
-        requires some { 0 < length (lane self.old context).nodes }
-        requires fresh { waits_in self.old context (node_at (lane self.old context) (length (lane self.old context).nodes - 1)).operands.stamp ≡ false }
-        requires room { length self.old.waiters < self.old.places }
-        ensures { self.new ≡ record self.old {
-          waiters = self.old.waiters ++ record {
-            stamp = (node_at (lane self.old context) (length (lane self.old context).nodes - 1)).operands.stamp;
-            context = context;
-            guessed = guessed;
-            speculative = speculative;
-            held = false;
-          } ∷ [];
-        } }
-    {
-        let ring = &self.renamed[context.index()];
-        let newest = *ring.last().unwrap();
-        let first = awaited(&self.registers, newest.first);
-        let second = awaited(&self.registers, newest.second);
-        let Ok(()) = self.queue.put(Waiting {
-            context,
-            stamp: newest.operands.stamp,
-            guessed,
-            speculative,
-            sources: [first, second],
-        })
-        else {
-            unreachable!();
-        };
-    }
-
-    /// One more instruction of a context, the youngest, which waits for issue: `rename` and `wait` in one.
-    // What it reads is at hand here, where `wait` has to look it up.
+    /// One more instruction of a context, the youngest, which waits for issue.
     #[inline(always)]
     pub fn rename_waiting(
         &mut self,
@@ -387,17 +355,16 @@ fn put_in<A: Allocator>(
     requires room { length queue.old.entries < queue.old.capacity }
     ensures { queue.new ≡ record queue.old { entries = queue.old.entries ++ waiting_entry registers.now.cells context renamed.now guessed speculative ∷ [] } }
 {
-    let first = awaited(registers, renamed.first);
-    let second = awaited(registers, renamed.second);
-    let Ok(()) = queue.put(Waiting {
+    let first = source_in(registers, renamed.first);
+    let second = source_in(registers, renamed.second);
+    queue.enter(Reading {
         context,
         stamp: renamed.operands.stamp,
         guessed,
         speculative,
-        sources: [first, second],
-    }) else {
-        unreachable!();
-    };
+        first,
+        second,
+    });
 }
 
 /// One more instruction, the youngest, in a ring with room.
@@ -413,17 +380,15 @@ fn push_in<A: Allocator>(ring: &mut Ring<Renamed, A>, renamed: Renamed)
     };
 }
 
-/// A register, where it has no value yet.
-fn awaited<A: Allocator>(
-    registers: &Registers<A>,
-    register: PhysicalRegister,
-) -> Option<PhysicalRegister>
+/// A register as a source: it is waited for where it has no value yet.
+#[inline(always)]
+fn source_in<A: Allocator>(registers: &Registers<A>, register: PhysicalRegister) -> Source
     requires { register < length registers.now.cells }
-    ensures { option_to_list result ≡ unready registers.now.cells register }
+    ensures register { result.register ≡ register }
+    ensures awaited { result.awaited ≡ not (is_some (cell_of registers.now.cells register)) }
 {
-    if registers.ready(register) {
-        None
-    } else {
-        Some(register)
+    Source {
+        register,
+        awaited: !registers.ready(register),
     }
 }

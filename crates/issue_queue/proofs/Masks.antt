@@ -1,19 +1,19 @@
 -- Masks in step with the places.
-use Rattle.std.proofs.Common.{◌≡◌, ℕ, zero, suc, max, ◌++◌, Option, Some, None, ◌<◌, ◌≤◌, inl, inr, Bool, true, false, cond, not, ◌&&◌, ◌||◌, eqb, List, [], ◌∷◌, length, get_or, set, replicate, refl, ap, ap₂, sym, subst, ◌∙◌, arith, take_all}
+use Rattle.std.proofs.Common.{◌≡◌, ℕ, zero, suc, max, ◌++◌, ◌<◌, ◌≤◌, inl, inr, Bool, true, false, cond, not, ◌&&◌, ◌||◌, eqb, List, [], ◌∷◌, length, get_or, set, replicate, refl, ap, ap₂, sym, subst, ◌∙◌, arith, take_all}
 use Rattle.std.specs.Prelude.{slice_index, nat_le}
 use Rattle.std.specs.List.{All, filter, list_any}
-use Rattle.std.specs.Option.{option_to_list}
 use Rattle.std.specs.Int.{bit_at}
 use Rattle.std.specs.Int.Bits.{bit_or}
 use Rattle.std.proofs.lemmas.Nat.Bits.{bit_at_or, bit_at-lt}
-use Rattle.std.proofs.lemmas.Bool.{cases_eq, cases_Bool, eqb-true, eq-eqb, or_parts, or_right, not-true, true≢false, or_cases, and_parts, and_from, and_right, ne_eqb}
+use Rattle.std.proofs.lemmas.Bool.{cases_eq, cases_lt, cases_Bool, eqb-true, eq-eqb, or_parts, or_right, not-true, true≢false, or_cases, and_parts, and_from, and_right, ne_eqb}
 use Rattle.std.proofs.lemmas.Bool.Decides.{eqb_tells}
-use Rattle.std.proofs.lemmas.List.{get_or-set_same, get_or-set_other, get_or-replicate}
+use Rattle.std.proofs.lemmas.List.{get_or-set_same, get_or-set_other, get_or-replicate, get_or_past}
 use Rattle.std.proofs.lemmas.List.Elements.{All-head, All-tail}
 use Rattle.std.proofs.lemmas.List.Sums.{length-filter, count_by-le-length}
 use Rattle.std.proofs.Math.Bool.{and-true, and_assoc}
 use Rattle.core_view.specs.declared.note.EntryId.{EntryId}
 use Rattle.issue_queue.specs.declared.entry.Queued.{Queued}
+use Rattle.issue_queue.specs.declared.entry.Reading.{Reading}
 use Rattle.issue_queue.specs.declared.places.Places.{Places}
 use Rattle.issue_queue.specs.declared.slots.Slots.{Slots}
 use Rattle.issue_queue.specs.declared.selecting.Candidate.{Candidate}
@@ -22,7 +22,7 @@ use Rattle.word_mask.specs.Mask.{has}
 use Rattle.issue_queue.specs.Board.{slot, narrowed, is_waiter, blank, InStep, IsMask, waits_for, is_of, is_guessed}
 use Rattle.issue_queue.specs.Entry.{Entry, is_ready, is_supplied, is_named, waits_for_two, are_two}
 use Rattle.issue_queue.specs.IssueQueue.{awake, is_from}
-use Rattle.issue_queue.specs.Views.{as_entry, waits_of}
+use Rattle.issue_queue.specs.Views.{AreAlike, as_entry, awaited_of, entered, queued_of, reads_of}
 use Rattle.word_mask.proofs.Laws.{has_zero, eqb_swap}
 use Rattle.issue_queue.proofs.Walks.{IsSought, IsCut, IsTaken}
 
@@ -31,12 +31,6 @@ use Rattle.issue_queue.proofs.Walks.{IsSought, IsCut, IsTaken}
 filter_same : {X : Type 0} (f g : X → Bool) (xs : List X) → ((x : X) → f x ≡ g x) → filter f xs ≡ filter g xs
 filter_same f g [] h = refl
 filter_same f g (x ∷ xs) h = rw (h x, filter_same f g xs h) refl
-
-filter_all : (f : ℕ → Bool) (xs : List ℕ) → ((x : ℕ) → list_any (λ w. eqb w x) xs ≡ true → f x ≡ true) → filter f xs ≡ xs
-filter_all f [] h = refl
-filter_all f (x ∷ xs) h =
-    let here : f x ≡ true = h x (rw (eq-eqb x x refl) refl) in
-    rw here (ap (λ ys. x ∷ ys) (filter_all f xs (λ y t. h y (or_right (eqb x y) (list_any (λ w. eqb w y) xs) t))))
 
 filter_both_at : {X : Type 0} (f g : X → Bool) (x : X) (xs : List X) (b : Bool) → filter f (filter g xs) ≡ filter (λ y. g y && f y) xs
     → filter f (cond b (x ∷ filter g xs) (filter g xs)) ≡ cond (b && f x) (x ∷ filter (λ y. g y && f y) xs) (filter (λ y. g y && f y) xs)
@@ -63,20 +57,53 @@ slot-changed g s t place q old lt entries held waiters is change through p = rw 
 narrowed_same : (v w : List ℕ) (p : ℕ) (e : Entry) → ((r : ℕ) → is_waiter v p r ≡ is_waiter w p r) → narrowed v p e ≡ narrowed w p e
 narrowed_same v w p e h = ap (λ ws. record e { waits = ws }) (filter_same (is_waiter v p) (is_waiter w p) e.waits h)
 
--- an entry enters, and its place the words of its sources
-pub slot_put : (s t : Slots) (place : ℕ) (q : Queued) (e : Entry) → place < length s.entries → t.entries ≡ set s.entries place q → ((p : ℕ) → has t.held p ≡ cond (eqb p place) false (has s.held p))
-    → ((r p : ℕ) → has (slice_index t.waiters r) p ≡ cond (eqb p place && list_any (λ w. eqb w r) (waits_of q)) true (has (slice_index s.waiters r) p))
-    → as_entry false q ≡ e → (p : ℕ) → slot t p ≡ cond (eqb p place) e (slot s p)
-slot_put s t place q e lt entries held waiters is p = rw entries (elim (eqb_tells p place) [
+pub cond_true : (t : Bool) → cond t true false ≡ t
+cond_true true = refl
+cond_true false = refl
+
+-- of two registers those are left that are waited for
+left_awaited : (f : ℕ → Bool) (x y : ℕ) (a b : Bool) → (x ≡ y → a ≡ b) → ((r : ℕ) → f r ≡ list_any (λ w. eqb w r) (cond a (x ∷ []) [] ++ cond b (y ∷ []) []))
+    → filter f (x ∷ y ∷ []) ≡ cond a (x ∷ []) [] ++ cond b (y ∷ []) []
+left_awaited f x y true true same h =
+    let here : f x ≡ true = h x ∙ rw (eq-eqb x x refl) refl in
+    let there : f y ≡ true = h y ∙ or_right (eqb x y) (eqb y y || false) (rw (eq-eqb y y refl) refl) in
+    rw (here, there) refl
+left_awaited f x y true false same h =
+    let here : f x ≡ true = h x ∙ rw (eq-eqb x x refl) refl in
+    elim (eqb_tells x y) [
+      | inl b ↦ absurd (true≢false (same b.1))
+      | inr b ↦
+          let there : f y ≡ false = h y ∙ rw b.0 refl in
+          rw (here, there) refl
+    ]
+left_awaited f x y false true same h =
+    let there : f y ≡ true = h y ∙ rw (eq-eqb y y refl) refl in
+    elim (eqb_tells y x) [
+      | inl b ↦ absurd (true≢false (sym (same (sym b.1))))
+      | inr b ↦
+          let here : f x ≡ false = h x ∙ rw b.0 refl in
+          rw (here, there) refl
+    ]
+left_awaited f x y false false same h = rw (h x, h y) refl
+
+-- an entry enters at a place that no word has, and its place the words of the registers that it waits for
+pub slot_put : (s t : Slots) (place : ℕ) (q : Queued) (r : Reading) → place < length s.entries → q ≡ queued_of r → t.entries ≡ set s.entries place q
+    → ((p : ℕ) → has t.held p ≡ cond (eqb p place) false (has s.held p))
+    → ((k p : ℕ) → has (slice_index t.waiters k) p ≡ cond (eqb p place && list_any (λ w. eqb w k) (awaited_of r.first ++ awaited_of r.second)) true (has (slice_index s.waiters k) p))
+    → ((k : ℕ) → has (slice_index s.waiters k) place ≡ false) → AreAlike r → (p : ℕ) → slot t p ≡ cond (eqb p place) (entered r) (slot s p)
+slot_put s t place q r lt is entries held waiters free alike p = rw (entries, is) (elim (eqb_tells p place) [
   | inl b ↦
       let flag : has t.held p ≡ false = held p ∙ rw b.0 refl in
-      let all : filter (is_waiter t.waiters p) (waits_of q) ≡ waits_of q = filter_all (is_waiter t.waiters p) (waits_of q) (λ r u. waiters r p ∙ rw (b.0, u) refl) in
-      let same : get_or (set s.entries place q) p blank ≡ q = rw b.1 (get_or-set_same s.entries place q blank lt) in
-      rw (b.0, flag, same) (ap (λ ws. record (as_entry false q) { waits = ws }) all ∙ is)
+      let word : (k : ℕ) → is_waiter t.waiters p k ≡ list_any (λ w. eqb w k) (awaited_of r.first ++ awaited_of r.second) =
+      λ k. waiters k p ∙ rw (b.0, b.1, free k) (cond_true (list_any (λ w. eqb w k) (awaited_of r.first ++ awaited_of r.second))) in
+      let left : filter (is_waiter t.waiters p) (reads_of (queued_of r)) ≡ awaited_of r.first ++ awaited_of r.second =
+      left_awaited (is_waiter t.waiters p) r.first.register r.second.register r.first.awaited r.second.awaited alike word in
+      let same : get_or (set s.entries place (queued_of r)) p blank ≡ queued_of r = rw b.1 (get_or-set_same s.entries place (queued_of r) blank lt) in
+      rw (b.0, flag, same) (ap (λ ws. record (entered r) { waits = ws }) left)
   | inr b ↦
       let flag : has t.held p ≡ has s.held p = held p ∙ rw b.0 refl in
-      rw (b.0, flag, get_or-set_other s.entries place p q blank b.1)
-      (narrowed_same t.waiters s.waiters p (as_entry (has s.held p) (get_or s.entries p blank)) (λ r. waiters r p ∙ rw b.0 refl))
+      rw (b.0, flag, get_or-set_other s.entries place p (queued_of r) blank b.1)
+      (narrowed_same t.waiters s.waiters p (as_entry (has s.held p) (get_or s.entries p blank)) (λ k. waiters k p ∙ rw b.0 refl))
 ])
 
 -- the bits of one place left words: what stands at the others is as it was
@@ -273,17 +300,11 @@ two_awake r (x ∷ []) h = sym (two_awake_one r x (eqb x r) refl)
 two_awake r (x ∷ y ∷ []) h = sym (two_awake_at r x y (eqb x r) (eqb y r) refl refl)
 two_awake r (x ∷ y ∷ z ∷ ws) h = absurd (omega (arith, h))
 
-sources_short : (first second : Option ℕ) → length (option_to_list first ++ option_to_list second) ≤ 2
-sources_short None None = omega arith
-sources_short None (Some r) = omega arith
-sources_short (Some q) None = omega arith
-sources_short (Some q) (Some r) = omega arith
-
 -- an entry waits for at most two registers
 waits_short : (slots : Slots) (p : ℕ) → length (slot slots p).waits ≤ 2
 waits_short slots p =
     let q : Queued = get_or slots.entries p blank in
-    omega (arith, sources_short q.first q.second, length-filter (is_waiter slots.waiters p) (waits_of q), count_by-le-length (is_waiter slots.waiters p) (waits_of q))
+    omega (arith, length-filter (is_waiter slots.waiters p) (reads_of q), count_by-le-length (is_waiter slots.waiters p) (reads_of q))
 
 or_and_at : (v s w t : Bool) → ((v && s) || ((v && w) && not (v && t))) ≡ (v && (s || (w && not t)))
 or_and_at true s w t = refl
@@ -336,10 +357,6 @@ woken_in_step b c r below lt valid guesses contexts waiters slots supplied two h
           ];
     }
 
-cond_true : (t : Bool) → cond t true false ≡ t
-cond_true true = refl
-cond_true false = refl
-
 -- an entry enters at a place that is free
 put_at : (test : Entry → Bool) (b : Places) (s : Slots) (new place word newer : ℕ) (e : Entry) → has b.valid place ≡ false → ((p : ℕ) → has new p ≡ cond (eqb p place) true (has b.valid p))
     → ((p : ℕ) → slot s p ≡ cond (eqb p place) e (slot b.slots p)) → ((p : ℕ) → has newer p ≡ cond (eqb p place && test e) true (has word p))
@@ -351,25 +368,23 @@ put_at test b s new place word newer e free valid slots bits m p = elim (eqb_tel
   | inr t ↦ rw (bits p, valid p, slots p) (rw t.0 (m p))
 ]
 
-assigned_added_at : (here g w : Bool) → (here ≡ true → w ≡ false) → cond here g w ≡ cond (here && g) true w
-assigned_added_at true true w h = refl
-assigned_added_at true false w h = sym (h refl)
-assigned_added_at false g w h = refl
-
-assigned_added : (b : Places) (place p : ℕ) (g : Bool) → has b.valid place ≡ false → IsMask is_guessed b.valid b.slots b.guesses → cond (eqb p place) g (has b.guesses p) ≡ cond (eqb p place && g) true (has b.guesses p)
-assigned_added b place p g free m = assigned_added_at (eqb p place) g (has b.guesses p) (λ t. m p ∙ rw (eqb-true p place t) (rw free refl))
+or_added : (w b : Bool) → (w || b) ≡ cond b true w
+or_added true true = refl
+or_added true false = refl
+or_added false true = refl
+or_added false false = refl
 
 pub put_in_step : (b c : Places) (place : ℕ) (e : Entry) → place < 64 → has b.valid place ≡ false → e.context < 8 → ((p : ℕ) → has c.valid p ≡ cond (eqb p place) true (has b.valid p))
     → ((p : ℕ) → slot c.slots p ≡ cond (eqb p place) e (slot b.slots p))
-    → ((p : ℕ) → has c.supplied p ≡ cond (eqb p place && is_supplied e) true (has b.supplied p)) → ((p : ℕ) → has c.two p ≡ cond (eqb p place && waits_for_two e) true (has b.two p))
-    → ((p : ℕ) → has c.guesses p ≡ cond (eqb p place) e.guessed (has b.guesses p))
+    → ((p : ℕ) → has c.supplied p ≡ (has b.supplied p || (eqb p place && is_supplied e))) → ((p : ℕ) → has c.two p ≡ (has b.two p || (eqb p place && waits_for_two e)))
+    → ((p : ℕ) → has c.guesses p ≡ cond (eqb p place && e.guessed) true (has b.guesses p))
     → ((i p : ℕ) → has (slice_index c.contexts i) p ≡ cond (eqb p place && eqb i e.context) true (has (slice_index b.contexts i) p))
     → ((r p : ℕ) → has (slice_index c.slots.waiters r) p ≡ cond (eqb p place && waits_for r e) true (has (slice_index b.slots.waiters r) p))
     → InStep b → InStep c
 put_in_step b c place e bound free context valid slots supplied two guesses contexts waiters h = record {
-  supplied = put_at is_supplied b c.slots c.valid place b.supplied c.supplied e free valid slots supplied h.supplied;
-  two = put_at waits_for_two b c.slots c.valid place b.two c.two e free valid slots two h.two;
-  guesses = put_at is_guessed b c.slots c.valid place b.guesses c.guesses e free valid slots (λ p. guesses p ∙ assigned_added b place p e.guessed free h.guesses) h.guesses;
+  supplied = put_at is_supplied b c.slots c.valid place b.supplied c.supplied e free valid slots (λ p. supplied p ∙ or_added (has b.supplied p) (eqb p place && is_supplied e)) h.supplied;
+  two = put_at waits_for_two b c.slots c.valid place b.two c.two e free valid slots (λ p. two p ∙ or_added (has b.two p) (eqb p place && waits_for_two e)) h.two;
+  guesses = put_at is_guessed b c.slots c.valid place b.guesses c.guesses e free valid slots guesses h.guesses;
   contexts = λ k below. put_at (is_of k) b c.slots c.valid place (slice_index b.contexts k) (slice_index c.contexts k) e free valid slots (λ p. contexts k p ∙ rw (eqb_swap k e.context) refl) (h.contexts k below);
   waiters = λ r below. put_at (waits_for r) b c.slots c.valid place (slice_index b.slots.waiters r) (slice_index c.slots.waiters r) e free valid slots (λ p. waiters r p) (h.waiters r below);
 }
@@ -402,7 +417,7 @@ pub free_in_step : (b c : Places) (place : ℕ) (q : Queued) (context : ℕ) →
     → ((p : ℕ) → has c.supplied p ≡ cond (eqb p place) false (has b.supplied p)) → ((p : ℕ) → has c.two p ≡ cond (eqb p place) false (has b.two p))
     → ((p : ℕ) → has c.guesses p ≡ cond (eqb p place) false (has b.guesses p))
     → ((i p : ℕ) → has (slice_index c.contexts i) p ≡ cond (eqb p place && eqb i context) false (has (slice_index b.contexts i) p))
-    → ((r p : ℕ) → has (slice_index c.slots.waiters r) p ≡ cond (eqb p place && list_any (λ w. eqb w r) (waits_of (get_or b.slots.entries place blank))) false (has (slice_index b.slots.waiters r) p))
+    → ((r p : ℕ) → has (slice_index c.slots.waiters r) p ≡ cond (eqb p place && list_any (λ w. eqb w r) (reads_of (get_or b.slots.entries place blank))) false (has (slice_index b.slots.waiters r) p))
     → InStep b → InStep c
 free_in_step b c place q context taken is own bound valid slots supplied two guesses contexts waiters h =
     let same : eqb place place ≡ true = eq-eqb place place refl in
@@ -416,8 +431,8 @@ free_in_step b c place q context taken is own bound valid slots supplied two gue
           (contexts k place ∙ rw same (freed_bit (eqb k context) (has (slice_index b.contexts k) place) (λ f. h.contexts k below place ∙ and_right (has b.valid place) (is_of k (slot b.slots place)) (ap (λ x. eqb x k) (sym (own ∙ ap (λ x. x.context) is)) ∙ eqb_swap context k ∙ f))))
           (h.contexts k below);
       waiters = λ r below. free_at (waits_for r) b c.slots c.valid place (slice_index b.slots.waiters r) (slice_index c.slots.waiters r) valid slots (λ p t. waiters r p ∙ rw t refl)
-          (waiters r place ∙ rw same (freed_bit (list_any (λ w. eqb w r) (waits_of (get_or b.slots.entries place blank))) (has (slice_index b.slots.waiters r) place)
-          (λ f. h.waiters r below place ∙ and_right (has b.valid place) (waits_for r (slot b.slots place)) (any_filtered (is_waiter b.slots.waiters place) r (waits_of (get_or b.slots.entries place blank)) f))))
+          (waiters r place ∙ rw same (freed_bit (list_any (λ w. eqb w r) (reads_of (get_or b.slots.entries place blank))) (has (slice_index b.slots.waiters r) place)
+          (λ f. h.waiters r below place ∙ and_right (has b.valid place) (waits_for r (slot b.slots place)) (any_filtered (is_waiter b.slots.waiters place) r (reads_of (get_or b.slots.entries place blank)) f))))
           (h.waiters r below);
     }
 
@@ -495,21 +510,35 @@ supplied_all slots best i chosen names whole supplied h p t =
     at_candidates (λ q. is_supplied (slot slots q) ≡ true) best p (λ k d lt. (supplied k d lt).1)
     (ap (λ cs. is_at cs p) (sym (take_all i best whole)) ∙ sym (h.bits p) ∙ t)
 
--- the registers of two sources that are told by number, where there is one
-told_none : (i : ℕ) (a : Bool) → ((k : ℕ) → false ≡ (eqb i k && a)) → a ≡ false
-told_none i a h = sym (h i ∙ rw (eq-eqb i i refl) refl)
+-- an entry that enters and waits for nothing
+pub supplied_at : (here a b : Bool) (x y : ℕ) → ((here && true) && not ((here && a) || (here && b))) ≡ (here && eqb (length (cond a (x ∷ []) [] ++ cond b (y ∷ []) [])) 0)
+supplied_at false a b x y = refl
+supplied_at true true true x y = refl
+supplied_at true true false x y = refl
+supplied_at true false true x y = refl
+supplied_at true false false x y = refl
 
-told_some : (r i : ℕ) (a : Bool) → ((k : ℕ) → (eqb r k || false) ≡ (eqb i k && a)) → (i ≡ r) × (a ≡ true)
-told_some r i a h =
-    let parts = and_parts (eqb i r) a (sym (h r) ∙ rw (eq-eqb r r refl) refl) in
-    (eqb-true i r parts.0, parts.1)
+-- an entry that enters and waits for two registers
+pub two_at : (here a b : Bool) (x y : ℕ) → eqb x y ≡ false → ((here && a) && (here && b)) ≡ (here && are_two (cond a (x ∷ []) [] ++ cond b (y ∷ []) []))
+two_at false a b x y apart = refl
+two_at true true true x y apart = rw apart refl
+two_at true true false x y apart = refl
+two_at true false true x y apart = refl
+two_at true false false x y apart = refl
 
-pub told_two : (first second : Option ℕ) (i j : ℕ) (a b : Bool) → ((k : ℕ) → list_any (λ r. eqb r k) (option_to_list first) ≡ (eqb i k && a)) → ((k : ℕ) → list_any (λ r. eqb r k) (option_to_list second) ≡ (eqb j k && b))
-    → ((a && b) && not (eqb i j)) ≡ are_two (option_to_list first ++ option_to_list second)
-told_two None None i j a b h k = rw (told_none i a h) refl
-told_two None (Some s) i j a b h k = rw (told_none i a h) refl
-told_two (Some f) None i j a b h k = rw (told_none j b k, and_right a false refl) refl
-told_two (Some f) (Some s) i j a b h k =
-    let x = told_some f i a h in
-    let y = told_some s j b k in
-    rw (x.0, x.1, y.0, y.1) refl
+one_for_two : (a b : Bool) (x y : ℕ) → x ≡ y → are_two (cond a (x ∷ []) [] ++ cond b (y ∷ []) []) ≡ false
+one_for_two true true x y same = rw (eq-eqb x y same) refl
+one_for_two true false x y same = refl
+one_for_two false true x y same = refl
+one_for_two false false x y same = refl
+
+-- one that reads one register twice doesn't
+pub one_at : (here a b : Bool) (x y : ℕ) → x ≡ y → false ≡ (here && are_two (cond a (x ∷ []) [] ++ cond b (y ∷ []) []))
+one_at here a b x y same = sym (and_right here (are_two (cond a (x ∷ []) [] ++ cond b (y ∷ []) [])) (one_for_two a b x y same))
+
+-- no word has a place that is free
+pub free_of_words : (b : Places) (place : ℕ) → length b.slots.waiters ≡ 480 → has b.valid place ≡ false → InStep b → (r : ℕ) → has (slice_index b.slots.waiters r) place ≡ false
+free_of_words b place size free h r = elim (cases_lt r 480) [
+  | inl below ↦ h.waiters r below place ∙ rw free refl
+  | inr above ↦ rw (get_or_past b.slots.waiters r 0 (omega (arith, size, above))) (has_zero place)
+]

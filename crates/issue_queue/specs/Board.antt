@@ -1,5 +1,5 @@
 -- Sixty-four places, and words with a bit for each.
-use Rattle.std.specs.Prelude.{◌≡◌, ℕ, ◌<◌, ◌≤◌, Bool, true, false, List, map, filter, None, length, ◌&&◌, ◌==◌, slice_index, slice_index_or, AllPairs}
+use Rattle.std.specs.Prelude.{◌≡◌, ℕ, ◌<◌, ◌≤◌, Bool, true, false, List, map, filter, length, ◌&&◌, ◌==◌, slice_index, slice_index_or, AllPairs}
 use Rattle.std.specs.List.{list_any}
 use Rattle.issue_queue.specs.declared.places.Places.{Places}
 use Rattle.issue_queue.specs.declared.arrivals.Arrivals.{Arrivals}
@@ -11,7 +11,7 @@ use Rattle.issue_queue.specs.Views.{as_entry}
 use Rattle.issue_queue.specs.Entry.{Entry, AreDistinct, is_supplied, waits_for_two}
 
 abbrev pub blank : Queued
-blank = record { stamp = 0; context = 0; guessed = false; speculative = false; first = None; second = None }
+blank = record { stamp = 0; context = 0; guessed = false; speculative = false; first = 0; second = 0 }
 
 -- the place stands in the word of a register
 abbrev pub is_waiter : List ℕ → ℕ → ℕ → Bool

@@ -1,11 +1,10 @@
 //! Entries of the queue, and what is shown of them.
 
-ghost use Rattle.std.specs.Prelude.{◌≡◌, ◌==◌, ◌&&◌, ◌<◌, ◌++◌, ℕ, Bool, false};
+ghost use Rattle.std.specs.Prelude.{◌≡◌, ◌≢◌, ◌==◌, ◌&&◌, Bool, false, None, is_some, IfSome};
 ghost use Rattle.std.specs.Option.{option_to_list};
-ghost use Rattle.std.specs.List.{filter_map, list_any};
-ghost use Rattle.issue_queue.specs.Entry.{are_two, is_named, is_supplied, waits_for_two};
+ghost use Rattle.issue_queue.specs.Entry.{is_named};
 ghost use Rattle.issue_queue.specs.IssueQueue.{is_from};
-ghost use Rattle.issue_queue.specs.Views.{as_entry, entry_of, name_of, view_of, waits_of};
+ghost use Rattle.issue_queue.specs.Views.{AreAlike, as_entry, awaited_of, entered, entry_of, name_of, queued_of, reads_of, view_of};
 
 use core_view::EntryId;
 use join_law::Ctx;
@@ -26,22 +25,78 @@ pub struct Waiting {
     pub sources: [Option<PhysicalRegister>; 2],
 }
 
-impl Waiting {
-    /// Whether it waits for nothing.
-    pub(crate) fn is_supplied(&self) -> bool
-        ensures { result ≡ is_supplied (entry_of self.now) }
-    {
-        let [first, second] = self.sources;
-        first.is_none() & second.is_none()
-    }
+/// A physical register that an entry reads.
+#[derive(Clone, Copy, Debug, PartialEq, Eq)]
+pub struct Source {
+    /// The register.
+    pub register: PhysicalRegister,
+    /// Whether it has no value yet.
+    pub awaited: bool,
+}
 
-    /// Whether it waits for two registers. It takes no jump.
-    pub(crate) fn waits_for_two(&self) -> bool
-        ensures { result ≡ waits_for_two (entry_of self.now) }
+/// An entry that enters the queue, with each register that it reads.
+#[derive(Clone, Copy, Debug, PartialEq, Eq)]
+pub struct Reading {
+    /// Its context.
+    pub context: Ctx,
+    /// Its stamp, which no other entry of its context has.
+    pub stamp: u64,
+    /// Whether it is a conditional branch or a JALR.
+    pub guessed: bool,
+    /// Whether an older guessed entry of its context has not completed.
+    pub speculative: bool,
+    /// Its first source.
+    pub first: Source,
+    /// Its second source.
+    pub second: Source,
+}
+
+impl Waiting {
+    /// The same entry with two registers. Where it has no source it reads one that it doesn't wait for.
+    pub(crate) fn reading(&self) -> Reading
+        ensures entry { entered result ≡ entry_of self.now }
+        ensures alike { AreAlike result }
     {
         let [first, second] = self.sources;
-        are_two(first, second)
+        Reading {
+            context: self.context,
+            stamp: self.stamp,
+            guessed: self.guessed,
+            speculative: self.speculative,
+            first: source_beside(&first, &second),
+            second: source_beside(&second, &first),
+        }
     }
+}
+
+/// A source that is waited for, or else any register but the other source's.
+fn source_beside(source: &Option<PhysicalRegister>, other: &Option<PhysicalRegister>) -> Source
+    ensures awaited { awaited_of result ≡ option_to_list source.now }
+    ensures waits { result.awaited ≡ is_some source.now }
+    ensures beside { source.now ≡ None → IfSome other.now (λ r. result.register ≢ r) }
+    ensures register { IfSome source.now (λ r. result.register ≡ r) }
+{
+    match *source {
+        Some(register) => Source {
+            register,
+            awaited: true,
+        },
+        None => Source {
+            register: another(*other),
+            awaited: false,
+        },
+    }
+}
+
+/// Any register but one.
+fn another(register: Option<PhysicalRegister>) -> PhysicalRegister
+    ensures { IfSome register (λ r. result ≢ r) }
+{
+    let number = match register {
+        Some(register) => usize::from(register.index() == 0),
+        None => 0,
+    };
+    PhysicalRegister::new(number).unwrap()
 }
 
 /// What an order sees of an entry.
@@ -57,12 +112,12 @@ pub struct QueueView {
     pub speculative: bool,
 }
 
-/// An entry in the queue, but for whether it is held.
+/// An entry in the queue, but for whether it is held, and which of the registers that it reads it waits for.
 #[derive(Clone, Copy)]
 pub(crate) struct Queued {
     stamp: u64,
-    first: Option<PhysicalRegister>,
-    second: Option<PhysicalRegister>,
+    first: PhysicalRegister,
+    second: PhysicalRegister,
     context: Ctx,
     guessed: bool,
     speculative: bool,
@@ -71,30 +126,31 @@ pub(crate) struct Queued {
 impl Default for Queued {
     fn default() -> Queued {
         let [context, ..] = Ctx::all();
+        let register = another(None);
         Queued {
-            context,
             stamp: 0,
+            first: register,
+            second: register,
+            context,
             guessed: false,
             speculative: false,
-            first: None,
-            second: None,
         }
     }
 }
 
 impl Queued {
     /// The entry that enters.
-    pub(crate) fn new(waiting: Waiting) -> Queued
-        ensures { as_entry false result ≡ entry_of waiting }
+    #[inline(always)]
+    pub(crate) fn new(reading: &Reading) -> Queued
+        ensures { result ≡ queued_of reading.now }
     {
-        let [first, second] = waiting.sources;
         Queued {
-            context: waiting.context,
-            stamp: waiting.stamp,
-            guessed: waiting.guessed,
-            speculative: waiting.speculative,
-            first,
-            second,
+            stamp: reading.stamp,
+            first: reading.first.register,
+            second: reading.second.register,
+            context: reading.context,
+            guessed: reading.guessed,
+            speculative: reading.speculative,
         }
     }
 
@@ -105,9 +161,9 @@ impl Queued {
         self.context
     }
 
-    /// The registers that it waits for.
-    pub(crate) fn sources(&self) -> [Option<PhysicalRegister>; 2]
-        ensures { waits_of self.now ≡ filter_map (λ source. source) result }
+    /// The registers that it reads.
+    pub(crate) fn sources(&self) -> [PhysicalRegister; 2]
+        ensures { result ≡ reads_of self.now }
     {
         [self.first, self.second]
     }
@@ -167,26 +223,5 @@ impl Queued {
         ensures { (held : Bool) → as_entry held self.new ≡ record (as_entry held self.old) { speculative = speculative } }
     {
         self.speculative = speculative;
-    }
-}
-
-/// Whether there are two registers that differ.
-fn are_two(first: Option<PhysicalRegister>, second: Option<PhysicalRegister>) -> bool
-    ensures { result ≡ are_two (option_to_list first ++ option_to_list second) }
-{
-    let (first, waits) = told(first);
-    let (second, waits_too) = told(second);
-    waits & waits_too & (first != second)
-}
-
-/// The number of a source's register and true; any other and false where there is no source.
-#[inline(always)]
-pub(crate) fn told(source: Option<PhysicalRegister>) -> (usize, bool)
-    ensures bound { result.0 < 480 }
-    ensures told { (i : ℕ) → list_any (λ r. r == i) (option_to_list source) ≡ ((result.0 == i) && result.1) }
-{
-    match source {
-        Some(register) => (register.index(), true),
-        None => (0, false),
     }
 }

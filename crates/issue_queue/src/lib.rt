@@ -11,6 +11,6 @@ mod selecting;
 mod slots;
 mod stamps;
 
-pub use entry::{QueueView, Waiting};
+pub use entry::{QueueView, Reading, Source, Waiting};
 pub use order::{BranchFirst, NamedOrder, OldestFirst, Order, SpecLast};
 pub use queue::{Queue, QueueFault};

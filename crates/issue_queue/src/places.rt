@@ -4,14 +4,14 @@ ghost use Rattle.std.specs.Prelude.{◌≡◌, ℕ, ◌<◌, ◌≤◌, true, fa
 ghost use Rattle.word_mask.specs.Mask.{has};
 ghost use Rattle.issue_queue.specs.Board.{InStep, IsMask, is_of, slot, waits_for};
 ghost use Rattle.issue_queue.specs.Candidates.{is_at};
-ghost use Rattle.issue_queue.specs.Entry.{is_named, is_ready, is_supplied};
+ghost use Rattle.issue_queue.specs.Entry.{is_named, is_ready, is_supplied, waits_for_two};
 ghost use Rattle.issue_queue.specs.IssueQueue.{awake, is_from, released};
 ghost use Rattle.issue_queue.specs.Stamps.{IsPlaceOfOldest};
-ghost use Rattle.issue_queue.specs.Views.{entry_of, name_of};
+ghost use Rattle.issue_queue.specs.Views.{AreAlike, entered, name_of};
 
 use crate::selecting::Candidate;
 use crate::slots::{Slots, mark};
-use crate::{Waiting, stamps};
+use crate::{Reading, stamps};
 use arrayvec::ArrayVec;
 use core_view::EntryId;
 use join_law::Ctx;
@@ -34,16 +34,38 @@ pub(crate) struct Places {
     pub(crate) contexts: [u64; 8],
 }
 
-/// The word with the bit of a place that it lacks, where told so.
-fn marked(word: u64, place: usize, flag: bool) -> u64
-    requires place { place < 64 }
-    requires free { has word place ≡ false }
-    ensures { (p : ℕ) → has result p ≡ (if p == place then flag else has word p) }
+/// The bit of a place, where told so.
+#[inline(always)]
+fn bit(place: usize, flag: bool) -> u64
+    requires { place < 64 }
+    ensures { (p : ℕ) → has result p ≡ ((p == place) && flag) }
 {
-    if flag {
-        word_mask::assigned(word, place, true)
+    word_mask::added(0, place, flag)
+}
+
+/// The bit of a place, where an entry that enters there waits for nothing.
+#[inline(always)]
+fn supplied_bit(place: usize, reading: &Reading) -> u64
+    requires { place < 64 }
+    ensures { (p : ℕ) → has result p ≡ ((p == place) && is_supplied (entered reading.now)) }
+{
+    let first = bit(place, reading.first.awaited);
+    let second = bit(place, reading.second.awaited);
+    word_mask::without(bit(place, true), either(first, second))
+}
+
+/// The bit of a place, where an entry that enters there waits for two registers.
+#[inline(always)]
+fn two_bit(place: usize, reading: &Reading) -> u64
+    requires { place < 64 }
+    ensures { (p : ℕ) → has result p ≡ ((p == place) && waits_for_two (entered reading.now)) }
+{
+    let first = bit(place, reading.first.awaited);
+    let second = bit(place, reading.second.awaited);
+    if reading.first.register == reading.second.register {
+        0
     } else {
-        word
+        word_mask::both(first, second)
     }
 }
 
@@ -88,20 +110,22 @@ impl Places {
     }
 
     /// Puts an entry into a free place.
-    pub(crate) fn put(&mut self, place: usize, waiting: Waiting)
+    #[inline(always)]
+    pub(crate) fn put(&mut self, place: usize, reading: &Reading)
         requires step { InStep self.old }
         requires bound { place < 64 }
         requires free { has self.old.valid place ≡ false }
+        requires alike { AreAlike reading.now }
         ensures step { InStep self.new }
         ensures valid { (p : ℕ) → has self.new.valid p ≡ (has self.old.valid p || (p == place)) }
-        ensures slots { (p : ℕ) → slot self.new.slots p ≡ (if p == place then entry_of waiting else slot self.old.slots p) }
+        ensures slots { (p : ℕ) → slot self.new.slots p ≡ (if p == place then entered reading.now else slot self.old.slots p) }
     {
-        self.slots.put(place, waiting);
+        self.slots.put(place, reading);
         self.valid = word_mask::assigned(self.valid, place, true);
-        self.supplied = word_mask::added(self.supplied, place, waiting.is_supplied());
-        self.two = word_mask::added(self.two, place, waiting.waits_for_two());
-        self.guesses = marked(self.guesses, place, waiting.guessed);
-        mark(&mut self.contexts, waiting.context.index(), place, true);
+        self.supplied = either(self.supplied, supplied_bit(place, reading));
+        self.two = either(self.two, two_bit(place, reading));
+        self.guesses = word_mask::added(self.guesses, place, reading.guessed);
+        mark(&mut self.contexts, reading.context.index(), place, true);
     }
 
     /// Frees a place. It leaves every word.

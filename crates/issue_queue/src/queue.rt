@@ -7,11 +7,11 @@ ghost use Rattle.issue_queue.specs.Board.{waits_for};
 ghost use Rattle.issue_queue.specs.IssueQueue.{awake, with_speculative, with_held, released, is_from};
 ghost use Rattle.issue_queue.specs.IsSelected.{IsSelected};
 ghost use Rattle.issue_queue.specs.Stamps.{place_of_oldest};
-ghost use Rattle.issue_queue.specs.Views.{entry_of, view_of};
+ghost use Rattle.issue_queue.specs.Views.{AreAlike, entered, entry_of, view_of};
 
 use crate::arrivals::Arrivals;
 use crate::places::Places;
-use crate::{Order, Waiting, selecting};
+use crate::{Order, Reading, Waiting, selecting};
 use arrayvec::ArrayVec;
 use core_view::EntryId;
 use join_law::Ctx;
@@ -106,12 +106,24 @@ impl Queue {
         ensures err { OnErr result (self.new ≡ self.old) }
         ensures given_back { IfErr result (λ e. (e.0 ≡ waiting) × (e.1 ≡ QueueFault.Full)) }
     {
-        if self.is_full() {
+        if self.len() >= self.capacity {
             return Err((waiting, QueueFault::Full));
         }
-        let place = self.arrivals.push(self.places.valid);
-        self.places.put(place, waiting);
+        self.enter(waiting.reading());
         Ok(())
+    }
+
+    /// Puts an entry behind the others of a queue that isn't full. It is not held, and waits for those of the registers that
+    /// it reads that have no value yet.
+    #[inline(always)]
+    pub fn enter(&mut self, reading: Reading)
+        requires fresh { list_any (is_named reading.context reading.stamp) self.old.entries ≡ false }
+        requires room { length self.old.entries < self.old.capacity }
+        requires alike { AreAlike reading }
+        ensures { self.new ≡ record self.old { entries = self.old.entries ++ entered reading ∷ [] } }
+    {
+        let place = self.arrivals.push(self.places.valid);
+        self.places.put(place, &reading);
     }
 
     /// No entry waits for a register any more. Gives how many places it looked at: those that waited for it.

@@ -2,18 +2,17 @@
 
 ghost use Rattle.std.specs.Prelude.{◌≡◌, ℕ, ◌<◌, ◌==◌, ◌&&◌, true, false, length, slice_index, slice_index_or, slice_set, if◌then◌else◌};
 ghost use Rattle.std.specs.List.{list_any};
-ghost use Rattle.std.specs.Option.{option_to_list};
 ghost use Rattle.word_mask.specs.Mask.{has};
 ghost use Rattle.issue_queue.specs.Board.{blank, slot, waits_for};
 ghost use Rattle.issue_queue.specs.IssueQueue.{awake, released};
-ghost use Rattle.issue_queue.specs.Views.{entry_of, waits_of};
+ghost use Rattle.issue_queue.specs.Views.{AreAlike, awaited_of, entered, reads_of};
 
-use crate::Waiting;
-use crate::entry::{Queued, told};
+use crate::entry::Queued;
+use crate::{Reading, Source};
 use rename_file::PhysicalRegister;
 
-/// An entry at each place, which of them are held, and which wait for a register. An entry waits for those of its sources
-/// whose words have its place.
+/// An entry at each place, which of them are held, and which wait for a register. An entry waits for those of the
+/// registers that it reads whose words have its place.
 #[derive(Drop)]
 pub(crate) struct Slots {
     /// What entered at each place; at one that is free, what stood there last.
@@ -34,48 +33,36 @@ pub(crate) fn mark(words: &mut [u64], index: usize, place: usize, flag: bool)
     words[index] = word_mask::assigned(words[index], place, flag);
 }
 
-/// Sets the bit of a place in the word of a source, if there is one, or clears it.
-fn mark_source(words: &mut [u64], source: Option<PhysicalRegister>, place: usize, flag: bool)
+/// Clears the bit of a place in the word of each register that an entry reads.
+fn clear_sources(words: &mut [u64; 480], entry: &Queued, place: usize)
+    requires { place < 64 }
+    ensures { (i p : ℕ) → has (slice_index words.new i) p ≡ (if (p == place) && list_any (λ r. r == i) (reads_of entry.now) then false else has (slice_index words.old i) p) }
+{
+    let [first, second] = entry.sources();
+    mark(words, first.index(), place, false);
+    mark(words, second.index(), place, false);
+}
+
+/// Sets the bit of a place in the word of a source, if it is waited for, without a jump.
+#[inline(always)]
+fn add_source(words: &mut [u64], source: &Source, place: usize)
     requires length { length words.old ≡ 480 }
     requires place { place < 64 }
-    ensures words { (i p : ℕ) → has (slice_index words.new i) p ≡ (if (p == place) && list_any (λ r. r == i) (option_to_list source) then flag else has (slice_index words.old i) p) }
+    ensures words { (i p : ℕ) → has (slice_index words.new i) p ≡ (if (p == place) && list_any (λ r. r == i) (awaited_of source.now) then true else has (slice_index words.old i) p) }
     ensures length { length words.new ≡ length words.old }
 {
-    let Some(register) = source else {
-        return;
-    };
-    mark(words, register.index(), place, flag);
+    let index = source.register.index();
+    words[index] = word_mask::added(words[index], place, source.awaited);
 }
 
 /// The same in the word of each source of an entry.
-fn mark_sources(words: &mut [u64; 480], entry: &Queued, place: usize, flag: bool)
+#[inline(always)]
+fn add_sources(words: &mut [u64; 480], reading: &Reading, place: usize)
     requires { place < 64 }
-    ensures { (i p : ℕ) → has (slice_index words.new i) p ≡ (if (p == place) && list_any (λ r. r == i) (waits_of entry.now) then flag else has (slice_index words.old i) p) }
+    ensures { (i p : ℕ) → has (slice_index words.new i) p ≡ (if (p == place) && list_any (λ r. r == i) (entered reading.now).waits then true else has (slice_index words.old i) p) }
 {
-    let [first, second] = entry.sources();
-    mark_source(words, first, place, flag);
-    mark_source(words, second, place, flag);
-}
-
-/// Sets the bit of a place in the word of a source, if there is one, without a jump.
-fn add_source(words: &mut [u64], source: Option<PhysicalRegister>, place: usize)
-    requires length { length words.old ≡ 480 }
-    requires place { place < 64 }
-    ensures words { (i p : ℕ) → has (slice_index words.new i) p ≡ (if (p == place) && list_any (λ r. r == i) (option_to_list source) then true else has (slice_index words.old i) p) }
-    ensures length { length words.new ≡ length words.old }
-{
-    let (index, waits) = told(source);
-    words[index] = word_mask::added(words[index], place, waits);
-}
-
-/// The same in the word of each source of an entry.
-fn add_sources(words: &mut [u64; 480], entry: &Queued, place: usize)
-    requires { place < 64 }
-    ensures { (i p : ℕ) → has (slice_index words.new i) p ≡ (if (p == place) && list_any (λ r. r == i) (waits_of entry.now) then true else has (slice_index words.old i) p) }
-{
-    let [first, second] = entry.sources();
-    add_source(words, first, place);
-    add_source(words, second, place);
+    add_source(words, &reading.first, place);
+    add_source(words, &reading.second, place);
 }
 
 impl Slots {
@@ -106,25 +93,27 @@ impl Slots {
     }
 
     /// An entry enters at a place.
-    pub(crate) fn put(&mut self, place: usize, waiting: Waiting)
+    #[inline(always)]
+    pub(crate) fn put(&mut self, place: usize, reading: &Reading)
         requires bound { place < 64 }
-        ensures slots { (p : ℕ) → slot self.new p ≡ (if p == place then entry_of waiting else slot self.old p) }
-        ensures waiters { (r p : ℕ) → has (slice_index self.new.waiters r) p ≡ (if (p == place) && waits_for r (entry_of waiting) then true else has (slice_index self.old.waiters r) p) }
+        requires free { (r : ℕ) → has (slice_index self.old.waiters r) place ≡ false }
+        requires alike { AreAlike reading.now }
+        ensures slots { (p : ℕ) → slot self.new p ≡ (if p == place then entered reading.now else slot self.old p) }
+        ensures waiters { (r p : ℕ) → has (slice_index self.new.waiters r) p ≡ (if (p == place) && waits_for r (entered reading.now) then true else has (slice_index self.old.waiters r) p) }
     {
-        let entry = Queued::new(waiting);
-        self.entries[place] = entry;
+        self.entries[place] = Queued::new(reading);
         self.held = word_mask::assigned(self.held, place, false);
-        add_sources(&mut self.waiters, &entry, place);
+        add_sources(&mut self.waiters, reading, place);
     }
 
-    /// The bit of a place leaves the words of its entry's sources.
+    /// The bit of a place leaves the word of each register that its entry reads.
     pub(crate) fn forget(&mut self, place: usize)
         requires { place < 64 }
         ensures slots { (p : ℕ) → (p == place) ≡ false → slot self.new p ≡ slot self.old p }
-        ensures waiters { (r p : ℕ) → has (slice_index self.new.waiters r) p ≡ (if (p == place) && list_any (λ w. w == r) (waits_of (slice_index_or self.old.entries place blank)) then false else has (slice_index self.old.waiters r) p) }
+        ensures waiters { (r p : ℕ) → has (slice_index self.new.waiters r) p ≡ (if (p == place) && list_any (λ w. w == r) (reads_of (slice_index_or self.old.entries place blank)) then false else has (slice_index self.old.waiters r) p) }
     {
         let entry = self.entries[place];
-        mark_sources(&mut self.waiters, &entry, place, false);
+        clear_sources(&mut self.waiters, &entry, place);
     }
 
     /// No entry waits for a register any more. Gives the places of those that did.

@@ -1,8 +1,18 @@
-use Rattle.std.proofs.Common.{arith, refl}
-use Rattle.issue_queue.specs.Views.{entry_of}
-use Rattle.issue_queue.proofs.Masks.{put_in_step}
+use Rattle.std.proofs.Common.{◌≡◌, ℕ, arith, ap, ◌∙◌, ◌||◌, ◌&&◌, ◌==◌}
+use Rattle.word_mask.specs.Mask.{has}
+use Rattle.issue_queue.specs.Entry.{is_supplied, waits_for_two}
+use Rattle.issue_queue.specs.Views.{entered}
+use Rattle.issue_queue.proofs.Masks.{free_of_words, put_in_step}
 use Rattle.issue_queue.proofs.places.Places.put.Goals as goal
+
+pub put-requires-clause-free : goal.put-requires-clause-free
+put-requires-clause-free c = free_of_words c.args.self.now c.args.place (omega arith) c.requires.free c.requires.step
 
 pub returns-clause-step : goal.returns-clause-step
 returns-clause-step c =
-    put_in_step c.args.self.now _ c.args.place (entry_of c.args.waiting) c.requires.bound c.requires.free (omega arith) c.assigned-self.ensures c.put.ensures.slots (rw c.is_supplied.ensures at c.added-self.ensures) (rw c.waits_for_two.ensures at c.added-self-2.ensures) c.marked-self.ensures (rw c.index.ensures.value at c.mark.ensures.words) c.put.ensures.waiters c.requires.step
+    let b = c.args.self.now in
+    let supplied : (p : ℕ) → has c.either-self.result p ≡ (has b.supplied p || ((p == c.args.place) && is_supplied (entered c.args.reading.now))) =
+    λ p. c.either-self.ensures p ∙ ap (λ x. has b.supplied p || x) (c.supplied_bit.ensures p) in
+    let two : (p : ℕ) → has c.either-self-2.result p ≡ (has b.two p || ((p == c.args.place) && waits_for_two (entered c.args.reading.now))) =
+    λ p. c.either-self-2.ensures p ∙ ap (λ x. has b.two p || x) (c.two_bit.ensures p) in
+    put_in_step b _ c.args.place (entered c.args.reading.now) c.requires.bound c.requires.free (omega arith) c.assigned-self.ensures c.put.ensures.slots supplied two c.added-self.ensures (rw c.index.ensures.value at c.mark.ensures.words) c.put.ensures.waiters c.requires.step

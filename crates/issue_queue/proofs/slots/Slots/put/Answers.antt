@@ -3,4 +3,4 @@ use Rattle.issue_queue.proofs.Masks.{slot_put}
 use Rattle.issue_queue.proofs.slots.Slots.put.Goals as goal
 
 pub returns-clause-slots : goal.returns-clause-slots
-returns-clause-slots c = slot_put c.args.self.now _ c.args.place c.new-entry.result _ (omega arith) refl c.assigned-self.ensures c.add_sources.ensures c.new-entry.ensures
+returns-clause-slots c = slot_put c.args.self.now _ c.args.place c.new.result c.args.reading.now (omega arith) c.new.ensures refl c.assigned-self.ensures c.add_sources.ensures c.requires.free c.requires.alike
