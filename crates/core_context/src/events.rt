@@ -19,7 +19,7 @@ ghost use Rattle.core_context.specs.Left.{IsIdleCore, IsEventAt};
 ghost use Rattle.core_context.specs.Renamable.{IsPastFront, IsRenamable};
 ghost use Rattle.core_context.specs.Steps.{retired_flow, settled_flow, completed_flow, cut_by, renamed_flow, IsRemarked, AreTold};
 
-use crate::issuing::perform;
+use crate::issuing::{perform, perform_any};
 use crate::track::Track;
 use branch_predict::Guess;
 use core_profile::Profile;
@@ -427,7 +427,7 @@ fn issue_searched<A: Allocator, D: Delay>(
     ensures keeps_greatest { D.greatest_lag delay.new ≡ D.greatest_lag delay.old }
 {
     let place = track.queued_place(stamp).unwrap();
-    issue_at(flow, track, context, place, cycle, delay)
+    issue_any_at(flow, track, context, place, cycle, delay)
 }
 
 /// The entry at a place issues in a cycle, after the lag that a delay gives.
@@ -449,6 +449,26 @@ fn issue_at<A: Allocator, D: Delay>(
 {
     let values = flow.sources(context, place).unwrap();
     perform(track, place, values, context, cycle, delay)
+}
+
+/// The same as `issue_at`, whatever the operation.
+fn issue_any_at<A: Allocator, D: Delay>(
+    flow: &DataFlow<A>,
+    track: &mut Track<A>,
+    context: Ctx,
+    place: usize,
+    cycle: u64,
+    delay: &mut D,
+) -> Lag
+    requires place { place < length track.old.context.flight }
+    requires issuable { IsIssuableAt flow.now context track.old place }
+    requires cycle { cycle < 2 ^ 56 }
+    ensures issued { HasIssued (D.may_answer delay.old context) flow.now context (entry_at track.old.context place).stamp cycle track.old track.new result }
+    ensures keeps { D.may_answer delay.new ≡ D.may_answer delay.old }
+    ensures keeps_greatest { D.greatest_lag delay.new ≡ D.greatest_lag delay.old }
+{
+    let values = flow.sources(context, place).unwrap();
+    perform_any(track, place, values, context, cycle, delay)
 }
 
 /// Lets all loads go, where one may be held.

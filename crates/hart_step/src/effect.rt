@@ -204,8 +204,10 @@ fn branched(condition: BranchCondition, offset: BranchOffset, pc: u64, a: u64, b
 }
 
 /// The effect of an instruction at a pc, where its sources have the values `a` and `b`.
+///
+/// A caller names any type `Site`. The calls of a type share a copy of the code, and that of a single call stands in line.
 #[inline(always)]
-pub fn execute(insn: &Insn, pc: u64, a: u64, b: u64) -> Effect
+pub fn execute<Site>(insn: &Insn, pc: u64, a: u64, b: u64) -> Effect
     ensures effect { result ≡ effect_of insn.now pc a b }
     ensures aligned { pc % 4 ≡ 0 → LeadsToAligned result }
 {

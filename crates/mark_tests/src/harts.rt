@@ -261,7 +261,7 @@ fn effect_of_add(rt: HostRuntime) -> Result<(), Fail> {
     assert_eq!(rt; second_source(&add).index(), 2);
     assert_eq!(rt; destination(&add).index(), 3);
     assert_eq!(rt;
-        execute(&add, 0x10000, u64::MAX, 2),
+        execute::<()>(&add, 0x10000, u64::MAX, 2),
         Effect::Writes {
             value: 1,
             target: 0x10004
@@ -276,7 +276,7 @@ fn effect_of_a_store(rt: HostRuntime) -> Result<(), Fail> {
     let store = decode(0x0020_A423).ok_or("sw")?;
     assert_eq!(rt; destination(&store).index(), 0);
     assert_eq!(rt;
-        execute(&store, 0x10000, 0x100000, 7),
+        execute::<()>(&store, 0x10000, 0x100000, 7),
         Effect::Stores {
             width: StoreWidth::Word,
             address: 0x100008,
