@@ -68,14 +68,15 @@ impl<A: Allocator> Contexts<A> {
         self.machine
     }
 
-    /// The parts of a cycle, in order. Returns what was done.
+    /// The parts of a cycle, in order. The note says what was done, and nothing of what it said before.
     pub(crate) fn cycle<G: Guess, P: Pick, O: Order, D: Delay>(
         &mut self,
         guess: &mut G,
         pick: &P,
         order: &O,
         delay: &mut D,
-    ) -> CycleNote
+        note: &mut CycleNote,
+    )
         requires { self.old.view.cycle < 2 ^ 56 }
         ensures live { (c : ℕ) → c < 8 → IsLive (start self.new.origin c) self.new.view.stamp (context_at self.new c) }
         ensures cycle { self.new.view.cycle ≡ self.old.view.cycle + 1 }
@@ -87,11 +88,11 @@ impl<A: Allocator> Contexts<A> {
         ensures guess { G.may_answer guess.new ≡ G.may_answer guess.old }
         ensures delay { D.may_answer delay.new ≡ D.may_answer delay.old }
         ensures greatest { D.greatest_lag delay.new ≡ D.greatest_lag delay.old }
-        ensures lawful { IsLawfulCycle (laws_of (P.key_of pick.now) (O.key_of order.now) (G.may_answer guess.old) (D.may_answer delay.old)) self.old.view self.new.view result }
+        ensures lawful { IsLawfulCycle (laws_of (P.key_of pick.now) (O.key_of order.now) (G.may_answer guess.old) (D.may_answer delay.old)) self.old.view self.new.view note.new }
         ensures timely { AreTimely self.new.view.cycle self.new.view }
-        ensures flights { result.cut + array_vec_len result.retired + in_flight self.new ≡ in_flight self.old + array_vec_len result.fetched }
+        ensures flights { note.new.cut + array_vec_len note.new.retired + in_flight self.new ≡ in_flight self.old + array_vec_len note.new.fetched }
     {
-        let mut note = CycleNote::new();
+        clear(note);
         let dropped = retire(&mut self.machine, guess, &mut note.retired);
         let completion = complete(&mut self.machine);
         note.completed = completion.completed as u32;
@@ -102,6 +103,18 @@ impl<A: Allocator> Contexts<A> {
         self.machine.tick();
         // `cycle` ensures that each context is live.
         let _live = self.machine.cycle();
-        note
     }
+}
+
+/// A note of a cycle before says nothing any more.
+fn clear(note: &mut CycleNote)
+    ensures fetched { note.new.fetched.items ≡ [] }
+    ensures renamed { note.new.renamed.items ≡ [] }
+    ensures issued { note.new.issued.items ≡ [] }
+    ensures retired { note.new.retired.items ≡ [] }
+{
+    note.fetched.clear();
+    note.renamed.clear();
+    note.issued.clear();
+    note.retired.clear();
 }

@@ -138,8 +138,38 @@ impl<G: Guess + Drop, P: Pick + Drop, O: Order + Drop, D: Delay + Drop, A: Alloc
         ensures timely { AreTimely (shown self.new).view.cycle (shown self.new).view }
         ensures flights { result.cut + array_vec_len result.retired + in_flight (shown self.new) ≡ in_flight (shown self.old) + array_vec_len result.fetched }
     {
-        self.contexts
-            .cycle(&mut self.guess, &self.pick, &self.order, &mut self.delay)
+        let mut note = CycleNote::new();
+        self.cycle_into(&mut note);
+        note
+    }
+
+    /// The same, told by a note that is there: what it said before is forgotten. A note that serves for many cycles is
+    /// made once.
+    pub fn cycle_into(&mut self, note: &mut CycleNote)
+        requires { (shown self.old).view.cycle < 2 ^ 56 }
+        ensures live { (c : ℕ) → c < 8 → IsLive (start (shown self.new).origin c) (shown self.new).view.stamp (context_at (shown self.new) c) }
+        ensures cycle { (shown self.new).view.cycle ≡ (shown self.old).view.cycle + 1 }
+        ensures origin { (shown self.new).origin ≡ (shown self.old).origin }
+        ensures profile { (shown self.new).view.profile ≡ (shown self.old).view.profile }
+        ensures idle { (shown self.new).names ≡ [] }
+        ensures room { (shown self.new).fetch_room ≡ 8 }
+        ensures targets { (c : ℕ) → c < 8 → (context_at (shown self.new) c).target ≡ (context_at (shown self.old) c).target }
+        ensures guess { G.may_answer self.new.guess ≡ G.may_answer self.old.guess }
+        ensures delay { D.may_answer self.new.delay ≡ D.may_answer self.old.delay }
+        ensures greatest { D.greatest_lag self.new.delay ≡ D.greatest_lag self.old.delay }
+        ensures pick { self.new.pick ≡ self.old.pick }
+        ensures order { self.new.order ≡ self.old.order }
+        ensures lawful { IsLawfulCycle (laws_of (P.key_of self.old.pick) (O.key_of self.old.order) (G.may_answer self.old.guess) (D.may_answer self.old.delay)) (shown self.old).view (shown self.new).view note.new }
+        ensures timely { AreTimely (shown self.new).view.cycle (shown self.new).view }
+        ensures flights { note.new.cut + array_vec_len note.new.retired + in_flight (shown self.new) ≡ in_flight (shown self.old) + array_vec_len note.new.fetched }
+    {
+        self.contexts.cycle(
+            &mut self.guess,
+            &self.pick,
+            &self.order,
+            &mut self.delay,
+            note,
+        );
     }
 
     /// The number of the cycle that comes. Each context is live and the view sound, at most 80 of its entries are in

@@ -28,11 +28,11 @@ loop-cycle-preserved g c =
     let runs : SomeRuns (shown old).view = search (rules, c.some_runs.ensures.0) in
     record {
       few = c.loop-cycle.invariant.few;
-      pick = c.cycle-note.ensures.pick ∙ c.loop-cycle.invariant.pick;
-      order = c.cycle-note.ensures.order ∙ c.loop-cycle.invariant.order;
-      guesses = c.cycle-note.ensures.guess ∙ c.loop-cycle.invariant.guesses;
-      delays = c.cycle-note.ensures.delay ∙ c.loop-cycle.invariant.delays;
-      way = underway_next laws (shown c.args.core.now) (shown old) (shown c.cycle-note.new.self) c.loop-cycle._cycle (figures_of c.loop-cycle.figures) (figures_of c.add.new.self) c.cycle-note.result c.loop-cycle.invariant.way c.add.ensures.added c.add.ensures.short runs
-          (subst (λ (l : Laws). IsLawfulCycle l (shown old).view (shown c.cycle-note.new.self).view c.cycle-note.result) same c.cycle-note.ensures.lawful)
-          c.cycle-note.ensures.origin c.cycle-note.ensures.profile c.cycle-note.ensures.cycle c.cycle-note.ensures.targets c.cycle-note.ensures.live c.cycle-note.ensures.flights;
+      pick = c.cycle_into.ensures.pick ∙ c.loop-cycle.invariant.pick;
+      order = c.cycle_into.ensures.order ∙ c.loop-cycle.invariant.order;
+      guesses = c.cycle_into.ensures.guess ∙ c.loop-cycle.invariant.guesses;
+      delays = c.cycle_into.ensures.delay ∙ c.loop-cycle.invariant.delays;
+      way = underway_next laws (shown c.args.core.now) (shown old) (shown c.cycle_into.new.self) c.loop-cycle._cycle (figures_of c.loop-cycle.figures) (figures_of c.add.new.self) c.cycle_into.new.note c.loop-cycle.invariant.way c.add.ensures.added c.add.ensures.short runs
+          (subst (λ (l : Laws). IsLawfulCycle l (shown old).view (shown c.cycle_into.new.self).view c.cycle_into.new.note) same c.cycle_into.ensures.lawful)
+          c.cycle_into.ensures.origin c.cycle_into.ensures.profile c.cycle_into.ensures.cycle c.cycle_into.ensures.targets c.cycle_into.ensures.live c.cycle_into.ensures.flights;
     }
