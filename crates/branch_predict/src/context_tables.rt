@@ -72,8 +72,9 @@ impl ContextTables {
             }
             Insn::Jalr { rd, rs1, .. } => self.guess_jalr(pc, rd, rs1),
             Insn::Branch { offset, .. } => {
+                let target = offset_by(pc, i64::from(offset.value()));
                 if self.counters[counter_place(pc)].says_taken() {
-                    offset_by(pc, i64::from(offset.value()))
+                    target
                 } else {
                     following(pc)
                 }
