@@ -1,8 +1,9 @@
 -- An entry issues: what it computes with, and what it leaves of a core.
 use Rattle.std.proofs.Common.{◌≡◌, ◌≢◌, ℕ, ◌<◌, ◌≤◌, Bool, true, false, not, ◌&&◌, ◌||◌, List, ◌∷◌, length, get_or, take, map, Option, Some, None, refl, sym, ap, subst, ◌∙◌, arith, inl, inr}
-use Rattle.std.specs.Prelude.{◌==◌, set}
+use Rattle.std.specs.Prelude.{◌==◌, set, slice_get}
 use Rattle.std.proofs.Math.Seq.{take-set-lt}
 use Rattle.std.proofs.lemmas.Bool.{ne_eqb, true≢false, cases_lt}
+use Rattle.std.proofs.lemmas.Option.{get_or_from_slice_get, slice_get_within}
 use Rattle.std.proofs.lemmas.List.{length-set, length-take-le, map-set, set-get_or, get_or-map, get_or-take, take-take, drop-set-lt}
 use Rattle.hart_step.specs.State.{State}
 use Rattle.core_view.specs.declared.note.EntryId.{EntryId}
@@ -10,13 +11,14 @@ use Rattle.core_view.specs.declared.outcome.Outcome.{Outcome}
 use Rattle.core_view.specs.declared.entry.Execution.{Execution}
 use Rattle.core_view.specs.declared.entry.Stage.TheVariants.{Fetched, Queued, Issued}
 use Rattle.core_view.specs.declared.entry.Entry.{Entry}
-use Rattle.core_view.specs.Operations.{is_guessed, first_source_of, second_source_of}
+use Rattle.core_view.specs.Operations.{is_guessed, first_source_of, second_source_of, stops_at_fetch}
 use Rattle.core_view.specs.Outcomes.{image_of, outcome_in}
-use Rattle.core_view.specs.Flight.{is_done, source_value, IsOutcome}
+use Rattle.core_view.specs.Flight.{is_done, seen_of, source_value, HasOutcome, IsOutcome}
 use Rattle.core_view.specs.Events.{with_stage}
 use Rattle.core_view.specs.Queues.{AllRenamed}
-use Rattle.core_view.specs.View.{entry_at, no_entry, seen_at as flight_seen_at}
+use Rattle.core_view.specs.View.{Context, entry_at, no_entry, seen_at as flight_seen_at}
 use Rattle.core_view.proofs.Live.{issue_live}
+use Rattle.core_view.proofs.Sound.{sound_at}
 use Rattle.data_flow.specs.Flow.{Flow, lane, no_node, both, sources_at}
 use Rattle.core_context.specs.Queued.{queued_at}
 use Rattle.core_context.specs.Track.{Track, issued}
@@ -37,6 +39,14 @@ core_answered {t = t} core i le = record {
   growing = core.live.flight.growing;
   sound = core.live.flight.sound;
 }
+
+-- a queued entry doesn't stop at fetch
+pub queued_goes : (x : Context) (i : ℕ) (e : Entry) → IsAnswered x i → slice_get x.flight i ≡ Some e → (entry_at x i).stage ≡ Queued → stops_at_fetch e.operation ≡ false
+queued_goes x i e ready is stage =
+    let lt : i < length x.flight = slice_get_within x.flight i e is in
+    let s = sound_at (image_of x.state) (seen_of x.state) x.state.pc x.flight i no_entry lt ready.sound in
+    subst (λ (f : Entry). stops_at_fetch f.operation ≡ false) (get_or_from_slice_get x.flight i e no_entry is)
+    (subst (λ t. HasOutcome (image_of x.state) (flight_seen_at x i) (entry_at x i).operation (entry_at x i).pc t) stage s.outcome)
 
 -- ---- the outcome
 

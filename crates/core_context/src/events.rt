@@ -19,7 +19,7 @@ ghost use Rattle.core_context.specs.Left.{IsIdleCore, IsEventAt};
 ghost use Rattle.core_context.specs.Renamable.{IsPastFront, IsRenamable};
 ghost use Rattle.core_context.specs.Steps.{retired_flow, settled_flow, completed_flow, cut_by, renamed_flow, IsRemarked, AreTold};
 
-use crate::issuing::{perform, perform_any};
+use crate::issuing::{perform, perform_apart};
 use crate::track::Track;
 use branch_predict::Guess;
 use core_profile::Profile;
@@ -427,7 +427,7 @@ fn issue_searched<A: Allocator, D: Delay>(
     ensures keeps_greatest { D.greatest_lag delay.new ≡ D.greatest_lag delay.old }
 {
     let place = track.queued_place(stamp).unwrap();
-    issue_any_at(flow, track, context, place, cycle, delay)
+    issue_apart(flow, track, context, place, cycle, delay)
 }
 
 /// The entry at a place issues in a cycle, after the lag that a delay gives.
@@ -451,8 +451,8 @@ fn issue_at<A: Allocator, D: Delay>(
     perform(track, place, values, context, cycle, delay)
 }
 
-/// The same as `issue_at`, whatever the operation.
-fn issue_any_at<A: Allocator, D: Delay>(
+/// The same, out of line.
+fn issue_apart<A: Allocator, D: Delay>(
     flow: &DataFlow<A>,
     track: &mut Track<A>,
     context: Ctx,
@@ -468,7 +468,7 @@ fn issue_any_at<A: Allocator, D: Delay>(
     ensures keeps_greatest { D.greatest_lag delay.new ≡ D.greatest_lag delay.old }
 {
     let values = flow.sources(context, place).unwrap();
-    perform_any(track, place, values, context, cycle, delay)
+    perform_apart(track, place, values, context, cycle, delay)
 }
 
 /// Lets all loads go, where one may be held.

@@ -15,6 +15,6 @@ pub use decoded::{Decoded, OperationKind};
 pub use entry::{Entry, Execution, Stage};
 pub use note::{CycleNote, EntryId, Issue};
 pub use operation::Operation;
-pub use outcome::{Access, Outcome, Step};
+pub use outcome::{Access, Outcome, Step, goes_to, loads_at, stores_at};
 pub use span::{Bytes, Span};
 pub use status::Status;

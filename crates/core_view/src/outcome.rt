@@ -65,7 +65,7 @@ pub enum Outcome {
 
 /// Gives a value and goes on at a target.
 #[inline(always)]
-fn goes_to(value: u64, target: u64) -> Outcome
+pub fn goes_to(value: u64, target: u64) -> Outcome
     ensures { result ≡ goes_to_of value target }
 {
     Outcome::Goes {
@@ -79,7 +79,7 @@ fn goes_to(value: u64, target: u64) -> Outcome
 
 /// A load of a number at an address.
 #[inline(always)]
-fn loads_at(pc: u64, kind: LoadKind, address: u64, number: u64) -> Outcome
+pub fn loads_at(pc: u64, kind: LoadKind, address: u64, number: u64) -> Outcome
     ensures { result ≡ loads_at_of pc kind address number }
 {
     let span = Span {
@@ -97,7 +97,7 @@ fn loads_at(pc: u64, kind: LoadKind, address: u64, number: u64) -> Outcome
 
 /// A store of a value at an address.
 #[inline(always)]
-fn stores_at(pc: u64, width: StoreWidth, address: u64, value: u64) -> Outcome
+pub fn stores_at(pc: u64, width: StoreWidth, address: u64, value: u64) -> Outcome
     ensures { result ≡ stores_at_of pc width address value }
 {
     let span = Span {
