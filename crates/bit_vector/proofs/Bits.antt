@@ -1,8 +1,10 @@
 -- Bits of words.
-use Rattle.std.proofs.Common.{◌≡◌, ℕ, ◌+◌, ◌-◌, ◌*◌, ◌/◌, ◌%◌, ◌^◌, ◌<◌, ◌≤◌, max, bit_or, sym, ◌∙◌, ap, arith, inl, inr, ◌⊎◌}
+use Rattle.std.proofs.Common.{◌≡◌, ℕ, suc, ◌+◌, ◌-◌, ◌*◌, ◌/◌, ◌%◌, ◌^◌, ◌<◌, ◌≤◌, max, min, false, not, nat_eq, bit_and, bit_or, sym, ◌∙◌, ap, arith, inl, inr, ◌⊎◌}
 use Rattle.std.specs.Int.{bit_at, w64, rotate_right, trailing_zeros}
+use Rattle.std.specs.Int.Bits.{bit_xor}
+use Rattle.std.proofs.lemmas.Bool.Decides.{nat_tests}
 use Rattle.std.proofs.lemmas.Nat.{shr-shr, shr_split, shr_le, pow_pos}
-use Rattle.std.proofs.lemmas.Nat.Bits.{bit_at_or, bit_at-lt, bit_at_above, bit_at-zero, bit_at_cat_low, bit_at_cat_high, bit_at-trailing_zeros}
+use Rattle.std.proofs.lemmas.Nat.Bits.{bit_at_and, bit_at_not, bit_at_or, bit_at_xor, bit_at-lt, bit_at_above, bit_at-zero, bit_at-suc, bit_at_lowest, bit_at_ones, bit_at_cat_low, bit_at_cat_high, bit_at-trailing_zeros, same_from_bits, same_from_bits_below}
 
 pub bit-kept : (a b j : ℕ) → bit_at a j ≡ 1 → bit_at (bit_or a b) j ≡ 1
 bit-kept a b j h = let m : bit_at (bit_or a b) j ≡ max (bit_at a j) (bit_at b j) = bit_at_or a b j in let lt : bit_at b j < 2 = bit_at-lt b j in omega arith
@@ -82,3 +84,140 @@ bit-turned word base i fits low within =
     ∙ ap (λ m. max m (bit_at (word * 2 ^ ((64 - base % 64) % 64) % 18446744073709551616) i)) (bit-down word (base % 64) i)
     ∙ ap (λ m. max (bit_at word (base % 64 + i)) m) (bit-low (word * 2 ^ ((64 - base % 64) % 64)) i within)
     ∙ turned-cases word base i fits low within (lt-or base 1) (lt-or (base + i) 64)
+
+-- ---- a word and the one before it
+
+no-bit : ◌≡◌ {A = ℕ} 0 1 → ⊥
+no-bit e = omega (arith, e)
+
+-- where no bit is set below a place, the word is a multiple
+low-none : (x k : ℕ) → ((i : ℕ) → i < k → bit_at x i ≡ 0) → x % 2 ^ k ≡ 0
+low-none x k clear =
+    let split : x / 2 ^ k * 2 ^ k + x % 2 ^ k ≡ x = shr_split x k in
+    let pos : 0 < 2 ^ k = pow_pos k in
+    same_from_bits_below k (x % 2 ^ k) 0 (omega (arith, pos)) pos (λ i lt. sym (bit_at_cat_low (x / 2 ^ k) k (x % 2 ^ k) i lt) ∙ ap (λ n. bit_at n i) split ∙ clear i lt ∙ sym (bit_at-zero i))
+
+one-more : (a n : ℕ) → (a + 1) * n ≡ a * n + n
+one-more a n = omega arith
+
+before-multiple : (q n : ℕ) → 0 < q → 0 < n → q * n + 0 - 1 ≡ (q - 1) * n + (n - 1)
+before-multiple q n some pos =
+    let at : q ≡ q - 1 + 1 = omega (arith, some) in
+    let all : q * n ≡ (q - 1) * n + n = ap (λ a. a * n) at ∙ one-more (q - 1) n in
+    omega (arith, all, pos)
+
+odd-halves : (q i : ℕ) → q % 2 ≡ 1 → 0 < i → bit_at q i ≡ bit_at (q - 1) i
+odd-halves q i odd some =
+    let at : i ≡ suc (i - 1) = omega arith in
+    let half : q / 2 ≡ (q - 1) / 2 = omega (arith, odd) in
+    ap (bit_at q) at ∙ bit_at-suc q (i - 1) ∙ ap (λ n. bit_at n (i - 1)) half ∙ sym (bit_at-suc (q - 1) (i - 1)) ∙ ap (bit_at (q - 1)) (sym at)
+
+module _ (x k : ℕ) (one : bit_at x k ≡ 1) (clear : (i : ℕ) → i < k → bit_at x i ≡ 0) where
+  abbrev q : ℕ
+  q = x / 2 ^ k
+
+  some : 0 < q
+  some = let h : q % 2 ≡ 1 = one in omega (arith, h)
+
+  form : x ≡ q * 2 ^ k + 0
+  form = let split : x / 2 ^ k * 2 ^ k + x % 2 ^ k ≡ x = shr_split x k in let none : x % 2 ^ k ≡ 0 = low-none x k clear in omega (arith, split, none)
+
+  before : x - 1 ≡ (q - 1) * 2 ^ k + (2 ^ k - 1)
+  before = ap (λ n. n - 1) form ∙ before-multiple q (2 ^ k) some (pow_pos k)
+
+  high : (i : ℕ) → k ≤ i → bit_at x i ≡ bit_at q (i - k)
+  high i le = ap (λ n. bit_at n i) form ∙ bit_at_cat_high q k 0 i (pow_pos k) le
+
+  high-before : (i : ℕ) → k ≤ i → bit_at (x - 1) i ≡ bit_at (q - 1) (i - k)
+  high-before i le = ap (λ n. bit_at n i) before ∙ bit_at_cat_high (q - 1) k (2 ^ k - 1) i (let pos : 0 < 2 ^ k = pow_pos k in omega (arith, pos)) le
+
+  pub xor-low : (i : ℕ) → i ≤ k → bit_at (bit_xor x (x - 1)) i ≡ 1
+  xor-low i le = bit_at_xor x (x - 1) i ∙ elim (lt-or i k) [
+    | inl lt ↦ (let a = clear i lt in let b : bit_at (x - 1) i ≡ 1 = ap (λ n. bit_at n i) before ∙ bit_at_cat_low (q - 1) k (2 ^ k - 1) i lt ∙ bit_at_ones k i lt in omega (arith, a, b))
+    | inr ge ↦ (
+        let same : i - k ≡ 0 = omega (arith, le, ge) in
+        let a : bit_at x i ≡ q % 2 = high i ge ∙ ap (bit_at q) same ∙ bit_at_lowest q in
+        let b : bit_at (x - 1) i ≡ (q - 1) % 2 = high-before i ge ∙ ap (bit_at (q - 1)) same ∙ bit_at_lowest (q - 1) in
+        let odd : q % 2 ≡ 1 = one in
+        omega (arith, a, b, odd))
+  ]
+
+  pub xor-high : (i : ℕ) → k < i → bit_at (bit_xor x (x - 1)) i ≡ 0
+  xor-high i gt =
+      let same : bit_at x i ≡ bit_at (x - 1) i = high i (omega (arith, gt)) ∙ odd-halves q (i - k) one (omega (arith, gt)) ∙ sym (high-before i (omega (arith, gt))) in
+      bit_at_xor x (x - 1) i ∙ omega (arith, same)
+
+-- the bits up to the lowest, by the number before
+pub up-set : (x y i : ℕ) → x < 18446744073709551616 → y ≡ (x + 18446744073709551615) % 18446744073709551616 → i < 64 → ((j : ℕ) → j < i → bit_at x j ≡ 0) → bit_at (bit_xor x y) i ≡ 1
+up-set x y i fits is low clear = elim (lt-or 0 x) [
+  | inr none ↦ (
+      let zero_ : x ≡ 0 = omega (arith, none) in
+      let all : y ≡ 2 ^ 64 - 1 = omega (arith, is, zero_) in
+      let a : bit_at x i ≡ 0 = ap (λ n. bit_at n i) zero_ ∙ bit_at-zero i in
+      let b : bit_at y i ≡ 1 = ap (λ n. bit_at n i) all ∙ bit_at_ones 64 i low in
+      bit_at_xor x y i ∙ omega (arith, a, b))
+  | inl some ↦ (
+      let less : y ≡ x - 1 = omega (arith, is, some, fits) in
+      let t = bit_at-trailing_zeros w64 x some (omega (arith, fits)) in
+      ap (λ n. bit_at (bit_xor x n) i) less ∙ xor-low x (trailing_zeros w64 x) t.1 t.2 i (elim (lt-or (trailing_zeros w64 x) i) [
+        | inl lt ↦ absurd (no-bit (sym (clear (trailing_zeros w64 x) lt) ∙ t.1))
+        | inr ge ↦ ge
+      ]))
+]
+
+pub up-clear : (x y i j : ℕ) → x < 18446744073709551616 → y ≡ (x + 18446744073709551615) % 18446744073709551616 → bit_at (bit_xor x y) i ≡ 1 → j < i → bit_at x j ≡ 0
+up-clear x y i j fits is set_ lt = elim (lt-or 0 x) [
+  | inr none ↦ (let zero_ : x ≡ 0 = omega (arith, none) in ap (λ n. bit_at n j) zero_ ∙ bit_at-zero j)
+  | inl some ↦ (
+      let less : y ≡ x - 1 = omega (arith, is, some, fits) in
+      let t = bit_at-trailing_zeros w64 x some (omega (arith, fits)) in
+      elim (lt-or (trailing_zeros w64 x) i) [
+        | inl past ↦ absurd (no-bit (sym (xor-high x (trailing_zeros w64 x) t.1 t.2 i past) ∙ ap (λ n. bit_at (bit_xor x n) i) (sym less) ∙ set_))
+        | inr ge ↦ t.2 j (omega (arith, lt, ge))
+      ])
+]
+
+-- the lowest place
+pub lowest-clear : (x i : ℕ) → x < 18446744073709551616 → i < trailing_zeros w64 x → bit_at x i ≡ 0
+lowest-clear x i fits lt = elim (lt-or 0 x) [
+  | inr none ↦ (let zero_ : x ≡ 0 = omega (arith, none) in ap (λ n. bit_at n i) zero_ ∙ bit_at-zero i)
+  | inl some ↦ (bit_at-trailing_zeros w64 x some (omega (arith, fits))).2 i lt
+]
+
+-- ---- bits of two words
+
+pub both-set : (a b i : ℕ) → bit_at a i ≡ 1 → bit_at b i ≡ 1 → bit_at (bit_and a b) i ≡ 1
+both-set a b i p q = bit_at_and a b i ∙ omega (arith, p, q)
+
+pub both-first : (a b i : ℕ) → bit_at (bit_and a b) i ≡ 1 → bit_at a i ≡ 1
+both-first a b i h = let m : min (bit_at a i) (bit_at b i) ≡ 1 = sym (bit_at_and a b i) ∙ h in omega (arith, m, bit_at-lt a i)
+
+pub both-second : (a b i : ℕ) → bit_at (bit_and a b) i ≡ 1 → bit_at b i ≡ 1
+both-second a b i h = let m : min (bit_at a i) (bit_at b i) ≡ 1 = sym (bit_at_and a b i) ∙ h in omega (arith, m, bit_at-lt b i)
+
+-- the bits of a word that another lacks
+lacked : (a b i : ℕ) → b < 18446744073709551616 → i < 64 → bit_at (bit_and a (18446744073709551615 - b)) i ≡ min (bit_at a i) (1 - bit_at b i)
+lacked a b i fits low = bit_at_and a (18446744073709551615 - b) i ∙ ap (λ n. min (bit_at a i) n) (bit_at_not w64 b i (omega (arith, fits)) low)
+
+no-more : (n : ℕ) → not (nat_eq n 0) ≡ false → n ≡ 0
+no-more n h = grind (arith, nat_tests)
+
+pub more-none : (a b i : ℕ) → a < 18446744073709551616 → b < 18446744073709551616 → not (nat_eq (bit_and a (18446744073709551615 - b)) 0) ≡ false → bit_at a i ≡ 1 → bit_at b i ≡ 1
+more-none a b i fits also none one = elim (lt-or i 64) [
+  | inl low ↦ (
+      let m : min (bit_at a i) (1 - bit_at b i) ≡ 0 = sym (lacked a b i also low) ∙ ap (λ n. bit_at n i) (no-more _ none) ∙ bit_at-zero i in
+      omega (arith, m, one, bit_at-lt b i))
+  | inr high ↦ absurd (no-bit (sym (bit_at_above a 64 i (omega (arith, fits)) high) ∙ one))
+]
+
+pub more-all : (a b : ℕ) → a < 18446744073709551616 → b < 18446744073709551616 → ((i : ℕ) → bit_at a i ≡ 1 → bit_at b i ≡ 1) → not (nat_eq (bit_and a (18446744073709551615 - b)) 0) ≡ false
+more-all a b fits also all = ap (λ n. not (nat_eq n 0)) (same_from_bits (bit_and a (18446744073709551615 - b)) 0 (λ i. clear i ∙ sym (bit_at-zero i)))
+  where
+    clear : (i : ℕ) → bit_at (bit_and a (18446744073709551615 - b)) i ≡ 0
+    clear i = elim (lt-or i 64) [
+      | inl low ↦ elim (lt-or (bit_at a i) 1) [
+        | inl zero_ ↦ lacked a b i also low ∙ omega (arith, zero_)
+        | inr one ↦ (let h : bit_at a i ≡ 1 = omega (arith, one, bit_at-lt a i) in lacked a b i also low ∙ omega (arith, all i h))
+      ]
+      | inr high ↦ (let h : bit_at a i ≡ 0 = bit_at_above a 64 i (omega (arith, fits)) high in bit_at_and a (18446744073709551615 - b) i ∙ omega (arith, h))
+    ]

@@ -4,5 +4,7 @@
 mod places;
 mod slots;
 
-pub use places::{assign, count, first, has, next, push, without_first};
+pub use places::{
+    assign, both, count, first, has_more, lowest, next, push, up_to_first, without_first,
+};
 pub use slots::{clear_slot, set_slot, turn};

@@ -1,6 +1,6 @@
 //! A word as the bits of a list, the first of which is bit 0. Its other bits are clear.
 
-ghost use Rattle.std.specs.Prelude.{◌≡◌, ℕ, ◌<◌, ◌≤◌, Bool, true, false, List, [], ◌∷◌, ◌++◌, length, take, drop, slice_set, count_by, IsTrue};
+ghost use Rattle.std.specs.Prelude.{◌≡◌, ℕ, ◌<◌, ◌≤◌, Bool, true, false, List, [], ◌∷◌, ◌++◌, length, take, drop, slice_set, count_by};
 ghost use Rattle.std.specs.Int.{bit_at};
 ghost use Rattle.std.specs.Simd.Lanes.{mask_l};
 
@@ -71,14 +71,41 @@ pub fn count(word: u64) -> usize
     word.count_ones() as usize
 }
 
-/// Whether the bit of a place is set.
+/// The first place whose bit is set, or 64 where there is none.
 #[inline(always)]
-pub fn has(word: u64, place: usize) -> bool
-    requires { place < 64 }
-    ensures clear { result ≡ false → bit_at word place ≡ 0 }
-    ensures set { IsTrue result → bit_at word place ≡ 1 }
+pub fn lowest(word: u64) -> usize
+    ensures within { result ≤ 64 }
+    ensures clear { (i : ℕ) → i < result → bit_at word i ≡ 0 }
 {
-    (word >> place) % 2 == 1
+    word.trailing_zeros() as usize
+}
+
+/// The bits up to the first that is set, with it; all where none is.
+#[inline(always)]
+pub fn up_to_first(word: u64) -> u64
+    ensures set { (i : ℕ) → i < 64 → ((j : ℕ) → j < i → bit_at word j ≡ 0) → bit_at result i ≡ 1 }
+    ensures clear { (i : ℕ) → bit_at result i ≡ 1 → (j : ℕ) → j < i → bit_at word j ≡ 0 }
+{
+    word ^ word.wrapping_sub(1)
+}
+
+/// Whether a word has a bit that another lacks.
+#[inline(always)]
+pub fn has_more(word: u64, other: u64) -> bool
+    ensures none { result ≡ false → (i : ℕ) → bit_at word i ≡ 1 → bit_at other i ≡ 1 }
+    ensures all { ((i : ℕ) → bit_at word i ≡ 1 → bit_at other i ≡ 1) → result ≡ false }
+{
+    word & !other != 0
+}
+
+/// The bits that both words have.
+#[inline(always)]
+pub fn both(word: u64, other: u64) -> u64
+    ensures set { (i : ℕ) → bit_at word i ≡ 1 → bit_at other i ≡ 1 → bit_at result i ≡ 1 }
+    ensures first { (i : ℕ) → bit_at result i ≡ 1 → bit_at word i ≡ 1 }
+    ensures second { (i : ℕ) → bit_at result i ≡ 1 → bit_at other i ≡ 1 }
+{
+    word & other
 }
 
 /// The first place from one on whose bit is set, or 64 where there is none.

@@ -1,7 +1,7 @@
 -- Turn by turn, the entries of all contexts that are due complete.
 use Rattle.std.proofs.Common.{◌≡◌, ◌≢◌, ℕ, zero, suc, ◌+◌, ◌*◌, ◌<◌, ◌≤◌, Bool, true, false, cond, List, [], ◌∷◌, length, get_or, map, refl, sym, ap, subst, ◌∙◌, arith, inl, inr}
-use Rattle.std.specs.Prelude.{set, take, sum_by, is_some, ◌==◌, if◌then◌else◌}
-use Rattle.std.proofs.lemmas.Bool.{cases_eq, eq-eqb, ne_eqb}
+use Rattle.std.specs.Prelude.{set, take, sum_by, is_some, ◌==◌, not, ◌&&◌, if◌then◌else◌}
+use Rattle.std.proofs.lemmas.Bool.{cases_eq, eq-eqb, eqb-true, ne_eqb}
 use Rattle.std.proofs.lemmas.List.{ext_get_or, get_or-set_other, get_or-set_same, length-map, length-set, length-take}
 use Rattle.std.proofs.lemmas.List.Sums.{count_by-le-length, sum_by-cons}
 use Rattle.std.proofs.lemmas.Nat.Bits.{bit_at-zero}
@@ -15,6 +15,15 @@ use Rattle.core_back.specs.Completing.{IsTurn}
 use Rattle.core_back.proofs.CompletedCount.{sum_to, map_at}
 use Rattle.core_back.proofs.DuePlaces.{none_due, none_comes}
 use Rattle.core_back.proofs.InFlight.{in_flight-with_context}
+
+-- a bit that a word has is as told, where the word is made without it unless told so
+pub word_told : (left next c : ℕ) (b : Bool) → has left c ≡ true → ((p : ℕ) → has next p ≡ (if (p == c) && not b then false else has left p)) → (p : ℕ) → has next p ≡ (if p == c then b else has left p)
+word_told left next c b here word p = word p ∙ by_place (p == c) refl b
+  where
+    by_place : (t : Bool) → (p == c) ≡ t → (b : Bool) → (if t && not b then false else has left p) ≡ (if t then b else has left p)
+    by_place false is b = refl
+    by_place true is false = refl
+    by_place true is true = ap (has left) (eqb-true p c is) ∙ here
 
 -- ---- sums
 

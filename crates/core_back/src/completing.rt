@@ -1,7 +1,7 @@
 //! The part of a cycle in which entries complete.
 
 ghost use Rattle.std.specs.Prelude.{◌≡◌, ℕ, ◌+◌, ◌<◌, ◌≤◌, true, false, [], map, IsTrue};
-ghost use Rattle.flight.specs.Flights.{is_due, NoneFrom};
+ghost use Rattle.flight.specs.Flights.{is_due, NoneFrom, IsNext};
 ghost use Rattle.lawful_cycle.specs.Complete.{IsComplete};
 ghost use Rattle.word_mask.specs.Mask.{has};
 ghost use Rattle.core_back.specs.Completing.{IsTurn};
@@ -42,7 +42,7 @@ pub fn complete<A: Allocator>(machine: &mut Machine<A>) -> Completion
         let turn = complete_next(machine, context);
         completed += turn.completed;
         cut += turn.cut;
-        left = word_mask::assigned(left, context.index(), turn.more);
+        left = word_mask::removed(left, context.index(), !turn.more);
     }
     Completion { completed, cut }
 }
@@ -81,7 +81,7 @@ fn may_have_more<A: Allocator>(machine: &Machine<A>, context: Ctx, completed: us
 
 /// What a turn did, and whether one more entry of its context may be due.
 #[derive(Clone, Copy)]
-pub struct Turn {
+pub struct Completed {
     /// How many entries completed: one, or none.
     pub completed: usize,
     /// How many were squashed.
@@ -92,25 +92,45 @@ pub struct Turn {
 
 /// The oldest entry of a context that is due completes, if there is one.
 #[inline(always)]
-fn complete_next<A: Allocator>(machine: &mut Machine<A>, context: Ctx) -> Turn
+fn complete_next<A: Allocator>(machine: &mut Machine<A>, context: Ctx) -> Completed
     requires idle { machine.old.names ≡ [] }
     ensures turn { IsTurn machine.old machine.new context result.completed result.cut }
     ensures more { IsTrue result.more → 0 < result.completed }
     ensures none { result.more ≡ false → 0 < result.completed → NoneFrom (is_due machine.new.view.cycle) (context_at machine.new context).flight 0 }
 {
-    let Some(finished) = machine.complete_plain(context) else {
+    let Some(place) = machine.first_due(context) else {
         return search_turn(machine, context);
     };
-    Turn {
+    let Some(more) = machine.complete_plain(context, place) else {
+        return complete_other(machine, context, place);
+    };
+    Completed {
         completed: 1,
         cut: 0,
-        more: finished.more,
+        more,
+    }
+}
+
+/// The same of the entry at its place, which may squash others.
+#[inline(always)]
+fn complete_other<A: Allocator>(machine: &mut Machine<A>, context: Ctx, place: usize) -> Completed
+    requires idle { machine.old.names ≡ [] }
+    requires next { IsNext (is_due machine.old.view.cycle) (context_at machine.old context).flight 0 place }
+    ensures turn { IsTurn machine.old machine.new context result.completed result.cut }
+    ensures more { 0 < result.completed }
+    ensures none { result.more ≡ false → NoneFrom (is_due machine.new.view.cycle) (context_at machine.new context).flight 0 }
+{
+    let cut = machine.complete(context, place);
+    Completed {
+        completed: 1,
+        cut,
+        more: machine.may_be_due(context),
     }
 }
 
 /// The same, by a search.
 #[inline(always)]
-fn search_turn<A: Allocator>(machine: &mut Machine<A>, context: Ctx) -> Turn
+fn search_turn<A: Allocator>(machine: &mut Machine<A>, context: Ctx) -> Completed
     requires idle { machine.old.names ≡ [] }
     ensures turn { IsTurn machine.old machine.new context result.completed result.cut }
     ensures more { IsTrue result.more → 0 < result.completed }
@@ -118,7 +138,7 @@ fn search_turn<A: Allocator>(machine: &mut Machine<A>, context: Ctx) -> Turn
 {
     let done = complete_found(machine, context);
     let more = may_have_more(machine, context, done.completed);
-    Turn {
+    Completed {
         completed: done.completed,
         cut: done.cut,
         more,

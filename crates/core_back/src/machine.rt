@@ -34,7 +34,6 @@ use core_profile::Profile;
 use core_view::{Entry, EntryId, Issue, Outcome, Status};
 use data_flow::DataFlow;
 use data_tags::{Delay, Lag};
-use flight::Finished;
 use hart_step::Stop;
 use issue_queue::Order;
 use join_law::{Ctx, Eight};
@@ -249,19 +248,29 @@ impl<A: Allocator> Machine<A> {
         track.may_be_due(self.cycle)
     }
 
-    /// The oldest entry of a context that is due in this cycle completes, if its hint comes first and it is plain. It
-    /// squashes nothing.
+    /// The place of the oldest entry of a context that is due in this cycle, if its hint comes first.
     #[inline(always)]
-    pub fn complete_plain(&mut self, context: Ctx) -> Option<Finished>
+    pub fn first_due(&self, context: Ctx) -> Option<usize>
+        ensures { IfSome result (IsNext (is_due self.now.view.cycle) (context_at self.now context).flight 0) }
+    {
+        let track = &self.tracks[context.index()];
+        track.first_due(self.cycle)
+    }
+
+    /// The entry of a context at a place, which is issued, completes, if it is plain: it squashes nothing. Returns whether
+    /// one more may be due in this cycle.
+    #[inline(always)]
+    pub fn complete_plain(&mut self, context: Ctx, place: usize) -> Option<bool>
         requires idle { self.old.names ≡ [] }
+        requires place { place < length (context_at self.old context).flight }
+        requires issued { IsIssuedStage (entry_at (context_at self.old context) place).stage }
         ensures none { result ≡ None → self.new ≡ self.old }
-        ensures next { IfSome result (λ f. IsNext (is_due self.old.view.cycle) (context_at self.old context).flight 0 f.place) }
-        ensures completed { IfSome result (λ f. self.new ≡ with_context self.old context (complete_event (context_at self.old context) f.place (execution_of (entry_at (context_at self.old context) f.place).stage))) }
+        ensures completed { IfSome result (λ _. self.new ≡ with_context self.old context (complete_event (context_at self.old context) place (execution_of (entry_at (context_at self.old context) place).stage))) }
         ensures kept { IfSome result (λ _. length (context_at self.new context).flight ≡ length (context_at self.old context).flight) }
-        ensures more { IfSome result (λ f. f.more ≡ false → NoneFrom (is_due self.new.view.cycle) (context_at self.new context).flight 0) }
+        ensures more { IfSome result (λ more. more ≡ false → NoneFrom (is_due self.new.view.cycle) (context_at self.new context).flight 0) }
     {
         let track = &mut self.tracks[context.index()];
-        events::complete_plain(&mut self.flow, track, context, self.cycle)
+        events::complete_plain(&mut self.flow, track, context, place, self.cycle)
     }
 
     /// The first place from one on of a context's flight whose entry is due in this cycle.

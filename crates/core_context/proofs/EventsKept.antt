@@ -12,11 +12,11 @@ use Rattle.core_view.specs.View.{entry_at}
 use Rattle.core_view.specs.declared.status.Status.{Status}
 use Rattle.core_view.specs.declared.status.Status.TheVariants.{Running, Parked}
 use Rattle.core_view.specs.Outcomes.{moved}
-use Rattle.core_view.specs.Flight.{is_open, pc_past, is_open_guess, result_in}
-use Rattle.core_view.specs.Operations.{is_guessed, operation_at}
+use Rattle.core_view.specs.Flight.{is_open, pc_past, is_open_guess}
+use Rattle.core_view.specs.Operations.{operation_at}
 use Rattle.core_view.specs.Events.{MayFollow}
-use Rattle.data_flow.specs.Flow.{Flow, lane, with_lane, with_result, without_oldest, cut_flow}
-use Rattle.core_context.specs.Track.{Track, is_last, retired, stepped, parked, stopped, completed, cut_stamp, renamed_one, fetched_one}
+use Rattle.data_flow.specs.Flow.{Flow, lane, with_lane, without_oldest, cut_flow}
+use Rattle.core_context.specs.Track.{Track, is_last, retired, stepped, parked, stopped, completed, renamed_one, fetched_one}
 use Rattle.core_context.specs.Steps.{retired_flow, completed_flow, renamed_flow}
 use Rattle.core_context.specs.Heads.{first_done}
 use Rattle.core_context.specs.Cores.{front_room}
@@ -127,7 +127,3 @@ module _ (f g : Flow) (c : ℕ) (t u : Track) (step : Step) (lt : c < length f.l
 pub fetch_kept : (stamp c : ℕ) (t : Track) (cycle followed : ℕ) → t.context.status ≡ Running → is_open t.context.flight ≡ true → length t.context.flight < t.renamed + front_room
     → MayFollow (operation_at t.context.state.memory (pc_past t.context.state.pc t.context.flight)) (pc_past t.context.state.pc t.context.flight) followed → KeepsCores stamp c t (fetched_one stamp cycle followed t)
 fetch_kept stamp c t cycle followed running open_ room may = record { kept = λ start reorder f core. fetch_core core cycle followed running open_ room may; loads = refl; stores = refl }
-
--- what is plain has its result, and nothing else changes
-pub plain_flow : (f : Flow) (c : ℕ) (t : Track) (i value : ℕ) (x : Execution) → is_guessed (entry_at t.context i).operation ≡ false → result_in x.outcome ≡ Some value → cut_stamp t.context i x ≡ None → with_lane f c (with_result (lane f c) i value) ≡ completed_flow f c i x t
-plain_flow f c t i value x guessed result kept = rw (guessed, kept, result) refl

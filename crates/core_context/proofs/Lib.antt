@@ -20,6 +20,7 @@ pub mod Issues
 pub mod SourcesSeen
 pub mod StoreQueueReads
 pub mod EventsKept
+pub mod PlainCompletes
 pub mod PlainNext
 pub mod AnyNext
 pub mod Laws

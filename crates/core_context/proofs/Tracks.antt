@@ -178,10 +178,10 @@ below_at stamp xs k x growing is =
 
 -- ---- a completion
 
--- what isn't guessed isn't guessed wrongly
-pub guessed_right : (e : Entry) (o : Outcome) → is_guessed e.operation ≡ false → is_mispredicted_by e o ≡ false
-guessed_right e (Goes step) h = ap (λ b. b && not (e.followed == step.next)) h
-guessed_right e (Stops why) h = refl
+-- what was followed where it goes wasn't guessed wrongly
+pub followed_right : (e : Entry) (o : Outcome) → ((step : Step) → o ≡ Goes step → e.followed ≡ step.next) → is_mispredicted_by e o ≡ false
+followed_right e (Goes step) h = rw (eq-eqb e.followed step.next (h step refl)) (and_none (is_guessed e.operation))
+followed_right e (Stops why) h = refl
 
 -- how many entries are left
 abbrev left_in : List Entry → ℕ → Execution → ℕ
@@ -355,3 +355,12 @@ complete_cut t i k x lt rising some =
     ap (λ (fs : List Entry). record t { context = record t.context { flight = fs }; renamed = min t.renamed (length fs) }) front
     ∙ ap (λ m. record t { context = record t.context { flight = take (left_by t.context i x) (set t.context.flight i (completed_entry (get_or t.context.flight i no_entry) x)) }; renamed = min t.renamed m }) len
     ∙ ap (λ (fs : List Entry). record t { context = record t.context { flight = fs }; renamed = min t.renamed (left_by t.context i x) }) (sym (complete_take t.context.flight i x no_entry lt))
+
+-- and whose entry stays
+pub cut_behind : (t : Track) (i k : ℕ) (x : Execution) → i < length t.context.flight → IsRising (λ (f : Entry). f.stamp) (finished t i x).context.flight → cut_stamp t.context i x ≡ Some k → (get_or (finished t i x).context.flight i no_entry).stamp < k
+cut_behind t i k x lt rising some =
+    let es : List Entry = t.context.flight in
+    let e : Entry = completed_entry (get_or es i no_entry) x in
+    let at = stamp_at (left_by t.context i x) k es some in
+    let later : (get_or (set es i e) (left_by t.context i x) no_entry).stamp ≡ (get_or es (left_by t.context i x) no_entry).stamp = ap (λ (f : Entry). f.stamp) (get_or-set_other es i (left_by t.context i x) e no_entry (λ same. omega (arith, same))) in
+    omega (arith, rising i (left_by t.context i x) no_entry (omega arith) (omega (arith, at.0, length-set es i e)), later, at.1)

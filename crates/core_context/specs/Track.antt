@@ -9,6 +9,7 @@ use Rattle.core_view.specs.declared.outcome.Outcome.TheVariants.{Goes, Stops}
 use Rattle.core_view.specs.declared.entry.Execution.{Execution}
 use Rattle.core_view.specs.declared.entry.Entry.{Entry}
 use Rattle.core_view.specs.declared.status.Status.TheVariants.{Parked}
+use Rattle.flight.specs.Flights.{Flight}
 use Rattle.core_view.specs.Outcomes.{moved}
 use Rattle.core_view.specs.View.{Context, entry_at, first_context}
 use Rattle.core_view.specs.Events.{completed_entry, is_mispredicted, retire_event, stop_event, complete_event, kept_length, issue_event, rename_event, fetch_event, with_flight}
@@ -20,6 +21,10 @@ pub record Track : Type 0 where
   pub capacity : ℕ
   pub load_places : ℕ
   pub store_places : ℕ
+
+-- its flight
+abbrev pub flight_of : Track → Flight
+flight_of t = record { entries = t.context.flight; renamed = t.renamed; capacity = t.capacity }
 
 abbrev pub first_track : ℕ → ℕ → State → ℕ → ℕ → ℕ → Track
 first_track count target s capacity load_places store_places = record { context = first_context count target s; renamed = 0; capacity = capacity; load_places = load_places; store_places = store_places }

@@ -14,7 +14,7 @@ ghost use Rattle.core_context.specs.Issuable.{HasIssued, IsAnswered, IsIssuable,
 ghost use Rattle.core_context.specs.Track.{is_last, retired, parked, stopped, completed, renamed_one};
 ghost use Rattle.core_context.specs.Cores.{operands_of, AllFetched};
 ghost use Rattle.core_context.specs.Heads.{IsGoing, first_done, step_on};
-ghost use Rattle.flight.specs.Flights.{execution_of, is_due, IsIssued, IsNext};
+ghost use Rattle.flight.specs.Flights.{execution_of, is_due, IsIssued};
 ghost use Rattle.core_context.specs.Left.{IsIdleCore, IsEventAt};
 ghost use Rattle.core_context.specs.Renamable.{IsPastFront, IsRenamable};
 ghost use Rattle.core_context.specs.Steps.{retired_flow, settled_flow, completed_flow, cut_by, renamed_flow, IsRemarked, AreTold};
@@ -26,7 +26,6 @@ use core_profile::Profile;
 use core_view::Entry;
 use data_flow::{DataFlow, Operands};
 use data_tags::{Delay, Lag};
-use flight::Finished;
 use hart_step::Stop;
 use join_law::Ctx;
 use std::alloc::Allocator;
@@ -88,25 +87,50 @@ pub fn stop<A: Allocator>(flow: &mut DataFlow<A>, track: &mut Track<A>, context:
     flow.cut_from(context, 0);
 }
 
-/// The oldest entry that is due in a cycle completes, if its hint comes first and it is plain. It squashes nothing.
+/// The entry at a place, which is issued, completes, if it is plain: no store, and fetch went on after it where it goes. It
+/// squashes nothing. Returns whether one more may be due in the same cycle.
 #[inline(always)]
 pub fn complete_plain<A: Allocator>(
     flow: &mut DataFlow<A>,
     track: &mut Track<A>,
     context: Ctx,
+    place: usize,
     cycle: u64,
-) -> Option<Finished>
+) -> Option<bool>
     requires core { IsIdleCore flow.old context track.old }
+    requires place { place < length track.old.context.flight }
+    requires issued { IsIssued (entry_at track.old.context place).stage }
     ensures none { result ≡ None → (flow.new ≡ flow.old) × (track.new ≡ track.old) }
-    ensures next { IfSome result (λ f. IsNext (is_due cycle) track.old.context.flight 0 f.place) }
-    ensures track { IfSome result (λ f. track.new ≡ completed track.old f.place (execution_of (entry_at track.old.context f.place).stage)) }
+    ensures track { IfSome result (λ _. track.new ≡ completed track.old place (execution_of (entry_at track.old.context place).stage)) }
     ensures kept { IfSome result (λ _. length track.new.context.flight ≡ length track.old.context.flight) }
-    ensures more { IfSome result (λ f. f.more ≡ false → (i : ℕ) → is_due cycle (entry_at track.new.context i) ≡ false) }
+    ensures more { IfSome result (λ more. more ≡ false → (i : ℕ) → is_due cycle (entry_at track.new.context i) ≡ false) }
     ensures event { IsEventAt context flow.old flow.new track.old track.new }
 {
-    let finished = track.finish_plain(cycle)?;
-    flow.finish(context, finished.place, finished.value);
-    Some(finished)
+    let finished = track.finish_plain(place, cycle)?;
+    // The oldest open guess is looked for where it is needed.
+    let _guess = track.first_open_guess();
+    flow.finish(context, place, finished.value);
+    settle_freed(flow, track, context, place, finished.frees);
+    Some(finished.more)
+}
+
+/// The same as `settle_speculation`, where told so.
+#[inline(always)]
+fn settle_freed<A: Allocator>(
+    flow: &mut DataFlow<A>,
+    track: &Track<A>,
+    context: Ctx,
+    place: usize,
+    frees: bool,
+)
+    requires renamed { place ≤ track.now.renamed }
+    requires told { (n : ℕ) → n ≤ place → AreTold flow.old context track.now.context.flight n }
+    ensures freed { frees ≡ true → flow.new ≡ settled_flow flow.old context track.now }
+    ensures same { frees ≡ false → flow.new ≡ flow.old }
+{
+    if frees {
+        settle_speculation(flow, track, context, place);
+    }
 }
 
 /// The entry at a place, which is issued, completes, and squashes what it doesn't keep. Returns how many entries are

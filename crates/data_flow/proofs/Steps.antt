@@ -1,5 +1,5 @@
 -- Each call, from the fields before it to the fields after it.
-use Rattle.std.proofs.Common.{◌≡◌, ℕ, ◌+◌, ◌-◌, ◌<◌, ◌≤◌, Bool, true, false, List, [], ◌∷◌, ◌++◌, length, get_or, take, drop, map, slice_get, Option, Some, refl, sym, ap, subst, ◌∙◌, arith}
+use Rattle.std.proofs.Common.{◌≡◌, ℕ, ◌+◌, ◌-◌, ◌<◌, ◌≤◌, Bool, true, false, not, List, [], ◌∷◌, ◌++◌, length, get_or, take, drop, map, slice_get, Option, Some, None, refl, sym, ap, subst, ◌∙◌, arith}
 use Rattle.std.specs.Prelude.{set, sum_by, slice_index, IsSome, All, ◌==◌}
 use Rattle.std.specs.List.{list_any}
 use Rattle.std.proofs.lemmas.Bool.Decides.{nat_tests}
@@ -20,9 +20,9 @@ use Rattle.data_flow.proofs.Ties.{lanes-set, tied-set, get_or-map}
 use Rattle.data_flow.proofs.Cells.{same_all_tied, used_is_cell}
 use Rattle.data_flow.proofs.LaneEvents.{stamp_of, finished, one_lane, finish_lane, set_lane, result_used, result_above, bank_past, commits, committable, IsCommittable, bank_before, undoes, undoable}
 use Rattle.data_flow.proofs.Places.{Here, here_unread}
-use Rattle.data_flow.proofs.Sources.{IsAt}
+use Rattle.data_flow.proofs.Sources.{IsAt, not_true, not_false}
 use Rattle.data_flow.proofs.Waiters.{waiters_awake}
-use Rattle.data_flow.proofs.Waits.{waiting_finish, waiting_set, waiting_drop, waiting_take, waits_named}
+use Rattle.data_flow.proofs.Waits.{all_awake, waiting_finish, waiting_set, waiting_drop, waiting_take, waits_named}
 
 -- what fields show
 abbrev pub shown : File → List (Buffer Renamed) → IssueQueue → Flow
@@ -87,6 +87,21 @@ finish_none d now c k i v found n h at has =
     let same : with_result (lane now c) i v ≡ lane now c = ap (λ (ns : List Node). let l : Lane = record (lane now c) { nodes = ns } in l) nodes in
     let lanes : set now.lanes c (with_result (lane now c) i v) ≡ now.lanes = ap (set now.lanes c) same ∙ set-get_or now.lanes c no_lane in
     ap (λ (ls : List Lane). let f : Flow = record now { lanes = ls } in f) (sym lanes)
+
+-- either way, where it is written and woken as told
+pub finish_told : {A : Type 0} (d : Inside A) (now : Flow) (c k i v : ℕ) (found : Buffer Renamed) (n : Renamed) (r : File) (q : IssueQueue) (p : ℕ) (has : Bool) → flow d ≡ now → IsWiredUp d → Here d now c k found → IsAt found i n
+    → has ≡ not (n.operands.destination == 0) → (has ≡ true → r ≡ with_cell d.registers n.destination (Some v)) → (has ≡ true → p ≡ n.destination) → (has ≡ false → r ≡ d.registers) → (has ≡ false → IsSome (get_or d.registers.cells p None))
+    → q ≡ record d.queue { entries = map (awake p) d.queue.entries } → Leaves r d.renamed.items q (with_lane now c (with_result (lane now c) i v))
+finish_told d now c k i v found n r q p has shows up h at told written there same valued woken = by_told has refl
+  where
+    by_told : (b : Bool) → has ≡ b → Leaves r d.renamed.items q (with_lane now c (with_result (lane now c) i v))
+    by_told true is =
+        finish_leaves d now c k i v found n r q shows up h at (not_true (n.operands.destination == 0) (sym told ∙ is)) (written is)
+        (woken ∙ ap (λ w. let e : IssueQueue = record d.queue { entries = map (awake w) d.queue.entries } in e) (there is))
+    by_told false is =
+        let queue : q ≡ d.queue = woken ∙ ap (λ es. let e : IssueQueue = record d.queue { entries = es } in e) (all_awake d.registers.cells d.renamed.items p d.queue.entries (valued is) up.waiting) in
+        let stays = finish_none d now c k i v found n h at (not_false (n.operands.destination == 0) (sym told ∙ is)) in
+        rw (same is, queue) (record { tied = up.tied; waiting = up.waiting; shows = shows ∙ stays })
 
 -- ---- a committed register
 

@@ -1,6 +1,6 @@
 //! The data flow of eight contexts: registers, renaming, and the queue of what waits for its sources.
 
-ghost use Rattle.std.specs.Prelude.{◌≡◌, ℕ, ◌+◌, ◌-◌, ◌<◌, ◌≤◌, ◌↔◌, [], ◌∷◌, ◌++◌, false, length, map, option_map, All, IfOk, OnErr, IsOk, IsSome, IsTrue, Err, not, is_some, slice_set, count_by, ◌==◌, ◌&&◌};
+ghost use Rattle.std.specs.Prelude.{◌≡◌, ℕ, ◌+◌, ◌-◌, ◌<◌, ◌≤◌, ◌↔◌, [], ◌∷◌, ◌++◌, false, length, map, option_map, slice_get, Some, All, IfOk, OnErr, IsOk, IsSome, IsTrue, Err, not, is_some, slice_set, count_by, ◌==◌, ◌&&◌};
 ghost use Rattle.std.specs.Option.{ForSome};
 ghost use Rattle.circular_buffer.specs.Buffer.{buffer, last_item};
 ghost use Rattle.reorder_buffer.specs.Growing.{IsGrowing};
@@ -168,13 +168,11 @@ impl<A: Allocator> DataFlow<A> {
         ensures { self.new ≡ with_lane self.old context (with_result (lane self.old context) place value) }
     {
         let ring = &self.renamed[context.index()];
-        let renamed = ring.get(place).unwrap();
-        if !renamed.has_destination() {
-            return;
-        }
-        let destination = renamed.destination;
-        self.registers.write(destination, value);
-        self.queue.wake(destination);
+        let renamed = at(ring, place);
+        let (destination, has) = (renamed.destination, renamed.has_destination());
+        // Whether there is a destination is guessed wrongly too often for a jump.
+        let register = self.registers.write_where(destination, value, has);
+        self.queue.wake(register);
     }
 
     /// The oldest instruction of a context is committed.
@@ -365,6 +363,18 @@ fn put_in<A: Allocator>(
         first,
         second,
     });
+}
+
+/// The instruction at a place that is there.
+#[inline(always)]
+fn at<A: Allocator>(ring: &Ring<Renamed, A>, place: usize) -> &Renamed
+    requires { place < length ring.now.items }
+    ensures { slice_get ring.now.items place ≡ Some result.now }
+{
+    let Some(renamed) = ring.get(place) else {
+        unreachable!();
+    };
+    renamed
 }
 
 /// One more instruction, the youngest, in a ring with room.

@@ -1,4 +1,5 @@
 mod Words
 mod Looks
+mod Freed
 mod Kept
 mod Ahead

@@ -50,20 +50,6 @@ due-issued cycle Queued d = absurd cc
 due-issued cycle (Issued x) d = refl
 due-issued cycle (Done x) d = absurd cc
 
--- an entry that is due is a guess where its bit of open guesses is set
-pub unguessed : (cycle : ℕ) (e : Entry) → is_due cycle e ≡ true → is_open_guess e ≡ false → is_guessed e.operation ≡ false
-unguessed cycle e due closed = go e.stage due closed
-  where
-    and-true : (b : Bool) → (b && true) ≡ false → b ≡ false
-    and-true true is = is
-    and-true false is = is
-
-    go : (s : Stage) → is_some (due_at cycle s) ≡ true → (is_guessed e.operation && not (is_done s)) ≡ false → is_guessed e.operation ≡ false
-    go Fetched d is = absurd cc
-    go Queued d is = absurd cc
-    go (Done x) d is = absurd cc
-    go (Issued x) d is = and-true (is_guessed e.operation) is
-
 -- ---- along a loop
 
 -- none before a place, not the one there, and none after it

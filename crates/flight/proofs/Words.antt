@@ -1,5 +1,5 @@
 -- The words of a flight at once, and what they count.
-use Rattle.std.proofs.Common.{◌≡◌, ℕ, zero, suc, ◌+◌, ◌*◌, ◌<◌, ◌≤◌, Bool, true, false, not, cond, List, [], ◌∷◌, ◌++◌, length, take, map, set, get_or, refl, sym, ◌∙◌, ap, arith, nat_eq}
+use Rattle.std.proofs.Common.{◌≡◌, ℕ, zero, suc, ◌+◌, ◌*◌, ◌<◌, ◌≤◌, Bool, true, false, not, cond, List, [], ◌∷◌, ◌++◌, length, take, map, set, get_or, refl, sym, ◌∙◌, ap, arith, nat_eq, inl, inr, ◌⊎◌}
 use Rattle.std.specs.Prelude.{◌||◌, ◌&&◌}
 use Rattle.std.specs.Int.{bit_at}
 use Rattle.std.specs.List.{list_any}
@@ -7,7 +7,8 @@ use Rattle.std.specs.Simd.Lanes.{mask_l}
 use Rattle.std.proofs.lemmas.Bool.Decides.{nat_tests}
 use Rattle.std.proofs.lemmas.List.{map-set, map-append, length-map, take-map, get_or-take, length-take-le}
 use Rattle.std.proofs.Math.Seq.{map-set_same}
-use Rattle.std.proofs.lemmas.Simd.{bit_mask_l}
+use Rattle.std.proofs.lemmas.Simd.{bit_mask_l, mask_l-lt}
+use Rattle.std.proofs.lemmas.Nat.Bits.{bit_at_above}
 use Rattle.core_view.specs.declared.entry.Entry.{Entry}
 use Rattle.core_view.specs.View.{no_entry}
 use Rattle.flight.specs.declared.marks.Marks.{Marks}
@@ -88,3 +89,21 @@ bit-clear p es w r i is within lt clear = clear-bit (p (entry_in es i)) (sym (bi
 
 pub bit-set : (p : Entry → Bool) (es : List Entry) (w r i : ℕ) → w ≡ word_of p (take r es) → r ≤ length es → i < r → bit_at w i ≡ 1 → p (entry_in es i) ≡ true
 bit-set p es w r i is within lt set = set-bit (p (entry_in es i)) (sym (bit-is p es w r i is within lt) ∙ set)
+
+pub bit-one : (p : Entry → Bool) (es : List Entry) (w r i : ℕ) → w ≡ word_of p (take r es) → r ≤ length es → i < r → p (entry_in es i) ≡ true → bit_at w i ≡ 1
+bit-one p es w r i is within lt passes = bit-is p es w r i is within lt ∙ ap (λ b. cond {A = ℕ} b 1 0) passes
+
+pub bit-zero : (p : Entry → Bool) (es : List Entry) (w r i : ℕ) → w ≡ word_of p (take r es) → r ≤ length es → i < r → p (entry_in es i) ≡ false → bit_at w i ≡ 0
+bit-zero p es w r i is within lt fails = bit-is p es w r i is within lt ∙ ap (λ b. cond {A = ℕ} b 1 0) fails
+
+below-or : (a b : ℕ) → (a < b) ⊎ (b ≤ a)
+below-or a b = grind arith
+
+-- a bit that is set is an entry's
+pub bit-within : (p : Entry → Bool) (es : List Entry) (w r i : ℕ) → w ≡ word_of p (take r es) → r ≤ length es → bit_at w i ≡ 1 → i < r
+bit-within p es w r i is within one =
+    let long : length (map p (take r es)) ≡ r = length-map (take r es) p ∙ length-take-le r es within in
+    elim (below-or i r) [
+      | inl lt ↦ lt
+      | inr ge ↦ absurd (no-one (sym (ap (λ n. bit_at n i) is ∙ bit_at_above (mask_l (map p (take r es))) (length (map p (take r es))) i (mask_l-lt (map p (take r es))) (omega (arith, ge, long))) ∙ one))
+    ]

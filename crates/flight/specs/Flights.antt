@@ -4,17 +4,18 @@ use Rattle.std.specs.Int.{bit_at}
 use Rattle.reorder_buffer.specs.Growing.{below}
 use Rattle.core_view.specs.declared.entry.Execution.{Execution}
 use Rattle.hart_step.specs.declared.stop.Stop.TheVariants.{TargetMisaligned}
-use Rattle.core_view.specs.declared.outcome.Outcome.TheVariants.{Stops}
+use Rattle.core_view.specs.declared.outcome.Step.{Step}
+use Rattle.core_view.specs.declared.outcome.Outcome.TheVariants.{Goes, Stops}
 use Rattle.core_view.specs.declared.entry.Stage.{Stage}
 use Rattle.core_view.specs.declared.entry.Stage.TheVariants.{Fetched, Queued, Issued, Done}
 use Rattle.core_view.specs.declared.entry.Entry.{Entry}
 use Rattle.core_view.specs.View.{no_entry}
 use Rattle.core_view.specs.Operations.{is_guessed, is_store}
-use Rattle.core_view.specs.Flight.{result_in}
+use Rattle.core_view.specs.Flight.{result_in, is_open_guess}
 use Rattle.core_view.specs.Events.{with_stage, renamed_stage, completed_entry, due_at}
 use Rattle.flight.specs.declared.finished.Finished.{Finished}
 use Rattle.flight.specs.declared.marks.Marks.{Marks}
-use Rattle.flight.specs.Marked.{marks_of}
+use Rattle.flight.specs.Marked.{marks_of, is_waiting}
 
 -- the entries in flight, oldest first, how many of them are renamed, and how many there may be
 pub record Flight : Type 0 where
@@ -88,13 +89,20 @@ pub record IsNext (test : Entry → Bool) (es : List Entry) (from place : ℕ) :
   pub passes : test (entry_in es place) ≡ true
   pub first : (i : ℕ) → from ≤ i → i < place → test (entry_in es i) ≡ false
 
--- the first entry that is due in a cycle is plain, no guess and no store, and has this result
-pub record IsPlain (cycle : ℕ) (es : List Entry) (f : Finished) : Type 0 where
-  pub next : IsNext (is_due cycle) es 0 f.place
-  pub issued : IsIssued (entry_in es f.place).stage
-  pub guessed : is_guessed (entry_in es f.place).operation ≡ false
-  pub store : is_store (entry_in es f.place).operation ≡ false
-  pub result : result_in (execution_of (entry_in es f.place).stage).outcome ≡ Some f.value
+-- an issued entry is plain: no store, and fetch went on after it where it goes
+pub record IsPlain (e : Entry) (f : Finished) : Type 0 where
+  pub store : is_store e.operation ≡ false
+  pub followed : (step : Step) → (execution_of e.stage).outcome ≡ Goes step → e.followed ≡ step.next
+  pub result : result_in (execution_of e.stage).outcome ≡ Some f.value
+
+-- no entry below a place is guessed and has not completed
+abbrev pub NoneOpenBelow : List Entry → ℕ → Type 0
+NoneOpenBelow es i = (j : ℕ) → j < i → is_open_guess (entry_in es j) ≡ false
+
+-- whether a completion leaves one that waits behind no guessed entry: only a guessed one does
+pub record Frees (old new : Flight) (place : ℕ) (f : Finished) : Type 0 where
+  pub guessed : f.frees ≡ true → is_guessed (entry_in old.entries place).operation ≡ true
+  pub none : f.frees ≡ false → is_guessed (entry_in old.entries place).operation ≡ true → (i : ℕ) → place ≤ i → i < new.renamed → NoneOpenBelow new.entries i → is_waiting (entry_in new.entries i) ≡ false
 
 -- ---- what is true of a flight
 

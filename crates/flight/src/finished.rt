@@ -1,12 +1,12 @@
 //! What completed.
 
-/// An entry that completed.
+/// What an entry that completed gives.
 #[derive(Clone, Copy)]
 pub struct Finished {
-    /// Its place.
-    pub place: usize,
     /// Its result.
     pub value: u64,
+    /// Whether one that waits is behind no open guess any more.
+    pub frees: bool,
     /// Whether one more may be due in the same cycle.
     pub more: bool,
 }

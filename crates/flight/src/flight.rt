@@ -1,6 +1,7 @@
 //! The entries of a context in flight.
 
 ghost use Rattle.std.specs.Prelude.{◌≡◌, ◌≢◌, ℕ, ◌+◌, ◌-◌, ◌<◌, ◌≤◌, ◌%◌, Bool, true, false, [], ◌∷◌, ◌++◌, length, take, drop, slice_get, slice_set, option_copied, None, Some, IfOk, IfSome, IsTrue, MatchOption, All, count_by};
+ghost use Rattle.std.specs.Int.{bit_at};
 ghost use Rattle.std.specs.List.{list_any};
 ghost use Rattle.circular_buffer.specs.Buffer.{buffer, last_item};
 ghost use Rattle.reorder_buffer.specs.Growing.{IsGrowing};
@@ -8,15 +9,17 @@ ghost use Rattle.core_view.specs.declared.entry.Stage.TheVariants.{Fetched, Queu
 ghost use Rattle.core_view.specs.Events.{due_at, with_stage};
 ghost use Rattle.core_view.specs.declared.entry.Entry.{Entry};
 ghost use Rattle.core_view.specs.declared.entry.Execution.{Execution};
+ghost use Rattle.core_view.specs.declared.outcome.Step.{Step};
+ghost use Rattle.core_view.specs.declared.outcome.Outcome.TheVariants.{Goes};
 ghost use Rattle.core_view.specs.Flight.{is_done, is_open_guess, is_missed_load, result_in};
 ghost use Rattle.core_view.specs.Operations.{is_guessed, is_load, is_store, stops_at_fetch};
 ghost use Rattle.flight.specs.Marked.{is_waiting, is_waiting_load, word_of};
-ghost use Rattle.flight.specs.Flights.{entry_in, empty_flight, fetched_one, renamed_one, issued_one, finished_one, retired_one, none_left, cut_at, execution_of, IsIssued, guesses_ahead, is_due, NoneFrom, IsNext, IsPlain};
+ghost use Rattle.flight.specs.Flights.{entry_in, empty_flight, fetched_one, renamed_one, issued_one, finished_one, retired_one, none_left, cut_at, execution_of, IsIssued, guesses_ahead, is_due, NoneFrom, IsNext, IsPlain, NoneOpenBelow, Frees};
 
 use crate::finished::Finished;
 use crate::marks::{Marks, is_waiting};
-use bit_vector::{clear_slot, count, has, next, set_slot, turn};
-use core_view::{Entry, Execution, Stage};
+use bit_vector::{both, clear_slot, count, has_more, lowest, next, set_slot, turn, up_to_first};
+use core_view::{Entry, Execution, Outcome, Stage};
 use reorder_buffer::Ring;
 use std::alloc::{AllocError, Allocator, Global};
 use std::marker::Model;
@@ -228,11 +231,13 @@ impl<A: Allocator> Flight<A> {
         self.base = (self.base + 1) % 64;
     }
 
-    /// The entries from a stamp on leave.
-    pub fn cut_from(&mut self, stamp: u64)
+    /// The entries from a stamp on leave. The one at a place stays.
+    pub fn cut_past(&mut self, place: usize, stamp: u64)
+        requires place { place < length self.old.entries }
+        requires kept { (entry_in self.old.entries place).stamp < stamp }
         ensures { self.new ≡ cut_at self.old stamp }
     {
-        self.ring.cut_from(stamp);
+        self.ring.cut_past(place, stamp);
         self.renamed = self.renamed.min(self.ring.len());
         self.marks.keep(self.renamed);
         self.guessed = guesses_from(&self.ring, self.renamed);
@@ -338,22 +343,47 @@ impl<A: Allocator> Flight<A> {
         self.hints[(cycle % 64) as usize] != 0
     }
 
-    /// The oldest entry that is due in a cycle completes, if its hint comes first and it is plain. Nothing is cut.
+    /// The place of the oldest entry that is due in a cycle, if its hint comes first.
     #[inline(always)]
-    pub fn finish_plain(&mut self, cycle: u64) -> Option<Finished>
+    pub fn first_due(&self, cycle: u64) -> Option<usize>
+        ensures { IfSome result (IsNext (is_due cycle) self.now.entries 0) }
+    {
+        let place = self.first_hint(cycle);
+        if self.is_due(cycle, place) {
+            Some(place)
+        } else {
+            None
+        }
+    }
+
+    /// The entry at a place, which is issued, completes, if it is plain. Nothing is cut.
+    #[inline(always)]
+    pub fn finish_plain(&mut self, place: usize, cycle: u64) -> Option<Finished>
+        requires place { place < length self.old.entries }
+        requires issued { IsIssued (entry_in self.old.entries place).stage }
         ensures none { result ≡ None → self.new ≡ self.old }
-        ensures plain { IfSome result (IsPlain cycle self.old.entries) }
-        ensures done { IfSome result (λ f. self.new ≡ finished_one self.old f.place (execution_of (entry_in self.old.entries f.place).stage)) }
+        ensures plain { IfSome result (IsPlain (entry_in self.old.entries place)) }
+        ensures done { IfSome result (λ _. self.new ≡ finished_one self.old place (execution_of (entry_in self.old.entries place).stage)) }
+        ensures frees { IfSome result (Frees self.old self.new place) }
         ensures more { IfSome result (λ f. f.more ≡ false → (i : ℕ) → is_due cycle (entry_in self.new.entries i) ≡ false) }
     {
-        let place = self.next_hint(cycle, 0);
-        if place >= self.renamed_count() || has(self.marks.open_guesses, place) {
-            return None;
-        }
-        let value = plain_result(at(&self.ring, place), cycle)?;
+        let value = plain_result(at(&self.ring, place))?;
+        let before = self.unguarded();
         self.finish(place);
+        let frees = has_more(self.unguarded(), before);
         let more = self.may_be_due(cycle);
-        Some(Finished { place, value, more })
+        Some(Finished { value, frees, more })
+    }
+
+    /// A word with a bit for each entry that waits behind no guessed one that has not completed.
+    #[inline(always)]
+    fn unguarded(&self) -> u64
+        ensures set { (i : ℕ) → i < self.now.renamed → is_waiting (entry_in self.now.entries i) ≡ true → NoneOpenBelow self.now.entries i → bit_at result i ≡ 1 }
+        ensures within { (i : ℕ) → bit_at result i ≡ 1 → i < self.now.renamed }
+        ensures waits { (i : ℕ) → bit_at result i ≡ 1 → is_waiting (entry_in self.now.entries i) ≡ true }
+        ensures none_open { (i : ℕ) → bit_at result i ≡ 1 → NoneOpenBelow self.now.entries i }
+    {
+        both(self.marks.waiting, up_to_first(self.marks.open_guesses))
     }
 
     /// The first place from one on whose entry is due in a cycle. Bits of what was cut are cleared on the way.
@@ -397,6 +427,15 @@ impl<A: Allocator> Flight<A> {
         next(turn(self.hints[(cycle % 64) as usize], self.base), from)
     }
 
+    /// The first place that may be due in a cycle, or 64.
+    #[inline(always)]
+    fn first_hint(&self, cycle: u64) -> usize
+        ensures within { result ≤ 64 }
+        ensures none { (i : ℕ) → i < result → is_due cycle (entry_in self.now.entries i) ≡ false }
+    {
+        lowest(turn(self.hints[(cycle % 64) as usize], self.base))
+    }
+
     /// Whether the entry at a place is issued and due a number of times 64 cycles from a cycle.
     #[inline]
     fn is_due_in_round(&self, cycle: u64, place: usize) -> bool
@@ -425,7 +464,10 @@ fn at<A: Allocator>(ring: &Ring<Entry, A>, place: usize) -> &Entry
     requires { place < length ring.now.items }
     ensures { result.now ≡ entry_in ring.now.items place }
 {
-    ring.get(place).unwrap()
+    let Some(entry) = ring.get(place) else {
+        unreachable!();
+    };
+    entry
 }
 
 /// An entry as it is renamed, where it doesn't stop at fetch.
@@ -461,20 +503,23 @@ fn set_in<A: Allocator>(ring: &mut Ring<Entry, A>, place: usize, entry: Entry)
     ring.set(place, entry);
 }
 
-/// The result of an entry that is due in a cycle, if it is no store and doesn't stop.
+/// The result of an entry that is issued, if it is no store and fetch went on after it where it goes.
 #[inline(always)]
-fn plain_result(entry: &Entry, cycle: u64) -> Option<u64>
-    ensures due { IfSome result (λ _. is_due cycle entry.now ≡ true) }
+fn plain_result(entry: &Entry) -> Option<u64>
     ensures store { IfSome result (λ _. is_store entry.now.operation ≡ false) }
+    ensures followed { IfSome result (λ _. (step : Step) → (execution_of entry.now.stage).outcome ≡ Goes step → entry.now.followed ≡ step.next) }
     ensures result { IfSome result (λ value. result_in (execution_of entry.now.stage).outcome ≡ Some value) }
 {
     let Stage::Issued { execution } = &entry.stage else {
         return None;
     };
-    if execution.due != cycle || entry.operation.is_store() {
+    let Outcome::Goes { step } = &execution.outcome else {
+        return None;
+    };
+    if entry.operation.is_store() || entry.followed != step.next {
         return None;
     }
-    execution.outcome.result()
+    Some(step.result)
 }
 
 /// How many entries from a place on are guessed.

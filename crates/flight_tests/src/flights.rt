@@ -21,6 +21,7 @@ fn a_load_waits_and_is_cut(rt: HostRuntime) -> Result<(), Fail> {
     let operation = load();
     let guessed = operation.is_guessed();
     flight.push(Entry::new(7, 1, 0x1000, operation, 0x1004), guessed);
+    flight.push(Entry::new(9, 1, 0x1004, operation, 0x1008), guessed);
     flight.rename(5);
     assert_eq!(rt; flight.next_waiting_load(0), Some(0));
     assert_eq!(rt; flight.known_waiting(7), Some(0));
@@ -30,8 +31,8 @@ fn a_load_waits_and_is_cut(rt: HostRuntime) -> Result<(), Fail> {
     assert!(rt; !entry.stage.is_done());
     assert!(rt; !flight.may_be_due(70));
     assert_eq!(rt; flight.next_due(70, 0), None);
-    assert!(rt; flight.finish_plain(70).is_none());
-    flight.cut_from(7);
-    assert_eq!(rt; flight.len(), 0);
+    assert_eq!(rt; flight.first_due(70), None);
+    flight.cut_past(0, 9);
+    assert_eq!(rt; flight.len(), 1);
     Ok(())
 }

@@ -1,6 +1,6 @@
 //! The physical registers of all contexts.
 
-ghost use Rattle.std.specs.Prelude.{◌≡◌, ◌↔◌, ◌+◌, ◌<◌, ◌≤◌, length, slice_get, slice_index, IfOk, OnOk, OnErr, IsOk, IsSome, IsTrue, Ok, Err, Some};
+ghost use Rattle.std.specs.Prelude.{true, false, ◌≡◌, ◌↔◌, ◌+◌, ◌<◌, ◌≤◌, length, slice_get, slice_index, IfOk, OnOk, OnErr, IsOk, IsSome, IsTrue, Ok, Err, Some};
 ghost use Rattle.rename_file.specs.File.{IsFile, bank, cell, mapped, rename_count, with_cell, renamed, committed_one, undone, first};
 ghost use Rattle.rename_file.specs.Fresh.{IsFresh};
 ghost use Rattle.rename_file.specs.Newest.{IsNewest};
@@ -125,6 +125,27 @@ impl<A: Allocator> Registers<A> {
         self.cells[place] = Some(value);
     }
 
+    /// Gives a register its value, where told so. Returns it, or else a register that has its value: an x0.
+    // It takes no jump, which would be guessed wrongly too often.
+    #[inline(always)]
+    pub fn write_where(
+        &mut self,
+        register: PhysicalRegister,
+        value: u64,
+        told: bool,
+    ) -> PhysicalRegister
+        requires { told ≡ true → (8 ≤ register) × (register < length self.old.cells) }
+        ensures written { told ≡ true → self.new ≡ with_cell self.old register (Some value) }
+        ensures there { told ≡ true → result ≡ register }
+        ensures same { told ≡ false → self.new ≡ self.old }
+        ensures valued { told ≡ false → IsSome (cell self.old result) }
+        ensures file { IsFile self.new }
+    {
+        let target = register_where(register, told);
+        self.cells[target.index()] = Some(value_where(value, told));
+        target
+    }
+
     /// Renames one of x1 to x31 to a register that was free, which has no value yet.
     pub fn rename(&mut self, context: Ctx, rd: u8) -> Result<PhysicalRegister, RenameFault>
         requires { (0 < rd) × (rd < 32) }
@@ -171,4 +192,26 @@ impl<A: Allocator> Registers<A> {
         let freed = map.undo();
         let _ = self.free.try_push_back(freed);
     }
+}
+
+/// A register, where told so, else the x0 of context 0.
+#[inline(always)]
+fn register_where(register: PhysicalRegister, told: bool) -> PhysicalRegister
+    ensures register { told ≡ true → result ≡ register }
+    ensures zero { told ≡ false → result ≡ 0 }
+{
+    if told {
+        register
+    } else {
+        PhysicalRegister::at(0)
+    }
+}
+
+/// A value, where told so, else 0.
+#[inline(always)]
+fn value_where(value: u64, told: bool) -> u64
+    ensures value { told ≡ true → result ≡ value }
+    ensures zero { told ≡ false → result ≡ 0 }
+{
+    if told { value } else { 0 }
 }

@@ -96,3 +96,29 @@ pub growing_front : {X : Type 0} (stamp : X → ℕ) (xs : List X) (k : ℕ) →
 growing_front stamp xs k growing i j d lt in_range =
     let within : j < k = omega (arith, in_range, length-take k xs) in
     omega (arith, ap stamp (get_or-take k xs i d (omega (arith, lt, within))), ap stamp (get_or-take k xs j d within), growing i j d lt (omega (arith, in_range, length-take k xs)))
+
+-- what stands up to an entry that is below n
+pub below_up_to : {X : Type 0} (stamp : X → ℕ) (n p : ℕ) (xs : List X) → IsGrowing stamp xs → p < length xs → ForSome (slice_get xs p) (λ e. stamp e < n) → (i : ℕ) (d : X) → i < p + 1 → stamp (get_or xs i d) < n
+below_up_to stamp n p xs growing within here i d lt =
+    let last : stamp (get_or xs p d) < n = here (get_or xs p d) (slice_get-get_or xs p d within) in
+    elim (cases_eq i p) [
+      | inl same ↦ omega (arith, last, ap (λ j. stamp (get_or xs j d)) same)
+      | inr differ ↦ omega (arith, last, growing i p d (omega (arith, differ, lt)) within)
+    ]
+
+-- and one more
+pub below_more : {X : Type 0} (stamp : X → ℕ) (n k : ℕ) (xs : List X) (x : X) → slice_get xs k ≡ Some x → stamp x < n → ((i : ℕ) (d : X) → i < k → stamp (get_or xs i d) < n) → (i : ℕ) (d : X) → i < k + 1 → stamp (get_or xs i d) < n
+below_more stamp n k xs x read here before i d lt =
+    elim (cases_eq i k) [
+      | inl same ↦ omega (arith, here, ap stamp (get_or_from_slice_get xs k x d read), ap (λ j. stamp (get_or xs j d)) same)
+      | inr differ ↦ before i d (omega (arith, differ, lt))
+    ]
+
+-- from one that is at least n on, all are
+pub past_from : {X : Type 0} (stamp : X → ℕ) (n k : ℕ) (xs : List X) (x : X) → IsGrowing stamp xs → slice_get xs k ≡ Some x → n ≤ stamp x → (i : ℕ) (d : X) → k ≤ i → i < length xs → n ≤ stamp (get_or xs i d)
+past_from stamp n k xs x growing read here i d le lt =
+    let at : stamp (get_or xs k d) ≡ stamp x = ap stamp (get_or_from_slice_get xs k x d read) in
+    elim (cases_eq i k) [
+      | inl same ↦ omega (arith, at, here, ap (λ j. stamp (get_or xs j d)) same)
+      | inr differ ↦ omega (arith, at, here, growing k i d (omega (arith, differ, le)) lt)
+    ]

@@ -120,7 +120,9 @@ impl<E: Stamped, A: Allocator> Ring<E, A> {
         ensures set { self.new ≡ buffer (slice_set self.old.items place entry) self.old.capacity }
         ensures growing { IsGrowing E.stamp_of self.new.items }
     {
-        let found = self.buffer.get_mut(place).unwrap();
+        let Some(found) = self.buffer.get_mut(place) else {
+            unreachable!();
+        };
         *found = entry;
     }
 
@@ -152,6 +154,18 @@ impl<E: Stamped, A: Allocator> Ring<E, A> {
         self.buffer.truncate_back(keep);
     }
 
+    /// The same, where the entry at a place is kept. No older one is looked at.
+    pub fn cut_past(&mut self, place: usize, stamp: u64)
+        requires place { place < length self.old.items }
+        requires kept { ForSome (slice_get self.old.items place) (λ e. E.stamp_of e < stamp) }
+        ensures below { self.new ≡ buffer (below E.stamp_of stamp self.old.items) self.old.capacity }
+        ensures front { self.new.items ≡ take (length self.new.items) self.old.items }
+        ensures growing { IsGrowing E.stamp_of self.new.items }
+    {
+        let kept = self.count_past(place, stamp);
+        self.buffer.truncate_back(kept);
+    }
+
     // How many entries have a stamp below this one, counted from the end.
     fn count_below(&self, stamp: u64) -> usize
         ensures within { result ≤ length self.now.items }
@@ -164,6 +178,25 @@ impl<E: Stamped, A: Allocator> Ring<E, A> {
                 return keep;
             }
             keep -= 1;
+        }
+        keep
+    }
+
+    // The same, counted from a place on whose entry has a stamp below this one.
+    fn count_past(&self, place: usize, stamp: u64) -> usize
+        requires place { place < length self.now.items }
+        requires kept { ForSome (slice_get self.now.items place) (λ e. E.stamp_of e < stamp) }
+        ensures within { result ≤ length self.now.items }
+        ensures below { take result self.now.items ≡ below E.stamp_of stamp self.now.items }
+    {
+        let len = self.buffer.len();
+        let mut keep = place + 1;
+        while keep < len {
+            let entry = self.buffer.get(keep).unwrap();
+            if entry.stamp() >= stamp {
+                return keep;
+            }
+            keep += 1;
         }
         keep
     }

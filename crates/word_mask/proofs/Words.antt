@@ -241,3 +241,20 @@ has_without v w p fits also = has_both v (bit_not w64 w) p ∙ elim (cases_lt p 
   | inl lt ↦ ap (λ b. has v p && b) (has_lacked w p also lt)
   | inr above ↦ rw (has_none_above v p fits above) refl
 ]
+
+-- the word without a bit, where told so
+pub without_bit_where : (w k p b : ℕ) (flag : Bool) → w < 2 ^ 64 → k < 64 → b ≡ cond flag 1 0 → has (bit_and w (bit_not w64 (b * 2 ^ k % 2 ^ 64))) p ≡ cond (eqb p k && flag) false (has w p)
+without_bit_where w k p b true fits lt is = rw is (without_bit w k p fits lt ∙ ap (λ t. cond t false (has w p)) (and_true (eqb p k)))
+  where
+    and_true : (t : Bool) → t ≡ (t && true)
+    and_true true = refl
+    and_true false = refl
+without_bit_where w k p b false fits lt is = rw is (let none : 0 * 2 ^ k % 2 ^ 64 ≡ 0 = omega arith in ap (λ v. has (bit_and w (bit_not w64 v)) p) none ∙ has_without w 0 p fits (omega arith) ∙ ap (λ t. has w p && not t) (false-has 0 p (bit_at-zero p)) ∙ kept (has w p) ∙ ap (λ t. cond t false (has w p)) (and_false (eqb p k)))
+  where
+    kept : (t : Bool) → (t && true) ≡ t
+    kept true = refl
+    kept false = refl
+
+    and_false : (t : Bool) → false ≡ (t && false)
+    and_false true = refl
+    and_false false = refl

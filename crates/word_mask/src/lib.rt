@@ -3,4 +3,4 @@
 
 mod mask;
 
-pub use mask::{added, assigned, both, cleared, has, lowest, lowest_clear, without};
+pub use mask::{added, assigned, both, cleared, has, lowest, lowest_clear, removed, without};

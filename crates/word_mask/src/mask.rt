@@ -28,6 +28,15 @@ pub fn added(word: u64, place: usize, flag: bool) -> u64
     word | (u64::from(flag) << place as u32)
 }
 
+/// The word, without the bit of a place where told so. It takes no jump.
+#[inline(always)]
+pub fn removed(word: u64, place: usize, flag: bool) -> u64
+    requires { place < 64 }
+    ensures { (p : ℕ) → has result p ≡ (if (p == place) && flag then false else has word p) }
+{
+    word & !(u64::from(flag) << place as u32)
+}
+
 /// The word without a bit that it has.
 pub fn cleared(word: u64, place: usize) -> u64
     requires bound { place < 64 }

@@ -1,10 +1,10 @@
-use Rattle.std.proofs.Common.{◌≡◌, ℕ, sym, ap, subst, ◌∙◌, arith}
-use Rattle.std.specs.Prelude.{◌==◌, if◌then◌else◌}
+use Rattle.std.proofs.Common.{◌≡◌, ℕ, false, sym, ap, subst, ◌∙◌, arith}
+use Rattle.std.specs.Prelude.{◌==◌, not, ◌&&◌, if◌then◌else◌}
 use Rattle.word_mask.specs.Mask.{has}
 use Rattle.core_back.specs.Machine.{with_contexts, completed_context}
 use Rattle.core_back.proofs.ContextByContext.{mapped_all, mapped_alike}
 use Rattle.core_back.proofs.CompletedCount.{complete_lawful}
-use Rattle.core_back.proofs.CompletedTurns.{turned_first, turned_next, turned_cut, turned_all, turned_number, less_left, none_left, has_none, total_most, in_flight_most}
+use Rattle.core_back.proofs.CompletedTurns.{word_told, turned_first, turned_next, turned_cut, turned_all, turned_number, less_left, none_left, has_none, total_most, in_flight_most}
 use Rattle.core_back.proofs.completing.complete.Goals as goal
 
 pub loop-left-init : goal.loop-left-init
@@ -25,14 +25,16 @@ overflow_add-cut g c =
 
 pub loop-left-smaller : goal.loop-left-smaller
 loop-left-smaller g c =
-    let word = subst (λ i. (p : ℕ) → has c.assigned-left.result p ≡ (if p == i then c.complete_next-turn.result.more else has c.loop-left.left p)) c.index.ensures.value c.assigned-left.ensures in
-    less_left c.args.machine.now c.loop-left.machine c.complete_next-turn.new.machine c.loop-left.left c.assigned-left.result c.first_context-context.result c.loop-left.completed c.loop-left.cut c.complete_next-turn.result.completed c.complete_next-turn.result.cut c.complete_next-turn.result.more
+    let word = word_told c.loop-left.left c.removed-left.result c.first_context-context.result c.complete_next-turn.result.more c.first_context-context.ensures
+    (subst (λ i. (p : ℕ) → has c.removed-left.result p ≡ (if (p == i) && not c.complete_next-turn.result.more then false else has c.loop-left.left p)) c.index.ensures.value c.removed-left.ensures) in
+    less_left c.args.machine.now c.loop-left.machine c.complete_next-turn.new.machine c.loop-left.left c.removed-left.result c.first_context-context.result c.loop-left.completed c.loop-left.cut c.complete_next-turn.result.completed c.complete_next-turn.result.cut c.complete_next-turn.result.more
     c.loop-left.invariant c.complete_next-turn.ensures.turn c.first_context-context.ensures word c.complete_next-turn.ensures.more
 
 pub loop-left-preserved : goal.loop-left-preserved
 loop-left-preserved g c =
-    let word = subst (λ i. (p : ℕ) → has c.assigned-left.result p ≡ (if p == i then c.complete_next-turn.result.more else has c.loop-left.left p)) c.index.ensures.value c.assigned-left.ensures in
-    turned_next c.args.machine.now c.loop-left.machine c.complete_next-turn.new.machine c.loop-left.left c.assigned-left.result c.first_context-context.result c.loop-left.completed c.loop-left.cut c.complete_next-turn.result.completed c.complete_next-turn.result.cut c.complete_next-turn.result.more
+    let word = word_told c.loop-left.left c.removed-left.result c.first_context-context.result c.complete_next-turn.result.more c.first_context-context.ensures
+    (subst (λ i. (p : ℕ) → has c.removed-left.result p ≡ (if (p == i) && not c.complete_next-turn.result.more then false else has c.loop-left.left p)) c.index.ensures.value c.removed-left.ensures) in
+    turned_next c.args.machine.now c.loop-left.machine c.complete_next-turn.new.machine c.loop-left.left c.removed-left.result c.first_context-context.result c.loop-left.completed c.loop-left.cut c.complete_next-turn.result.completed c.complete_next-turn.result.cut c.complete_next-turn.result.more
     c.loop-left.invariant c.complete_next-turn.ensures.turn c.first_context-context.ensures word
     (λ none. none_left c.loop-left.machine c.complete_next-turn.new.machine c.first_context-context.result c.complete_next-turn.result.completed c.complete_next-turn.result.cut c.complete_next-turn.ensures.turn (c.complete_next-turn.ensures.none none))
 

@@ -1,18 +1,17 @@
 use Rattle.std.proofs.Common.{length, refl, ap, subst, ◌∙◌, arith}
-use Rattle.std.specs.Prelude.{IfSome}
 use Rattle.core_view.specs.View.{Context, entry_at}
 use Rattle.core_view.specs.Events.{complete_event}
-use Rattle.flight.specs.Flights.{execution_of, is_due, IsNext, NoneFrom}
+use Rattle.flight.specs.Flights.{execution_of, is_due, NoneFrom}
 use Rattle.core_context.specs.Track.{Track}
 use Rattle.core_back.specs.Machine.{Machine, context_at}
 use Rattle.core_back.proofs.Machines.{at_context, is_idle, machine_after_event, shown_after, shown_same, shown_there, shown_length}
 use Rattle.core_back.proofs.Options.{some_of}
 use Rattle.core_back.proofs.machine.Machine.complete_plain.Goals as goal
 
-pub complete_plain-requires : goal.complete_plain-requires
-complete_plain-requires g c =
+pub complete_plain-requires-clause-core : goal.complete_plain-requires-clause-core
+complete_plain-requires-clause-core g c =
     let h = at_context c.self.inside c.args.self.now c.args.context c.index.result c.index_mut-track.result.now c.self.view_is c.self.invariant (omega (arith, c.index.ensures)) c.index.ensures.value c.index_mut-track.ensures.value in
-    record { core = is_idle c.self.inside c.args.self.now c.args.context c.index_mut-track.result.now c.self.view_is c.requires.idle (omega (arith, c.index.ensures)) h }
+    is_idle c.self.inside c.args.self.now c.args.context c.index_mut-track.result.now c.self.view_is c.requires.idle (omega (arith, c.index.ensures)) h
 
 pub invariant_of-self : goal.invariant_of-self
 invariant_of-self g c =
@@ -25,17 +24,11 @@ returns-clause-none g c none =
     let h = at_context c.self.inside c.args.self.now c.args.context c.index.result c.index_mut-track.result.now c.self.view_is c.self.invariant (omega (arith, c.index.ensures)) c.index.ensures.value c.index_mut-track.ensures.value in
     shown_same c.self.inside c.args.self.now c.args.context c.index.result c.complete_plain.new.track c.self.view_is c.index.ensures.value (ap (λ (u : Track). u.context) (c.complete_plain.ensures.none none).1 ∙ h.context)
 
-pub returns-clause-next : goal.returns-clause-next
-returns-clause-next g c =
-    let h = at_context c.self.inside c.args.self.now c.args.context c.index.result c.index_mut-track.result.now c.self.view_is c.self.invariant (omega (arith, c.index.ensures)) c.index.ensures.value c.index_mut-track.ensures.value in
-    subst (λ k. IfSome c.complete_plain.result (λ f. IsNext (is_due k) (context_at c.args.self.now c.args.context).flight 0 f.place)) (ap (λ (v : Machine). v.view.cycle) c.self.view_is)
-    (subst (λ (x : Context). IfSome c.complete_plain.result (λ f. IsNext (is_due c.self.inside.cycle) x.flight 0 f.place)) h.context c.complete_plain.ensures.next)
-
 pub returns-clause-completed : goal.returns-clause-completed
 returns-clause-completed g c =
     let h = at_context c.self.inside c.args.self.now c.args.context c.index.result c.index_mut-track.result.now c.self.view_is c.self.invariant (omega (arith, c.index.ensures)) c.index.ensures.value c.index_mut-track.ensures.value in
     some_of c.complete_plain.result c.complete_plain.ensures.track (λ f is. shown_after c.self.inside c.args.self.now c.args.context c.index.result c.complete_plain.new.track _ c.self.view_is c.index.ensures.value
-    (ap (λ (t : Track). t.context) is ∙ ap (λ (x : Context). complete_event x f.place (execution_of (entry_at x f.place).stage)) h.context))
+    (ap (λ (t : Track). t.context) is ∙ ap (λ (x : Context). complete_event x c.args.place (execution_of (entry_at x c.args.place).stage)) h.context))
 
 pub returns-clause-kept : goal.returns-clause-kept
 returns-clause-kept g c =

@@ -1,41 +1,44 @@
-use Rattle.std.proofs.Common.{◌≡◌, List, Some, slice_get, get_or, ap, sym, subst, ◌∙◌}
+use Rattle.std.proofs.Common.{◌≡◌, ◌<◌, List, Some, slice_get, get_or, length, ap, sym, subst, ◌∙◌}
 use Rattle.std.proofs.lemmas.Option.{slice_get-get_or}
-use Rattle.flight.specs.Flights.{Flight, execution_of}
+use Rattle.flight.specs.Flights.{Flight, execution_of, IsIssued}
 use Rattle.core_view.specs.declared.entry.Entry.{Entry}
+use Rattle.core_view.specs.declared.entry.Stage.TheVariants.{Issued}
 use Rattle.core_view.specs.Outcomes.{image_of}
 use Rattle.core_view.specs.Flight.{seen_of, IsSound}
 use Rattle.core_view.specs.View.{no_entry, entry_at}
 use Rattle.core_context.specs.Track.{Track, cut_stamp}
 use Rattle.core_context.proofs.QueueSlots.{other_holds}
-use Rattle.core_context.proofs.Tracks.{cut_kept, guessed_right, writes_none}
+use Rattle.core_context.proofs.Tracks.{cut_kept, followed_right, writes_none}
 use Rattle.core_context.proofs.track.Track.finish_plain.Goals as goal
 
--- ---- none was plain
+-- ---- it wasn't plain
 
 pub invariant_of-self : goal.invariant_of-self
 invariant_of-self g c = rw (c.finish_plain.ensures.none c.in_err-finished.was) c.self.invariant
 
--- ---- one was
+-- ---- it was
 
 pub invariant_of-self-2 : goal.invariant_of-self-2
 invariant_of-self-2 g c =
     let es = c.self.inside.flight.entries in
-    let i = c.in_ok-finished.finished.place in
-    let plain = c.in_ok-finished.ensures.plain in
+    let i = c.args.place in
     let e = get_or es i no_entry in
     let x = execution_of e.stage in
-    let read : slice_get es i ≡ Some e = slice_get-get_or es i no_entry plain.next.within in
-    let held = other_holds es i e read x c.finish_plain.new.self.entries plain.issued (ap (λ (f : Flight). f.entries) c.in_ok-finished.ensures.done) c.self.inside.queue plain.store c.self.invariant.1 c.self.invariant.2 in
+    let within : i < length es = rw (← c.self.view_is) at c.requires.place in
+    let issued : e.stage ≡ Issued x = rw (← c.self.view_is) at c.requires.issued in
+    let read : slice_get es i ≡ Some e = slice_get-get_or es i no_entry within in
+    let held = other_holds es i e read x c.finish_plain.new.self.entries issued (ap (λ (f : Flight). f.entries) c.in_ok-finished.ensures.done) c.self.inside.queue c.in_ok-finished.ensures.plain.store c.self.invariant.1 c.self.invariant.2 in
     (c.self.invariant.0, held.loads, held.stores)
 
 pub returns-clause-kept : goal.returns-clause-kept
 returns-clause-kept g c =
     let es = c.self.inside.flight.entries in
-    let i = c.in_ok-finished.finished.place in
-    let plain = c.in_ok-finished.ensures.plain in
+    let i = c.args.place in
     let e = get_or es i no_entry in
     let x = execution_of e.stage in
-    let read : slice_get es i ≡ Some e = slice_get-get_or es i no_entry plain.next.within in
+    let within : i < length es = rw (← c.self.view_is) at c.requires.place in
+    let issued : e.stage ≡ Issued x = rw (← c.self.view_is) at c.requires.issued in
+    let read : slice_get es i ≡ Some e = slice_get-get_or es i no_entry within in
     let sound = subst (λ (fs : List Entry). IsSound (image_of c.args.self.now.context.state) (seen_of c.args.self.now.context.state) c.args.self.now.context.state.pc fs) (sym (ap (λ (t : Track). t.context.flight) c.self.view_is)) c.requires.sound in
-    let none = writes_none es i e x read (image_of c.args.self.now.context.state) (seen_of c.args.self.now.context.state) c.args.self.now.context.state.pc plain.issued sound plain.store in
-    sym (cut_kept es i e x read (guessed_right e x.outcome plain.guessed) none ∙ ap (λ (t : Track). cut_stamp t.context i (execution_of (entry_at t.context i).stage)) c.self.view_is)
+    let none = writes_none es i e x read (image_of c.args.self.now.context.state) (seen_of c.args.self.now.context.state) c.args.self.now.context.state.pc issued sound c.in_ok-finished.ensures.plain.store in
+    sym (cut_kept es i e x read (followed_right e x.outcome c.in_ok-finished.ensures.plain.followed) none ∙ ap (λ (t : Track). cut_stamp t.context i (execution_of (entry_at t.context i).stage)) c.self.view_is)

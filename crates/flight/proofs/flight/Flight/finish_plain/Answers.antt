@@ -1,29 +1,23 @@
-use Rattle.std.proofs.Common.{◌≡◌, ◌<◌, ◌≤◌, ℕ, true, false, arith, ap, sym, subst, ◌∙◌}
-use Rattle.flight.specs.declared.marks.Marks.{Marks}
+use Rattle.std.proofs.Common.{◌≡◌, true, ap, sym, subst, ◌∙◌}
 use Rattle.core_view.specs.declared.entry.Entry.{Entry}
-use Rattle.core_view.specs.Flight.{is_open_guess, result_in}
+use Rattle.core_view.specs.declared.outcome.Step.{Step}
+use Rattle.core_view.specs.declared.outcome.Outcome.TheVariants.{Goes}
+use Rattle.core_view.specs.Flight.{result_in}
 use Rattle.core_view.specs.Operations.{is_store}
-use Rattle.flight.specs.Flights.{Flight, entry_in, execution_of, is_due, IsPlain}
-use Rattle.flight.proofs.Words.{bit-clear}
-use Rattle.flight.proofs.Looks.{due-issued, unguessed}
+use Rattle.flight.specs.Flights.{Flight, entry_in, execution_of}
+use Rattle.flight.proofs.Freed.{freed}
 use Rattle.flight.proofs.flight.Flight.finish_plain.Goals as goal
 
 pub returns-clause-plain : goal.returns-clause-plain
 returns-clause-plain g c =
-    let place = c.next_hint-place.result in
-    let es = c.self.inside.ring.items in
-    let renamed : place < c.self.inside.renamed = omega (arith, c.if-place-renamed_count.false, c.renamed_count.ensures.value, ap (λ (f : Flight). f.renamed) c.self.view_is) in
-    let due : is_due c.args.cycle (entry_in es place) ≡ true = ap (is_due c.args.cycle) (sym c.at.ensures) ∙ c.in_ok-value.ensures.due in
-    let closed = bit-clear is_open_guess es c.self.inside.marks.open_guesses c.self.inside.renamed place (ap (λ (m : Marks). m.open_guesses) c.self.invariant.1.marked) c.self.invariant.1.within renamed (c.has.ensures.clear c.if-has.false) in
-    subst (λ (f : Flight). IsPlain c.args.cycle f.entries (record { place = place; value = c.in_ok-value.value; more = c.may_be_due-more.result })) c.self.view_is (record {
-      next = record {
-        after = omega arith;
-        within = omega (arith, renamed, c.self.invariant.1.within);
-        passes = due;
-        first = subst (λ (f : Flight). (i : ℕ) → 0 ≤ i → i < place → is_due c.args.cycle (entry_in f.entries i) ≡ false) (sym c.self.view_is) c.next_hint-place.ensures.none;
-      };
-      issued = due-issued c.args.cycle (entry_in es place).stage due;
-      guessed = unguessed c.args.cycle (entry_in es place) due closed;
-      store = ap (λ (e : Entry). is_store e.operation) (sym c.at.ensures) ∙ c.in_ok-value.ensures.store;
-      result = ap (λ (e : Entry). result_in (execution_of e.stage).outcome) (sym c.at.ensures) ∙ c.in_ok-value.ensures.result;
-    })
+    let at : c.at.result.now ≡ entry_in c.args.self.now.entries c.args.place = c.at.ensures ∙ ap (λ (f : Flight). entry_in f.entries c.args.place) c.self.view_is in
+    record {
+      store = ap (λ (e : Entry). is_store e.operation) (sym at) ∙ c.in_ok-value.ensures.store;
+      followed = subst (λ (e : Entry). (step : Step) → (execution_of e.stage).outcome ≡ Goes step → e.followed ≡ step.next) at c.in_ok-value.ensures.followed;
+      result = ap (λ (e : Entry). result_in (execution_of e.stage).outcome) (sym at) ∙ c.in_ok-value.ensures.result;
+    }
+
+pub returns-clause-frees : goal.returns-clause-frees
+returns-clause-frees g c =
+    freed c.args.self.now c.finish.new.self c.args.place (execution_of (entry_in c.args.self.now.entries c.args.place).stage) c.requires.place c.requires.issued c.finish.ensures _ c.unguarded.result c.unguarded-before.result
+    c.unguarded.ensures.set c.unguarded.ensures.within c.unguarded.ensures.waits c.unguarded.ensures.none_open c.unguarded-before.ensures.set c.unguarded-before.ensures.none_open c.has_more-frees.ensures.none c.has_more-frees.ensures.all
