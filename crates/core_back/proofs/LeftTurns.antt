@@ -1,7 +1,7 @@
 -- The word of the turns that are left, and its first turn.
-use Rattle.std.proofs.Common.{◌≡◌, ◌≢◌, ℕ, ◌+◌, ◌<◌, ◌≤◌, Bool, true, false, not, Option, Some, None, refl, sym, ap, ◌∙◌, arith, inl, inr, ◌⊎◌}
+use Rattle.std.proofs.Common.{◌≡◌, ◌≢◌, ℕ, ◌+◌, ◌<◌, ◌≤◌, Bool, true, false, not, None, refl, sym, ap, ◌∙◌, arith, inl, inr, ◌⊎◌}
 use mir.Val.{bool_byte}
-use Rattle.std.specs.Prelude.{is_some, IsSome}
+use Rattle.std.specs.Prelude.{IsSome}
 use Rattle.std.specs.Int.{bit_at}
 use Rattle.fetch_policy.specs.Lawful.{turn}
 use Rattle.core_context.specs.Heads.{first_done}

@@ -15,7 +15,7 @@ use core_view::{Access, Entry, Operation, Outcome, Stage, Step};
 use hart_step::{Environment, Stop};
 use join_law::Ctx;
 use load_store_queue::LoadStoreQueue;
-use rv64_decode::Register;
+use rv64_decode::{Insn, Register};
 use std::alloc::Allocator;
 
 /// The step of an entry that is done with one.
@@ -92,10 +92,14 @@ pub(crate) fn retire_access<A: Allocator>(
 pub(crate) fn learn<G: Guess>(guess: &mut G, context: Ctx, entry: &Entry, next: u64)
     ensures { G.may_answer guess.new ≡ G.may_answer guess.old }
 {
-    if !entry.operation.may_turn() {
+    let Operation::Performs { insn } = entry.operation.operation() else {
         return;
-    }
-    if let Operation::Performs { insn } = entry.operation.operation() {
+    };
+    if entry.operation.is_guessed() {
         guess.learn(context, entry.pc, insn, next);
+    } else if let Insn::Jal { rd, offset } = *insn {
+        // A JAL is passed as one: a guess that learns nothing of it then has nothing to do here, and needs no test.
+        let jump = Insn::Jal { rd, offset };
+        guess.learn(context, entry.pc, &jump, next);
     }
 }

@@ -1,9 +1,6 @@
-use Rattle.std.proofs.Common.{◌≡◌, ◌+◌, ◌-◌, ◌*◌, ◌<◌, ◌≤◌, [], ℕ, None}
-use Rattle.std.specs.Int.{bit_at}
+use Rattle.std.proofs.Common.{◌≡◌, ◌+◌, ◌-◌, ◌*◌, ◌≤◌, []}
 use Rattle.arrayvec.specs.ArrayVec.{array_vec_len}
-use Rattle.fetch_policy.specs.Lawful.{turn as turn_of}
-use Rattle.core_context.specs.Heads.{first_done}
-use Rattle.core_back.specs.Machine.{IsAlike, in_flight, context_at}
+use Rattle.core_back.specs.Machine.{IsAlike, in_flight}
 use Rattle.core_back.proofs.RetireTurns.{AllLive}
 use Rattle.core_back.proofs.RetireSteps.{AtTurn}
 use Rattle.core_back.proofs.LeftTurns.{AreLeft}

@@ -1,13 +1,11 @@
-use Rattle.std.proofs.Common.{◌≡◌, ℕ, ◌+◌, ◌-◌, arith, ap, sym, ◌∙◌, refl, Some}
+use Rattle.std.proofs.Common.{◌≡◌, ℕ, ◌+◌, ◌-◌, arith, ap, sym, ◌∙◌, refl}
 use Rattle.core_view.specs.declared.note.EntryId.{EntryId}
 use Rattle.core_view.specs.declared.outcome.Step.{Step}
-use Rattle.core_view.specs.declared.outcome.Outcome.{Outcome}
-use Rattle.core_view.specs.declared.outcome.Outcome.TheVariants.{Goes}
 use Rattle.core_view.specs.Events.{retire_event, stop_event}
 use Rattle.core_context.specs.Heads.{first_done, step_on}
-use Rattle.core_back.specs.Machine.{Machine, context_at, with_context}
-use Rattle.core_back.proofs.RetireSteps.{turn_ends, turn_stops, turn_used_up, turn_retires, turn_goes_on}
-use Rattle.core_back.proofs.AlikeMachines.{alike_none, alike_with}
+use Rattle.core_back.specs.Machine.{Machine, context_at}
+use Rattle.core_back.proofs.RetireSteps.{turn_stops, turn_used_up, turn_retires, turn_goes_on}
+use Rattle.core_back.proofs.AlikeMachines.{alike_with}
 use Rattle.core_back.proofs.retiring.retire_oldest.Goals as goal
 
 abbrev id_at : ℕ → ℕ → EntryId

@@ -1,5 +1,4 @@
-use Rattle.std.proofs.Common.{ap, sym, ◌∙◌, refl, Some}
-use Rattle.core_view.specs.declared.outcome.Outcome.{Outcome}
+use Rattle.std.proofs.Common.{ap, sym, ◌∙◌, refl}
 use Rattle.core_view.specs.Events.{stop_event}
 use Rattle.core_back.specs.Machine.{Machine, context_at, with_context}
 use Rattle.core_back.specs.Turn.{stopped_by}
