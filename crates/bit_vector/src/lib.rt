@@ -5,4 +5,4 @@ mod places;
 mod slots;
 
 pub use places::{assign, count, first, has, next, push, without_first};
-pub use slots::{clear_slot, set_slot, turn};
+pub use slots::{clear_slot, clear_where, set_slot, turn, turn_eight};
