@@ -1,10 +1,11 @@
 -- Bits of words.
-use Rattle.std.proofs.Common.{◌≡◌, ℕ, suc, ◌+◌, ◌-◌, ◌*◌, ◌/◌, ◌%◌, ◌^◌, ◌<◌, ◌≤◌, max, min, false, not, nat_eq, bit_and, bit_or, sym, ◌∙◌, ap, arith, inl, inr, ◌⊎◌}
-use Rattle.std.specs.Int.{bit_at, w64, rotate_right, trailing_zeros}
+use mir.Val.{bool_byte}
+use Rattle.std.proofs.Common.{◌≡◌, ◌≢◌, ℕ, suc, ◌+◌, ◌-◌, ◌*◌, ◌/◌, ◌%◌, ◌^◌, ◌<◌, ◌≤◌, Bool, true, max, min, false, not, nat_eq, bit_and, bit_or, sym, ◌∙◌, ap, arith, inl, inr, ◌⊎◌}
+use Rattle.std.specs.Int.{bit_at, w64, rotate_right, trailing_zeros, bit_not}
 use Rattle.std.specs.Int.Bits.{bit_xor}
 use Rattle.std.proofs.lemmas.Bool.Decides.{nat_tests}
-use Rattle.std.proofs.lemmas.Nat.{shr-shr, shr_split, shr_le, pow_pos}
-use Rattle.std.proofs.lemmas.Nat.Bits.{bit_at_and, bit_at_not, bit_at_or, bit_at_xor, bit_at-lt, bit_at_above, bit_at-zero, bit_at-suc, bit_at_lowest, bit_at_ones, bit_at_cat_low, bit_at_cat_high, bit_at-trailing_zeros, same_from_bits, same_from_bits_below}
+use Rattle.std.proofs.lemmas.Nat.{shr-shr, shr_split, shr_le, pow_pos, and_mask, mod_low}
+use Rattle.std.proofs.lemmas.Nat.Bits.{bit_at_and, bit_at_not, bit_at_or, bit_at_xor, bit_at-lt, bit_at_above, bit_at-zero, bit_at-suc, bit_at_lowest, bit_at_ones, bit_at_clear_same, bit_at_clear_other, bit_at_cat_low, bit_at_cat_high, bit_at-trailing_zeros, same_from_bits, same_from_bits_below}
 
 pub bit-kept : (a b j : ℕ) → bit_at a j ≡ 1 → bit_at (bit_or a b) j ≡ 1
 bit-kept a b j h = let m : bit_at (bit_or a b) j ≡ max (bit_at a j) (bit_at b j) = bit_at_or a b j in let lt : bit_at b j < 2 = bit_at-lt b j in omega arith
@@ -221,3 +222,52 @@ more-all a b fits also all = ap (λ n. not (nat_eq n 0)) (same_from_bits (bit_an
       ]
       | inr high ↦ (let h : bit_at a i ≡ 0 = bit_at_above a 64 i (omega (arith, fits)) high in bit_at_and a (18446744073709551615 - b) i ∙ omega (arith, h))
     ]
+
+-- ---- eight bits
+
+bit-of-eight : (m i : ℕ) → i < 8 → bit_at (m % 256) i ≡ bit_at m i
+bit-of-eight m i low = let e : m / 2 ^ 8 * 2 ^ 8 + m % 2 ^ 8 ≡ m = shr_split m 8 in sym (bit_at_cat_low (m / 2 ^ 8) 8 (m % 2 ^ 8) i low) ∙ ap (λ n. bit_at n i) e
+
+-- they stand twice in a row
+twice-low : (m i : ℕ) → i < 8 → bit_at (m * 257) i ≡ bit_at m i
+twice-low m i low = let e : m * 2 ^ 8 + m ≡ m * 257 = omega arith in ap (λ n. bit_at n i) (sym e) ∙ bit_at_cat_low m 8 m i low
+
+twice-high : (m i : ℕ) → m < 256 → 8 ≤ i → bit_at (m * 257) i ≡ bit_at m (i - 8)
+twice-high m i fits high = let e : m * 2 ^ 8 + m ≡ m * 257 = omega arith in ap (λ n. bit_at n i) (sym e) ∙ bit_at_cat_high m 8 m i fits high
+
+eight-cases : (word base i : ℕ) → base < 8 → i < 8 → (base + i < 8) ⊎ (8 ≤ base + i) → bit_at (word % 256 * 257) (base + i) ≡ bit_at word ((base + i) % 8)
+eight-cases word base i low within (inl short) =
+    let p : base + i ≡ (base + i) % 8 = omega arith in
+    twice-low (word % 256) (base + i) short ∙ bit-of-eight word (base + i) short ∙ ap (bit_at word) p
+eight-cases word base i low within (inr long) =
+    let p : base + i - 8 ≡ (base + i) % 8 = omega arith in
+    twice-high (word % 256) (base + i) (omega arith) long ∙ bit-of-eight word (base + i - 8) (omega arith) ∙ ap (bit_at word) p
+
+-- so eight bits turned by a base have the bit of a place first
+pub eight-turned : (word base i : ℕ) → base < 8 → i < 8 → bit_at (word % 256 * 257 / 2 ^ base % 256) i ≡ bit_at word ((base + i) % 8)
+eight-turned word base i low within = bit-of-eight (word % 256 * 257 / 2 ^ base) i within ∙ bit-down (word % 256 * 257) base i ∙ eight-cases word base i low within (lt-or (base + i) 8)
+
+pub eight-above : (m i : ℕ) → 8 ≤ i → bit_at (m % 256) i ≡ 0
+eight-above m i high = bit_at_above (m % 256) 8 i (omega arith) high
+
+-- ---- a bit that goes or stays
+
+-- a word without the bits of none
+without-none : (word slot : ℕ) → word < 18446744073709551616 → bit_and word (bit_not w64 (0 * 2 ^ slot % 2 ^ 64)) ≡ word
+without-none word slot fits =
+    let none : 0 * 2 ^ slot ≡ 0 = omega arith in
+    let e : 0 * 2 ^ 64 + word ≡ word = omega arith in
+    ap (λ n. bit_and word (bit_not w64 (n % 2 ^ 64))) none ∙ and_mask word 64 ∙ ap (λ n. n % 2 ^ 64) (sym e) ∙ mod_low 0 64 word fits
+
+pub cleared-kept : (word slot : ℕ) (goes : Bool) (bit : ℕ) → word < 18446744073709551616 → bit ≡ bool_byte goes → goes ≡ false → bit_and word (bit_not w64 (bit * 2 ^ slot % 2 ^ 64)) ≡ word
+cleared-kept word slot true bit fits is stays = absurd cc
+cleared-kept word slot false bit fits is stays = rw is (without-none word slot fits)
+
+pub cleared-same : (word slot : ℕ) (goes : Bool) (bit : ℕ) → slot < 64 → bit ≡ bool_byte goes → goes ≡ true → bit_at (bit_and word (bit_not w64 (bit * 2 ^ slot % 2 ^ 64))) slot ≡ 0
+cleared-same word slot true bit within is goes = rw is (bit_at_clear_same w64 word slot within)
+cleared-same word slot false bit within is goes = absurd cc
+
+pub cleared-other : (word slot : ℕ) (goes : Bool) (bit : ℕ) → word < 18446744073709551616 → slot < 64 → bit ≡ bool_byte goes → (i : ℕ) → i < 64 → i ≢ slot →
+    bit_at (bit_and word (bit_not w64 (bit * 2 ^ slot % 2 ^ 64))) i ≡ bit_at word i
+cleared-other word slot true bit fits within is i low apart = rw is (bit_at_clear_other w64 word slot within i low apart)
+cleared-other word slot false bit fits within is i low apart = rw is (ap (λ n. bit_at n i) (without-none word slot fits))

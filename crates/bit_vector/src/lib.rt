@@ -7,4 +7,4 @@ mod slots;
 pub use places::{
     assign, both, count, first, has_more, lowest, next, push, up_to_first, without_first,
 };
-pub use slots::{clear_slot, set_slot, turn};
+pub use slots::{clear_slot, clear_where, set_slot, turn, turn_eight};

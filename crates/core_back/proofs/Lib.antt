@@ -18,6 +18,7 @@ pub mod Options
 pub mod Laws
 pub mod IssueViews
 pub mod DoneTurns
+pub mod LeftTurns
 pub mod DuePlaces
 pub mod CompletedTurns
 pub mod Blocks

@@ -1,6 +1,6 @@
 -- A selection, and the issue of the first entry that was selected, in the machine.
 use Rattle.std.proofs.Common.{◌≡◌, ◌≢◌, ℕ, zero, suc, ◌+◌, ◌<◌, ◌≤◌, Bool, true, false, List, [], ◌∷◌, length, get_or, drop, map, Option, Some, refl, sym, ap, subst, ◌∙◌, arith, inl, inr}
-use Rattle.std.specs.Prelude.{◌||◌, ◌==◌, not, set, All, AllPairs, IfSome, is_some}
+use Rattle.std.specs.Prelude.{◌||◌, ◌==◌, not, set, All, AllPairs, IfSome}
 use Rattle.std.proofs.lemmas.List.Elements.{All-filter}
 use Rattle.std.proofs.lemmas.Bool.{cases_lt, lt-ltb, or_parts}
 use Rattle.std.proofs.lemmas.Bool.Decides.{nat_tests}

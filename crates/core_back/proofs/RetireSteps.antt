@@ -2,7 +2,7 @@
 use Rattle.std.proofs.Common.{◌≡◌, ℕ, zero, suc, ◌+◌, ◌-◌, ◌%◌, ◌<◌, ◌≤◌, Bool, true, false, List, [], ◌∷◌, ◌++◌, Some, None, refl, sym, ap, ◌∙◌, subst, arith, append-nil, not, inl, inr, ◌⊎◌, ◌*◌}
 use mir.Val.{bool_byte}
 use Rattle.std.specs.Int.{bit_at}
-use Rattle.std.specs.Prelude.{is_some}
+use Rattle.std.specs.Prelude.{is_some, IsSome}
 use Rattle.hart_step.specs.State.{State}
 use Rattle.hart_step.specs.declared.stop.Stop.{Stop}
 use Rattle.origin_set.specs.Start.{start}
@@ -92,6 +92,8 @@ pub record InTurn (width t : ℕ) (m n : Machine) (left : ℕ) (ids : List Entry
 pub record AtTurn (width t : ℕ) (m n : Machine) (left : ℕ) (ids : List EntryId) : Type 0 where
   pub in_turn : t < 8 → InTurn width t m n left ids
   pub over : 8 ≤ t → Turned width 8 m n left ids
+  -- the oldest entry of the context at the turn is done
+  pub ready : t < 8 → (c : ℕ) → c < 8 → turn m.view.cycle c ≡ t → IsSome (first_done (context_at n c).flight)
 
 module _ (width : ℕ) (m : Machine) (live : AllLive m) where
   module _ (n : Machine) (left : ℕ) (ids : List EntryId) where
@@ -134,12 +136,14 @@ module _ (width : ℕ) (m : Machine) (live : AllLive m) where
         (pass_all d (t + 1) (omega (arith, few)) (λ u e from below. none u e (omega (arith, from)) (omega (arith, below))) (pass t c lc at (none t c (omega arith) (omega arith) lc at) h))
 
     -- the next turn of a context of which an entry may be done
-    pub arrives : (t u : ℕ) → t ≤ 8 → t ≤ u → ((v c : ℕ) → t ≤ v → v < u → v < 8 → c < 8 → turn m.view.cycle c ≡ v → first_done (context_at m c).flight ≡ None) → Turned width t m n left ids → AtTurn width u m n left ids
-    arrives t u few after none h = record {
+    pub arrives : (t u : ℕ) → t ≤ 8 → t ≤ u → ((v c : ℕ) → t ≤ v → v < u → v < 8 → c < 8 → turn m.view.cycle c ≡ v → first_done (context_at m c).flight ≡ None)
+        → (u < 8 → (c : ℕ) → c < 8 → turn m.view.cycle c ≡ u → IsSome (first_done (context_at m c).flight)) → Turned width t m n left ids → AtTurn width u m n left ids
+    arrives t u few after none done h = record {
       in_turn = λ low. (let same : t + (u - t) ≡ u = omega (arith, after) in
           turn_begins u (subst (λ v. Turned width v m n left ids) same (pass_all (u - t) t (omega (arith, low, after)) (λ v c from below. none v c from (omega (arith, below, after)) (omega (arith, below, after, low))) h)));
       over = λ high. (let same : t + (8 - t) ≡ 8 = omega (arith, few) in
           subst (λ v. Turned width v m n left ids) same (pass_all (8 - t) t (omega (arith, few)) (λ v c from below. none v c from (omega (arith, below, few, high)) (omega (arith, below, few))) h));
+      ready = λ low c lc at. subst (λ (x : Context). IsSome (first_done x.flight)) (sym (h.not_yet c lc (omega (arith, at, after))).same) (done low c lc at);
     }
 
   -- one more entry had its turn
@@ -162,11 +166,6 @@ module _ (width : ℕ) (m : Machine) (live : AllLive m) where
 
 -- ---- the step to the next turn
 
--- the turn after this one, unless the context goes on
-pub from_bit : (on : Bool) (bit : ℕ) → bit ≡ bool_byte (not on) → bit ≤ 1
-from_bit true bit is = omega (arith, is)
-from_bit false bit is = omega (arith, is)
-
 no-one : ◌≡◌ {A = ℕ} 1 0 → ⊥
 no-one e = omega (arith, e)
 
@@ -182,20 +181,22 @@ same-turn word t u set from clear = elim (lt-or t u) [
 
 module _ (width : ℕ) (m : Machine) (live : AllLive m) (n p : Machine) (t c left less : ℕ) (ids new : List EntryId) (here : InTurn width t m n left ids) (lc : c < 8) (at : turn m.view.cycle c ≡ t) where
   pub goes_to : (word u bit : ℕ) (on : Bool) → bit ≡ bool_byte (not on) → t < 8 → bit_at word t ≡ 1 → t + bit ≤ u → ((i : ℕ) → t + bit ≤ i → i < u → bit_at word i ≡ 0)
-      → ((v d : ℕ) → v < 8 → d < 8 → turn m.view.cycle d ≡ v → bit_at word v ≡ 0 → first_done (context_at m d).flight ≡ None)
+      → ((v d : ℕ) → t ≤ v → v < 8 → d < 8 → turn m.view.cycle d ≡ v → bit_at word v ≡ 0 → first_done (context_at m d).flight ≡ None)
+      → (u < 8 → (d : ℕ) → d < 8 → turn m.view.cycle d ≡ u → IsSome (first_done (context_at m d).flight)) → (on ≡ true → IsSome (first_done (context_at p c).flight))
       → ((b : Machine) (k room : ℕ) (old : List EntryId) → IsLive (start m.origin c) m.view.stamp (context_at b c) → IsInTurn b n c k room left old ids → GoesOn on b p c (k + 1) room less old new)
       → AtTurn width u m p less new
-  goes_to word u bit true is low set from clear none more =
+  goes_to word u bit true is low set from clear none done now more =
       let zero_bit : bit ≡ 0 = omega (arith, is) in
       let same : u ≡ t = same-turn word t u set (omega (arith, from)) (λ i after below. clear i (omega (arith, zero_bit, after)) below) in
       let on = stays width m live n p t c left less ids new here lc at (more here.before here.number here.room here.old (live_here width m live n p t c left less ids new here lc at) (here.so_far c lc at)) in
       record {
         in_turn = λ l. subst (λ v. InTurn width v m p less new) (sym same) on;
         over = λ high. absurd (omega (arith, low, same, high));
+        ready = λ l d ld there. subst (λ e. IsSome (first_done (context_at p e).flight)) (one_turn m.view.cycle c d lc ld (at ∙ sym same ∙ sym there)) (now refl);
       }
-  goes_to word u bit false is low set from clear none more =
+  goes_to word u bit false is low set from clear none done now more =
       let one_bit : t + bit ≡ t + 1 = omega (arith, is) in
-      arrives width m live p less new (t + 1) u (omega (arith, low)) (omega (arith, from, one_bit)) (λ v d after below l ld there. none v d l ld there (clear v (omega (arith, after, one_bit)) below))
+      arrives width m live p less new (t + 1) u (omega (arith, low)) (omega (arith, from, one_bit)) (λ v d after below l ld there. none v d (omega (arith, after)) l ld there (clear v (omega (arith, after, one_bit)) below)) done
       (leaves width m live n p t c left less ids new here lc at (more here.before here.number here.room here.old (live_here width m live n p t c left less ids new here lc at) (here.so_far c lc at)))
 
 -- what was dropped is bounded by what is left

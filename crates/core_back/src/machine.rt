@@ -1,6 +1,6 @@
 //! Eight contexts, and the data flow that they share.
 
-ghost use Rattle.std.specs.Prelude.{◌≡◌, ℕ, ◌+◌, ◌-◌, ◌<◌, ◌≤◌, ◌^◌, ◌&&◌, ◌==◌, false, not, length, count_by, slice_get, slice_index, slice_index_or, [], IfOk, IfSome, MatchOption, Some, None, true, is_some};
+ghost use Rattle.std.specs.Prelude.{◌≡◌, ℕ, ◌+◌, ◌-◌, ◌<◌, ◌≤◌, ◌^◌, ◌&&◌, ◌==◌, false, not, length, count_by, slice_get, slice_index, slice_index_or, [], IfOk, IfSome, IsSome, MatchOption, Some, None, true, is_some};
 ghost use Rattle.arrayvec.specs.ArrayVec.{array_vec_len};
 ghost use Rattle.core_view.specs.declared.outcome.Outcome.TheVariants.{Stops};
 ghost use Rattle.core_view.specs.Events.{retire_event, stop_event, complete_event};
@@ -195,6 +195,17 @@ impl<A: Allocator> Machine<A> {
     {
         let track = &self.tracks[context.index()];
         track.head()
+    }
+
+    /// Why the oldest entry of a context, which is done, stops it, if it does.
+    #[inline(always)]
+    pub fn head_stop(&self, context: Ctx) -> Option<Stop>
+        requires { IsSome (first_done (context_at self.now context).flight) }
+        ensures goes { result ≡ None → IsGoing (first_done (context_at self.now context).flight) }
+        ensures stops { IfSome result (λ why. first_done (context_at self.now context).flight ≡ Some (Stops why)) }
+    {
+        let track = &self.tracks[context.index()];
+        track.head_stop()
     }
 
     /// Whether the oldest entry of a context is done.

@@ -1,6 +1,6 @@
 //! The part of a cycle in which entries retire.
 
-ghost use Rattle.std.specs.Prelude.{◌≡◌, ℕ, ◌+◌, ◌<◌, ◌≤◌, List, [], IsTrue, None};
+ghost use Rattle.std.specs.Prelude.{◌≡◌, ℕ, ◌+◌, ◌<◌, ◌≤◌, List, [], IsSome, IsTrue, None};
 ghost use Rattle.std.specs.Int.{bit_at};
 ghost use Rattle.hart_step.specs.State.{State};
 ghost use Rattle.core_view.specs.declared.note.EntryId.{EntryId};
@@ -14,9 +14,9 @@ ghost use Rattle.core_back.specs.Turn.{IsInTurn, GoesOn, ended};
 
 use crate::machine::Machine;
 use arrayvec::ArrayVec;
-use bit_vector::{next, push};
+use bit_vector::{clear_where, next, push, turn_eight};
 use branch_predict::Guess;
-use core_view::{EntryId, Outcome};
+use core_view::EntryId;
 use join_law::Ctx;
 use std::alloc::Allocator;
 
@@ -39,34 +39,38 @@ pub fn retire<A: Allocator, G: Guess>(
     ensures lawful { IsRetire machine.old.view machine.new.view retired.new.items }
 {
     let first = machine.cycle();
-    let done = done_in_turn(machine, first);
+    let mut waiting = done_in_turn(machine, first);
     let mut left = usize::from(machine.profile().retire_width);
     let mut dropped = 0;
-    let mut turn = next(done, 0);
-    while turn < 8 {
+    let mut turn = next(waiting, 0);
+    while turn < 64 {
         let context = context_in_turn(first, turn);
         let after = retire_oldest(machine, guess, context, left, retired);
         left = after.left;
         dropped += after.dropped;
         // A context that goes on is the next again.
-        turn = next(done, turn + usize::from(!after.goes_on));
+        waiting = clear_where(waiting, turn, !after.goes_on);
+        turn = next(waiting, 0);
     }
     // `cycle` ensures that each context is live.
     let _live = machine.cycle();
     dropped
 }
 
-/// A bit a turn: whether the oldest entry of the context whose turn it is is done.
+/// A bit a turn, the first eight: whether the oldest entry of the context whose turn it is is done.
 #[inline(always)]
 fn done_in_turn<A: Allocator>(machine: &Machine<A>, cycle: u64) -> u64
-    ensures { (t c : ℕ) → t < 8 → c < 8 → turn_of cycle c ≡ t → bit_at result t ≡ 0 → first_done (context_at machine.now c).flight ≡ None }
+    ensures none { (t c : ℕ) → t < 8 → c < 8 → turn_of cycle c ≡ t → bit_at result t ≡ 0 → first_done (context_at machine.now c).flight ≡ None }
+    ensures some { (t c : ℕ) → t < 8 → c < 8 → turn_of cycle c ≡ t → bit_at result t ≡ 1 → IsSome (first_done (context_at machine.now c).flight) }
+    ensures eight { (t : ℕ) → 8 ≤ t → bit_at result t ≡ 0 }
 {
+    // By number of context first, then turned: each look is at a place that is known ahead.
     let mut word = 0;
-    for turn in 0..8usize {
-        let context = context_in_turn(cycle, turn);
-        word = push(word, turn, machine.is_head_done(context));
+    for number in 0..8usize {
+        let context = Ctx::new(number).unwrap();
+        word = push(word, number, machine.is_head_done(context));
     }
-    word
+    turn_eight(word, (cycle % 8) as usize)
 }
 
 /// What is left of the width once the oldest entry of a context had its turn, how many entries were dropped, and whether
@@ -88,7 +92,7 @@ fn context_in_turn(cycle: u64, turn: usize) -> Ctx
     Ctx::new(number as usize).unwrap()
 }
 
-/// The oldest entry of a context retires, where something is left of the width, or stops the context.
+/// The oldest entry of a context, which is done, retires, where something is left of the width, or stops the context.
 #[inline(always)]
 fn retire_oldest<A: Allocator, G: Guess>(
     machine: &mut Machine<A>,
@@ -98,12 +102,14 @@ fn retire_oldest<A: Allocator, G: Guess>(
     retired: &mut ArrayVec<EntryId, 16>,
 ) -> Turn
     requires idle { machine.old.names ≡ [] }
+    requires done { IsSome (first_done (context_at machine.old context).flight) }
     requires room { array_vec_len retired.old + left ≤ 16 }
     ensures alike { IsAlike machine.old machine.new }
     ensures idle { machine.new.names ≡ [] }
     ensures width { array_vec_len retired.new + result.left ≤ 16 }
     ensures turn { (s : State) (stamp : ℕ) (b : MachineView) (k room : ℕ) (old : List EntryId) → IsLive s stamp (context_at b context) → IsInTurn b machine.old context k room left old retired.old.items →
         GoesOn result.goes_on b machine.new context (k + 1) room result.left old retired.new.items }
+    ensures more { IsTrue result.goes_on → IsSome (first_done (context_at machine.new context).flight) }
     ensures fewer { result.left ≤ left }
     ensures one_fewer { IsTrue result.goes_on → result.left + 1 ≡ left }
     ensures keeps { G.may_answer guess.new ≡ G.may_answer guess.old }
@@ -118,9 +124,10 @@ fn retire_oldest<A: Allocator, G: Guess>(
             goes_on: false,
         };
     }
-    match machine.head(context) {
-        Some(Outcome::Goes { .. }) => {
+    match machine.head_stop(context) {
+        None => {
             let gone = machine.retire(guess, context);
+            let goes_on = machine.is_head_done(context);
             retired.push(EntryId {
                 context,
                 stamp: gone.stamp,
@@ -128,10 +135,10 @@ fn retire_oldest<A: Allocator, G: Guess>(
             Turn {
                 left: left - 1,
                 dropped: gone.dropped,
-                goes_on: machine.is_head_done(context),
+                goes_on,
             }
         }
-        Some(Outcome::Stops { why }) => {
+        Some(why) => {
             let stopped = machine.stop(context, why);
             Turn {
                 left,
@@ -139,26 +146,21 @@ fn retire_oldest<A: Allocator, G: Guess>(
                 goes_on: false,
             }
         }
-        None => Turn {
-            left,
-            dropped: 0,
-            goes_on: false,
-        },
     }
 }
 
-/// A context whose oldest entry is done with a stop is stopped. Returns how many entries are dropped.
+/// A context whose oldest entry, which is done, is done with a stop is stopped. Returns how many entries are dropped.
 fn stop_done<A: Allocator>(machine: &mut Machine<A>, context: Ctx) -> usize
-    requires { machine.old.names ≡ [] }
+    requires idle { machine.old.names ≡ [] }
+    requires done { IsSome (first_done (context_at machine.old context).flight) }
     ensures alike { IsAlike machine.old machine.new }
     ensures idle { machine.new.names ≡ [] }
     ensures stopped { machine.new ≡ with_context machine.old context (ended (context_at machine.old context)) }
     ensures dropped { result + in_flight machine.new ≡ in_flight machine.old }
     ensures bound { result ≤ 80 }
 {
-    match machine.head(context) {
-        Some(Outcome::Stops { why }) => machine.stop(context, why),
-        Some(Outcome::Goes { .. }) => 0,
+    match machine.head_stop(context) {
+        Some(why) => machine.stop(context, why),
         None => 0,
     }
 }

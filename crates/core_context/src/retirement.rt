@@ -1,9 +1,10 @@
 //! What the oldest entry of a context does as it retires.
 
-ghost use Rattle.std.specs.Prelude.{◌≡◌, List, true, false, drop, Some, None, slice_get};
+ghost use Rattle.std.specs.Prelude.{◌≡◌, List, true, false, drop, Some, None, IsSome, IfSome, slice_get};
 ghost use Rattle.core_view.specs.Outcomes.{memory_after, bytes_written, IsSized};
 ghost use Rattle.core_view.specs.Operations.{is_store};
 ghost use Rattle.core_view.specs.declared.entry.Entry.{Entry};
+ghost use Rattle.core_view.specs.declared.outcome.Outcome.TheVariants.{Stops};
 ghost use Rattle.core_view.specs.Queues.{is_renamed, loads_of, stores_of};
 ghost use Rattle.hart_step.specs.State.{written};
 ghost use Rattle.core_context.specs.Heads.{IsGoing, done_outcome, step_on};
@@ -11,10 +12,10 @@ ghost use Rattle.core_context.specs.Heads.{IsGoing, done_outcome, step_on};
 use crate::decoded_memory::DecodedMemory;
 use branch_predict::Guess;
 use core_view::{Access, Entry, Operation, Outcome, Stage, Step};
-use hart_step::Environment;
+use hart_step::{Environment, Stop};
 use join_law::Ctx;
 use load_store_queue::LoadStoreQueue;
-use rv64_decode::Register;
+use rv64_decode::{Insn, Register};
 use std::alloc::Allocator;
 
 /// The step of an entry that is done with one.
@@ -30,6 +31,22 @@ pub(crate) fn step_of(entry: &Entry) -> &Step
         unreachable!();
     };
     step
+}
+
+/// Why an entry that is done stops its context, if it does.
+#[inline(always)]
+pub(crate) fn stop_of(entry: &Entry) -> Option<Stop>
+    requires { IsSome (done_outcome entry.now.stage) }
+    ensures goes { result ≡ None → IsGoing (done_outcome entry.now.stage) }
+    ensures stops { IfSome result (λ why. done_outcome entry.now.stage ≡ Some (Stops why)) }
+{
+    let Stage::Done { execution } = &entry.stage else {
+        unreachable!();
+    };
+    match execution.outcome {
+        Outcome::Goes { .. } => None,
+        Outcome::Stops { why } => Some(why),
+    }
 }
 
 /// A register has another value. x0 stays as it is.
@@ -75,10 +92,14 @@ pub(crate) fn retire_access<A: Allocator>(
 pub(crate) fn learn<G: Guess>(guess: &mut G, context: Ctx, entry: &Entry, next: u64)
     ensures { G.may_answer guess.new ≡ G.may_answer guess.old }
 {
-    if !entry.operation.may_turn() {
+    let Operation::Performs { insn } = entry.operation.operation() else {
         return;
-    }
-    if let Operation::Performs { insn } = entry.operation.operation() {
+    };
+    if entry.operation.is_guessed() {
         guess.learn(context, entry.pc, insn, next);
+    } else if let Insn::Jal { rd, offset } = *insn {
+        // A JAL is passed as one: a guess that learns nothing of it then has nothing to do here, and needs no test.
+        let jump = Insn::Jal { rd, offset };
+        guess.learn(context, entry.pc, &jump, next);
     }
 }

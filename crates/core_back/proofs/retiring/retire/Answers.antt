@@ -1,25 +1,37 @@
-use Rattle.std.proofs.Common.{◌≡◌, ap, sym, ◌∙◌, refl, length, arith}
+use Rattle.std.proofs.Common.{◌≡◌, ℕ, ◌+◌, ◌<◌, ◌≤◌, Bool, not, ap, sym, ◌∙◌, refl, length, arith}
+use mir.Val.{bool_byte}
+use Rattle.std.specs.Int.{bit_at}
 use Rattle.core_profile.specs.declared.profile.Profile.{Profile}
 use Rattle.fetch_policy.specs.Lawful.{turn as turn_of}
 use Rattle.origin_set.specs.Start.{start}
 use Rattle.core_back.proofs.RetireTurns.{turned_none, retire_lawful}
-use Rattle.core_back.proofs.RetireSteps.{arrives, from_bit, goes_to, turn_bound}
+use Rattle.core_back.proofs.RetireSteps.{arrives, goes_to, turn_bound}
+use Rattle.core_back.proofs.LeftTurns.{AreLeft, left_small, left_done, left_from, left_between, left_next}
 use Rattle.core_back.proofs.AlikeMachines.{alike_none, alike_chain}
 use Rattle.core_back.proofs.retiring.retire.Goals as goal
 
 pub loop-turn-init : goal.loop-turn-init
 loop-turn-init g c =
+    let m = c.args.machine.now in
     let most = c.profile.result.retire_width_in_range.1 in
-    record {
-      alike = alike_none c.args.machine.now;
-      idle = c.requires.idle;
-      room = omega (arith, most, c.from-left.ensures, ap length c.requires.fresh);
+    let at : (t d : ℕ) → turn_of m.view.cycle d ≡ t → turn_of c.cycle-first.result d ≡ t = λ t d is. ap (λ k. turn_of k d) c.cycle-first.ensures.value ∙ is in
+    let waits : AreLeft m c.done_in_turn-waiting.result c.next-turn.result = record {
       few = c.next-turn.ensures.within;
       here = c.next-turn.ensures.set;
-      turns = arrives c.args.machine.now.view.profile.retire_width c.args.machine.now c.cycle-first.ensures.live c.args.machine.now c.from-left.result c.args.retired.now.items 0 c.next-turn.result (omega arith) (omega arith)
-          (λ t d from below low ld at. c.done_in_turn-done.ensures t d low ld (ap (λ k. turn_of k d) c.cycle-first.ensures.value ∙ at) (c.next-turn.ensures.clear t from below))
-          (turned_none c.args.machine.now.view.profile.retire_width c.from-left.result c.args.machine.now c.args.retired.now.items c.cycle-first.ensures.contexts c.requires.fresh (c.from-left.ensures ∙ ap (λ (p : Profile). p.retire_width) c.profile.ensures));
-      done = λ t d low ld at. c.done_in_turn-done.ensures t d low ld (ap (λ k. turn_of k d) c.cycle-first.ensures.value ∙ at);
+      lowest = λ i below. c.next-turn.ensures.clear i (omega arith) below;
+      eight = λ i high low. c.done_in_turn-waiting.ensures.eight i high;
+      none = λ t d from low ld is. c.done_in_turn-waiting.ensures.none t d low ld (at t d is);
+      some = λ t d low ld is. c.done_in_turn-waiting.ensures.some t d low ld (at t d is);
+    } in
+    record {
+      alike = alike_none m;
+      idle = c.requires.idle;
+      room = omega (arith, most, c.from-left.ensures, ap length c.requires.fresh);
+      waiting = waits;
+      turns = arrives m.view.profile.retire_width m c.cycle-first.ensures.live m c.from-left.result c.args.retired.now.items 0 c.next-turn.result (omega arith) (omega arith)
+          (λ t d from below low ld is. c.done_in_turn-waiting.ensures.none t d low ld (at t d is) (c.next-turn.ensures.clear t from below))
+          (λ low d ld is. left_done m c.done_in_turn-waiting.result c.next-turn.result d waits (omega (arith, low)) ld is)
+          (turned_none m.view.profile.retire_width c.from-left.result m c.args.retired.now.items c.cycle-first.ensures.contexts c.requires.fresh (c.from-left.ensures ∙ ap (λ (p : Profile). p.retire_width) c.profile.ensures));
       live = c.cycle-first.ensures.live;
       first = c.cycle-first.ensures.value;
       dropped = omega (arith, ap length c.requires.fresh);
@@ -28,37 +40,53 @@ loop-turn-init g c =
       keeps = refl;
     }
 
+pub context_in_turn-context-requires : goal.context_in_turn-context-requires
+context_in_turn-context-requires g c = left_small c.args.machine.now c.loop-turn.waiting c.loop-turn.turn c.loop-turn.invariant.waiting c.loop-turn-test.true
+
 pub retire_oldest-after-requires-clause-idle : goal.retire_oldest-after-requires-clause-idle
 retire_oldest-after-requires-clause-idle g c = c.loop-turn.invariant.idle
+
+pub retire_oldest-after-requires-clause-done : goal.retire_oldest-after-requires-clause-done
+retire_oldest-after-requires-clause-done g c =
+    let h = c.loop-turn.invariant in
+    h.turns.ready (left_small c.args.machine.now c.loop-turn.waiting c.loop-turn.turn h.waiting c.loop-turn-test.true) c.context_in_turn-context.result c.context_in_turn-context.ensures.small
+    (ap (λ k. turn_of k c.context_in_turn-context.result) (sym h.first) ∙ c.context_in_turn-context.ensures.turn)
 
 pub retire_oldest-after-requires-clause-room : goal.retire_oldest-after-requires-clause-room
 retire_oldest-after-requires-clause-room g c = c.loop-turn.invariant.room
 
-pub next-turn-requires-in-loop-turn : goal.next-turn-requires-in-loop-turn
-next-turn-requires-in-loop-turn g c =
-    let from = from_bit c.retire_oldest-after.result.goes_on c.from.result c.from.ensures in omega (arith, from, c.loop-turn-test.true)
-
 pub loop-turn-preserved : goal.loop-turn-preserved
 loop-turn-preserved g c =
     let h = c.loop-turn.invariant in
-    let at : turn_of c.args.machine.now.view.cycle c.context_in_turn-context.result ≡ c.loop-turn.turn = ap (λ k. turn_of k c.context_in_turn-context.result) (sym h.first) ∙ c.context_in_turn-context.ensures.turn in
+    let m = c.args.machine.now in
+    let on : Bool = c.retire_oldest-after.result.goes_on in
+    let t : ℕ = c.loop-turn.turn in
+    let u : ℕ = c.next-turn-in-loop-turn.result in
+    let small : t < 8 = left_small m c.loop-turn.waiting t h.waiting c.loop-turn-test.true in
+    let lowest : (i : ℕ) → i < u → bit_at c.clear_where-waiting.result i ≡ 0 = λ i below. c.next-turn-in-loop-turn.ensures.clear i (omega arith) below in
+    let waits : AreLeft m c.clear_where-waiting.result u = left_next m c.loop-turn.waiting c.clear_where-waiting.result t u on h.waiting c.loop-turn-test.true c.clear_where-waiting.ensures.kept c.clear_where-waiting.ensures.clear c.clear_where-waiting.ensures.others
+    c.next-turn-in-loop-turn.ensures.within lowest c.next-turn-in-loop-turn.ensures.set in
+    let from : t + bool_byte (not on) ≤ u = left_from m c.loop-turn.waiting c.clear_where-waiting.result t u on h.waiting c.loop-turn-test.true c.clear_where-waiting.ensures.kept c.clear_where-waiting.ensures.clear c.clear_where-waiting.ensures.others
+    c.next-turn-in-loop-turn.ensures.within lowest c.next-turn-in-loop-turn.ensures.set in
+    let between : (i : ℕ) → t + bool_byte (not on) ≤ i → i < u → bit_at c.loop-turn.waiting i ≡ 0 = left_between m c.loop-turn.waiting c.clear_where-waiting.result t u on h.waiting c.loop-turn-test.true c.clear_where-waiting.ensures.kept c.clear_where-waiting.ensures.clear
+    c.clear_where-waiting.ensures.others c.next-turn-in-loop-turn.ensures.within lowest c.next-turn-in-loop-turn.ensures.set in
+    let at : turn_of m.view.cycle c.context_in_turn-context.result ≡ t = ap (λ k. turn_of k c.context_in_turn-context.result) (sym h.first) ∙ c.context_in_turn-context.ensures.turn in
     record {
-      alike = alike_chain c.args.machine.now c.loop-turn.machine c.retire_oldest-after.new.machine h.alike c.retire_oldest-after.ensures.alike;
+      alike = alike_chain m c.loop-turn.machine c.retire_oldest-after.new.machine h.alike c.retire_oldest-after.ensures.alike;
       idle = c.retire_oldest-after.ensures.idle;
       room = c.retire_oldest-after.ensures.width;
-      few = c.next-turn-in-loop-turn.ensures.within;
-      here = c.next-turn-in-loop-turn.ensures.set;
-      turns = goes_to c.args.machine.now.view.profile.retire_width c.args.machine.now h.live c.loop-turn.machine c.retire_oldest-after.new.machine c.loop-turn.turn c.context_in_turn-context.result c.loop-turn.left c.retire_oldest-after.result.left c.loop-turn.retired.items c.retire_oldest-after.new.retired.items
-          (h.turns.in_turn c.loop-turn-test.true) c.context_in_turn-context.ensures.small at c.done_in_turn-done.result c.next-turn-in-loop-turn.result c.from.result c.retire_oldest-after.result.goes_on c.from.ensures c.loop-turn-test.true
-          (h.here (omega (arith, c.loop-turn-test.true))) c.next-turn-in-loop-turn.ensures.from c.next-turn-in-loop-turn.ensures.clear h.done
-          (λ b k room old live so_far. c.retire_oldest-after.ensures.turn (start c.args.machine.now.origin c.context_in_turn-context.result) c.args.machine.now.view.stamp b k room old live so_far);
-      done = h.done;
+      waiting = waits;
+      turns = goes_to m.view.profile.retire_width m h.live c.loop-turn.machine c.retire_oldest-after.new.machine t c.context_in_turn-context.result c.loop-turn.left c.retire_oldest-after.result.left c.loop-turn.retired.items c.retire_oldest-after.new.retired.items
+          (h.turns.in_turn small) c.context_in_turn-context.ensures.small at c.loop-turn.waiting u (bool_byte (not on)) on refl small
+          (h.waiting.here c.loop-turn-test.true) from between h.waiting.none
+          (λ low d ld is. left_done m c.clear_where-waiting.result u d waits (omega (arith, low)) ld is) c.retire_oldest-after.ensures.more
+          (λ b k room old live so_far. c.retire_oldest-after.ensures.turn (start m.origin c.context_in_turn-context.result) m.view.stamp b k room old live so_far);
       live = h.live;
       first = h.first;
       dropped = omega (arith, h.dropped, c.retire_oldest-after.ensures.dropped);
       width = omega (arith, h.width, c.retire_oldest-after.ensures.fewer);
-      bound = turn_bound c.retire_oldest-after.result.goes_on c.loop-turn.dropped c.retire_oldest-after.result.dropped c.loop-turn.left c.retire_oldest-after.result.left c.loop-turn.turn c.from.result c.next-turn-in-loop-turn.result h.bound c.retire_oldest-after.ensures.bound
-          c.retire_oldest-after.ensures.fewer c.retire_oldest-after.ensures.one_fewer c.from.ensures c.next-turn-in-loop-turn.ensures.from;
+      bound = turn_bound on c.loop-turn.dropped c.retire_oldest-after.result.dropped c.loop-turn.left c.retire_oldest-after.result.left t (bool_byte (not on)) u h.bound c.retire_oldest-after.ensures.bound
+          c.retire_oldest-after.ensures.fewer c.retire_oldest-after.ensures.one_fewer refl from;
       keeps = c.retire_oldest-after.ensures.keeps ∙ h.keeps;
     }
 
@@ -75,9 +103,9 @@ pub returns-clause-dropped : goal.returns-clause-dropped
 returns-clause-dropped g c = c.loop-turn.invariant.dropped
 
 pub returns-clause-bound : goal.returns-clause-bound
-returns-clause-bound g c = omega (arith, c.loop-turn.invariant.bound, c.loop-turn.invariant.few)
+returns-clause-bound g c = omega (arith, c.loop-turn.invariant.bound, c.loop-turn.invariant.waiting.few)
 
 pub returns-clause-lawful : goal.returns-clause-lawful
 returns-clause-lawful g c =
     retire_lawful c.loop-turn.left c.args.machine.now c.loop-turn.machine c.loop-turn.retired.items c.loop-turn.invariant.live c.cycle-live.ensures.live
-    (c.loop-turn.invariant.turns.over (omega (arith, c.loop-turn-test.false)))
+    (c.loop-turn.invariant.turns.over (omega (arith, c.loop-turn-test.false, c.loop-turn.invariant.waiting.few)))

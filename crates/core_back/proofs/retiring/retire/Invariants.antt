@@ -1,11 +1,9 @@
-use Rattle.std.proofs.Common.{◌≡◌, ◌+◌, ◌-◌, ◌*◌, ◌<◌, ◌≤◌, [], ℕ, None}
-use Rattle.std.specs.Int.{bit_at}
+use Rattle.std.proofs.Common.{◌≡◌, ◌+◌, ◌-◌, ◌*◌, ◌≤◌, []}
 use Rattle.arrayvec.specs.ArrayVec.{array_vec_len}
-use Rattle.fetch_policy.specs.Lawful.{turn as turn_of}
-use Rattle.core_context.specs.Heads.{first_done}
-use Rattle.core_back.specs.Machine.{IsAlike, in_flight, context_at}
+use Rattle.core_back.specs.Machine.{IsAlike, in_flight}
 use Rattle.core_back.proofs.RetireTurns.{AllLive}
 use Rattle.core_back.proofs.RetireSteps.{AtTurn}
+use Rattle.core_back.proofs.LeftTurns.{AreLeft}
 use Rattle.core_back.proofs.retiring.retire.Given as goal
 
 abbrev pub invariant-loop-turn : goal.invariant-loop-turn
@@ -13,10 +11,8 @@ invariant-loop-turn g l = record {
   alike : IsAlike l.fn.machine l.machine;
   idle : l.machine.names ≡ [];
   room : array_vec_len l.retired + l.left ≤ 16;
-  few : l.turn ≤ 64;
-  here : l.turn < 64 → bit_at l.done l.turn ≡ 1;
+  waiting : AreLeft l.fn.machine l.waiting l.turn;
   turns : AtTurn l.fn.machine.view.profile.retire_width l.turn l.fn.machine l.machine l.left l.retired.items;
-  done : (t c : ℕ) → t < 8 → c < 8 → turn_of l.fn.machine.view.cycle c ≡ t → bit_at l.done t ≡ 0 → first_done (context_at l.fn.machine c).flight ≡ None;
   live : AllLive l.fn.machine;
   first : l.first ≡ l.fn.machine.view.cycle;
   dropped : l.dropped + array_vec_len l.retired + in_flight l.machine ≡ in_flight l.fn.machine;
