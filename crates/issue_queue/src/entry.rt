@@ -26,7 +26,7 @@ pub struct Waiting {
 }
 
 /// A physical register that an entry reads.
-#[derive(Clone, Copy, Debug, PartialEq, Eq)]
+#[derive(Clone, Copy)]
 pub struct Source {
     /// The register.
     pub register: PhysicalRegister,
@@ -35,7 +35,7 @@ pub struct Source {
 }
 
 /// An entry that enters the queue, with each register that it reads.
-#[derive(Clone, Copy, Debug, PartialEq, Eq)]
+#[derive(Clone, Copy)]
 pub struct Reading {
     /// Its context.
     pub context: Ctx,
