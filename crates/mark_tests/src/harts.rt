@@ -7,7 +7,6 @@ use hart_step::{
 use paged_memory::{Fault, Memory, Width};
 use rv64_decode::{LoadKind, StoreWidth, decode};
 use std::alloc::Global;
-use std::test::Fail;
 
 const ECALL: u32 = 0x0000_0073;
 /// `lui x5, 0x100`: the address of the first data page.
@@ -34,7 +33,7 @@ struct Example {
     register: (usize, u64),
 }
 
-const EXAMPLES: [Example; 11] = [
+const EXAMPLES: &[Example] = &[
     Example {
         words: COUNTDOWN,
         bytes: &[],
@@ -143,157 +142,197 @@ const EXAMPLES: [Example; 11] = [
 ];
 
 /// The hart of a program before its first instruction.
-fn hart_at_start(alloc: Global, words: &[u32], bytes: &[u8]) -> Result<Hart, Fail> {
+fn hart_at_start(alloc: Global, words: &[u32], bytes: &[u8]) -> Option<Hart> {
     if words.len() > 65536 || bytes.len() > 1_048_576 {
-        return Err(Fail::from("too long a program"));
+        return None;
     }
-    let memory = Memory::new(alloc, words, bytes)?;
-    Ok(Hart::new([0; 32], 0x10000, memory, Environment::One))
+    let memory = Memory::new(alloc, words, bytes).ok()?;
+    Some(Hart::new([0; 32], 0x10000, memory, Environment::One))
 }
 
-/// Where a hart stands.
-#[derive(Clone, Copy)]
-struct Standing {
-    pc: u64,
-    registers: [u64; 32],
-    stop: Option<Stop>,
-}
+/// What an example's run returns, and then the pc, the stop there, the example's register and x0.
+type Ran = ((u64, Option<Stop>), (u64, Option<Stop>, Option<u64>, u64));
 
-fn shown(hart: &Hart) -> Standing {
-    Standing {
-        pc: hart.pc(),
-        registers: *hart.regs(),
-        stop: hart.stop_here(),
-    }
-}
-
-/// What a program's run returns, and where it stands then.
-fn ran(
-    alloc: Global,
-    words: &[u32],
-    bytes: &[u8],
-    goes_on: u64,
-) -> Result<((u64, Option<Stop>), Standing), Fail> {
-    let mut hart = hart_at_start(alloc, words, bytes)?;
-    let answer = hart.run(goes_on);
-    Ok((answer, shown(&hart)))
-}
-
-#[test]
-fn examples(rt: HostRuntime) -> Result<(), Fail> {
-    for it in &EXAMPLES {
-        let (answer, end) = ran(rt.alloc(), it.words, it.bytes, it.goes_on)?;
-        assert_eq!(rt; answer, (it.count, it.stop));
-        assert_eq!(rt; (end.pc, end.stop), (it.pc, it.stop));
-        assert_eq!(rt; end.registers.get(it.register.0), Some(&it.register.1));
-        assert_eq!(rt; end.registers[0], 0);
-    }
-    Ok(())
-}
-
-/// What a step of a program returns, where it stands then, and the doubleword at the start of its
-/// data.
-fn stepped(
-    alloc: Global,
-    words: &[u32],
-    bytes: &[u8],
-    goes_on: u64,
-) -> Result<(Result<(), Stop>, Standing, Result<u64, Fault>), Fail> {
-    let mut hart = hart_at_start(alloc, words, bytes)?;
-    hart.run(goes_on);
-    let answer = hart.step();
-    Ok((
+fn ran(alloc: Global, it: &Example) -> Option<Ran> {
+    let mut hart = hart_at_start(alloc, it.words, it.bytes)?;
+    let answer = hart.run(it.goes_on);
+    let registers = hart.regs();
+    let register = registers.get(it.register.0).copied();
+    Some((
         answer,
-        shown(&hart),
-        hart.memory().load(0x100000, Width::Double),
+        (hart.pc(), hart.stop_here(), register, registers[0]),
     ))
 }
 
 #[test]
-fn steps(rt: HostRuntime) -> Result<(), Fail> {
+fn examples(rt: HostRuntime) {
+    for it in EXAMPLES {
+        let end = (it.pc, it.stop, Some(it.register.1), 0);
+        assert_eq!(rt; ran(rt.alloc(), it), Some(((it.count, it.stop), end)));
+    }
+}
+
+/// What a step of a program returns, and then the pc, the registers and the doubleword at the start
+/// of the data.
+#[derive(Clone, Copy)]
+struct AfterAStep {
+    answer: Result<(), Stop>,
+    pc: u64,
+    registers: [u64; 32],
+    stored: Result<u64, Fault>,
+}
+
+/// The same of the step after so many instructions.
+fn stepped(alloc: Global, words: &[u32], bytes: &[u8], goes_on: u64) -> Option<AfterAStep> {
+    let mut hart = hart_at_start(alloc, words, bytes)?;
+    hart.run(goes_on);
+    let answer = hart.step();
+    Some(AfterAStep {
+        answer,
+        pc: hart.pc(),
+        registers: *hart.regs(),
+        stored: hart.memory().load(0x100000, Width::Double),
+    })
+}
+
+#[test]
+fn steps(rt: HostRuntime) {
     let data = 0x1122_3344_5566_7788u64.to_le_bytes();
-    let (answer, end, stored) = stepped(rt.alloc(), BYTE_IN_A_DOUBLEWORD, &data, 2)?;
-    assert_eq!(rt; answer, Ok(()));
-    assert_eq!(rt; (end.pc, end.registers[6]), (0x1000C, 255));
-    assert_eq!(rt; stored, Ok(0x1122_3344_5566_77FF));
-    let (answer, end, _) = stepped(rt.alloc(), COUNTDOWN, &[], 21)?;
-    assert_eq!(rt; answer, Err(Stop::Ecall));
-    assert_eq!(rt; end.pc, 0x1000C);
-    assert_eq!(rt; end.registers, [0; 32]);
-    Ok(())
+    let Some(it) = stepped(rt.alloc(), BYTE_IN_A_DOUBLEWORD, &data, 2) else {
+        panic!(rt; "no hart");
+    };
+    assert_eq!(rt;
+        (it.answer, it.pc, it.registers[6], it.stored),
+        (Ok(()), 0x1000C, 255, Ok(0x1122_3344_5566_77FF))
+    );
+}
+
+#[test]
+fn steps_at_the_stop(rt: HostRuntime) {
+    let Some(it) = stepped(rt.alloc(), COUNTDOWN, &[], 21) else {
+        panic!(rt; "no hart");
+    };
+    assert_eq!(rt; (it.answer, it.pc), (Err(Stop::Ecall), 0x1000C));
+    assert_eq!(rt; it.registers, [0; 32]);
+}
+
+/// The pc, x5 and the stop there.
+type Shown = (u64, u64, Option<Stop>);
+
+fn shown(hart: &Hart) -> Shown {
+    (hart.pc(), hart.regs()[5], hart.stop_here())
 }
 
 /// Where a copy of the countdown after 7 instructions stands once the hart itself is at its stop,
 /// and where that stands.
-fn copied(alloc: Global) -> Result<(Standing, Standing), Fail> {
+fn copied(alloc: Global) -> Option<[Shown; 2]> {
     let mut hart = hart_at_start(alloc, COUNTDOWN, &[])?;
     hart.run(7);
-    let copy = hart.try_clone(alloc)?;
+    let copy = hart.try_clone(alloc).ok()?;
     hart.run(100);
-    Ok((shown(&copy), shown(&hart)))
+    Some([shown(&copy), shown(&hart)])
 }
 
-/// The environment and the first word of a copy.
-fn copied_whole(alloc: Global) -> Result<(Environment, Result<u32, Fault>), Fail> {
-    let copy = hart_at_start(alloc, COUNTDOWN, &[])?.try_clone(alloc)?;
-    Ok((copy.environment(), copy.memory().fetch(0x10000)))
+/// A copy of the countdown at its start.
+fn copy_at_start(alloc: Global) -> Option<Hart> {
+    hart_at_start(alloc, COUNTDOWN, &[])?.try_clone(alloc).ok()
 }
 
-#[test]
-fn copies(rt: HostRuntime) -> Result<(), Fail> {
-    let (copy, hart) = copied(rt.alloc())?;
-    assert_eq!(rt; (copy.pc, copy.registers[5], copy.stop), (0x10004, 7, None));
-    assert_eq!(rt;
-        (hart.pc, hart.registers[5], hart.stop),
-        (0x1000C, 0, Some(Stop::Ecall))
-    );
-    let (environment, word) = copied_whole(rt.alloc())?;
-    assert_eq!(rt; (environment, environment.number()), (Environment::One, 1));
-    assert_eq!(rt; word, Ok(0x00A0_0293));
-    Ok(())
+/// The environment, its number and the first word of that copy.
+fn copied_whole(alloc: Global) -> Option<(Environment, u8, Result<u32, Fault>)> {
+    let copy = copy_at_start(alloc)?;
+    let environment = copy.environment();
+    Some((
+        environment,
+        environment.number(),
+        copy.memory().fetch(0x10000),
+    ))
 }
 
 #[test]
-fn effect_of_add(rt: HostRuntime) -> Result<(), Fail> {
+fn copies(rt: HostRuntime) {
+    let ends = [(0x10004, 7, None), (0x1000C, 0, Some(Stop::Ecall))];
+    assert_eq!(rt; copied(rt.alloc()), Some(ends));
+    let whole = (Environment::One, 1, Ok(0x00A0_0293));
+    assert_eq!(rt; copied_whole(rt.alloc()), Some(whole));
+}
+
+/// The word of an instruction, its registers, and its effect at 0x10000 on the values of its sources.
+struct WorkedEffect {
+    word: u32,
+    first_source: u8,
+    second_source: u8,
+    destination: u8,
+    values: (u64, u64),
+    effect: Effect,
+}
+
+const WORKED_EFFECTS: &[WorkedEffect] = &[
     // add x3, x1, x2
-    let add = decode(0x0020_81B3).ok_or("add")?;
-    assert_eq!(rt; first_source(&add).index(), 1);
-    assert_eq!(rt; second_source(&add).index(), 2);
-    assert_eq!(rt; destination(&add).index(), 3);
-    assert_eq!(rt;
-        execute::<()>(&add, 0x10000, u64::MAX, 2),
-        Effect::Writes {
+    WorkedEffect {
+        word: 0x0020_81B3,
+        first_source: 1,
+        second_source: 2,
+        destination: 3,
+        values: (u64::MAX, 2),
+        effect: Effect::Writes {
             value: 1,
-            target: 0x10004
-        }
-    );
-    Ok(())
-}
-
-#[test]
-fn effect_of_a_store(rt: HostRuntime) -> Result<(), Fail> {
+            target: 0x10004,
+        },
+    },
     // sw x2, 8(x1)
-    let store = decode(0x0020_A423).ok_or("sw")?;
-    assert_eq!(rt; destination(&store).index(), 0);
-    assert_eq!(rt;
-        execute::<()>(&store, 0x10000, 0x100000, 7),
-        Effect::Stores {
+    WorkedEffect {
+        word: 0x0020_A423,
+        first_source: 1,
+        second_source: 2,
+        destination: 0,
+        values: (0x100000, 7),
+        effect: Effect::Stores {
             width: StoreWidth::Word,
             address: 0x100008,
-            value: 7
-        }
-    );
-    Ok(())
+            value: 7,
+        },
+    },
+];
+
+/// The registers of the instruction of a word, and its effect at 0x10000 on the values of its sources.
+fn effect_of(word: u32, values: (u64, u64)) -> Option<(u8, u8, u8, Effect)> {
+    let insn = decode(word)?;
+    Some((
+        first_source(&insn).index(),
+        second_source(&insn).index(),
+        destination(&insn).index(),
+        execute::<()>(&insn, 0x10000, values.0, values.1),
+    ))
+}
+
+#[test]
+fn effects(rt: HostRuntime) {
+    for it in WORKED_EFFECTS {
+        let found = effect_of(it.word, it.values);
+        let want = (it.first_source, it.second_source, it.destination, it.effect);
+        assert_eq!(rt; found, Some(want));
+    }
 }
 
 #[test]
 fn values(rt: HostRuntime) {
-    assert_eq!(rt; following(u64::MAX - 3), 0);
-    assert_eq!(rt; offset_by(2, -4), u64::MAX - 1);
-    assert_eq!(rt; load_width(LoadKind::WordUnsigned), Width::Word);
-    assert_eq!(rt; store_width(StoreWidth::Half), Width::Half);
-    assert_eq!(rt; loaded(LoadKind::Byte, 0x80), 0xFFFF_FFFF_FFFF_FF80);
-    assert_eq!(rt; loaded(LoadKind::ByteUnsigned, 0x180), 0x80);
+    assert_eq!(rt;
+        [
+            following(u64::MAX - 3),
+            offset_by(2, -4),
+            loaded(LoadKind::Byte, 0x80),
+            loaded(LoadKind::ByteUnsigned, 0x180)
+        ],
+        [0, u64::MAX - 1, 0xFFFF_FFFF_FFFF_FF80, 0x80]
+    );
+    assert_eq!(rt;
+        [
+            load_width(LoadKind::WordUnsigned),
+            store_width(StoreWidth::Half)
+        ],
+        [Width::Word, Width::Half]
+    );
 }
 
 #[test]

@@ -2,11 +2,16 @@
 
 use crate::trees::{join_of, merge};
 use join_law::{Ctx, Eight, Join, Tree, fold_eights, fold_tree, join_all, join_eights};
-use std::alloc::Global;
-use std::test::Fail;
+use std::alloc::{AllocError, Global};
+use std::fmt::Debug;
+use std::process::Abort;
 
 /// The greater counts of both.
 const FURTHEST: [u64; 8] = [5, 9, 0, 0, 0, 0, 0, 1];
+
+fn furthest() -> Eight<u64> {
+    Eight::from_array(FURTHEST)
+}
 
 // Counts 5 and 3 at contexts 0 and 1.
 fn ahead_at_0() -> Eight<u64> {
@@ -18,20 +23,19 @@ fn ahead_at_1() -> Eight<u64> {
     Eight::from_array([2, 9, 0, 0, 0, 0, 0, 1])
 }
 
-#[test]
-fn numbers_join_to_the_greater(rt: HostRuntime) {
-    for (left, right, want) in [(3, 5, 5), (5, 3, 5), (7, 7, 7), (0, u64::MAX, u64::MAX)] {
-        assert_eq!(rt;
-            join_of(Some(left), Some(right)),
-            Some(want),
-            "{left} and {right}"
-        );
-    }
+/// The join of two values, as a caller with a bound alone asks for it, is this one.
+fn assert_join<J: Join + PartialEq + Debug>(rt: &impl Abort, left: J, right: J, want: J) {
+    assert_eq!(rt; join_of(Some(left), Some(right)), Some(want));
 }
 
 #[test]
-fn none_is_neutral(rt: HostRuntime) {
-    let pairs = [
+fn joins_of_values(rt: HostRuntime) {
+    // Numbers join to the greater.
+    for (left, right, want) in [(3, 5, 5), (5, 3, 5), (7, 7, 7), (0, u64::MAX, u64::MAX)] {
+        assert_join(&rt, left, right, want);
+    }
+    // `None` is neutral.
+    let pairs: [(Option<u64>, Option<u64>, Option<u64>); 5] = [
         (None, None, None),
         (None, Some(4), Some(4)),
         (Some(4), None, Some(4)),
@@ -39,38 +43,37 @@ fn none_is_neutral(rt: HostRuntime) {
         (Some(9), Some(4), Some(9)),
     ];
     for (left, right, want) in pairs {
-        let left: Option<u64> = left;
-        assert_eq!(rt; join_of(Some(left), Some(right)), Some(want));
+        assert_join(&rt, left, right, want);
     }
-}
-
-#[test]
-fn pairs_join_part_by_part(rt: HostRuntime) {
+    // Pairs join part by part, eights place by place.
     let left: (u64, Option<u64>) = (1, Some(5));
-    let right: (u64, Option<u64>) = (2, None);
-    assert_eq!(rt; join_of(Some(left), Some(right)), Some((2, Some(5))));
+    assert_join(&rt, left, (2, None), (2, Some(5)));
+    assert_join(&rt, ahead_at_0(), ahead_at_1(), furthest());
+    assert_join(&rt, ahead_at_1(), ahead_at_0(), furthest());
 }
 
 #[test]
 fn eights_join_place_by_place(rt: HostRuntime) {
-    let there = join_of(Some(ahead_at_0()), Some(ahead_at_1()));
-    assert_eq!(rt; there.map(Eight::into_array), Some(FURTHEST));
-    let back = join_of(Some(ahead_at_1()), Some(ahead_at_0()));
-    assert_eq!(rt; back.map(Eight::into_array), Some(FURTHEST));
     assert_eq!(rt; ahead_at_0().join(ahead_at_1()).into_array(), FURTHEST);
+}
+
+/// The number of the context with this number.
+fn index_of(number: usize) -> Option<usize> {
+    Some(Ctx::new(number)?.index())
 }
 
 #[test]
 fn contexts_are_the_numbers_below_eight(rt: HostRuntime) {
-    assert_eq!(rt; Ctx::new(7).map(|context| context.index()), Some(7));
-    assert_eq!(rt; Ctx::new(8), None);
+    assert_eq!(rt; [index_of(7), index_of(8)], [Some(7), None]);
     let mut number = 0;
     for context in Ctx::all() {
-        assert_eq!(rt; context.index(), number);
-        assert_eq!(rt; Ctx::new(number), Some(context));
+        assert_eq!(rt;
+            (context.index(), Ctx::new(number)),
+            (number, Some(context))
+        );
         number += 1;
     }
-    assert_eq!(rt; number, 8);
+    assert!(rt; number == 8);
 }
 
 #[test]
@@ -97,58 +100,64 @@ fn folded(tree: Option<Tree<Eight<u64>>>) -> Option<[u64; 8]> {
     Some(fold_tree(tree?).into_array())
 }
 
-#[test]
-fn leaves_alone_decide_a_tree(rt: HostRuntime) {
-    let alloc = rt.alloc();
-    let tree = merge(alloc, leaf_0(), leaf_1());
-    assert_eq!(rt; folded(tree), Some(FURTHEST));
-    let mirror = merge(alloc, leaf_1(), leaf_0());
-    assert_eq!(rt; folded(mirror), Some(FURTHEST));
-    let left = merge(alloc, leaf_0(), leaf_0());
-    let repeated = merge(alloc, left, merge(alloc, leaf_0(), leaf_1()));
-    assert_eq!(rt; folded(repeated), Some(FURTHEST));
-    let regrouped = merge(alloc, merge(alloc, leaf_0(), leaf_1()), leaf_0());
-    assert_eq!(rt; folded(regrouped), Some(FURTHEST));
+// What a tree folds to as one of eights, if it is there.
+fn folded_as_eights(tree: Option<Tree<Eight<u64>>>) -> Option<[u64; 8]> {
+    Some(fold_eights(tree?).into_array())
 }
 
-// The trees of depth 1000 that the numbers below 1001 make, each merged on the right and on the left.
-fn deep(alloc: Global) -> Option<(Tree<u64>, Tree<u64>)> {
+// What a tree of both leaves folds to, its mirror, one that repeats a leaf, and one that is grouped otherwise.
+fn folded_trees(alloc: Global) -> [Option<[u64; 8]>; 5] {
+    let repeated = merge(alloc, leaf_0(), leaf_0());
+    let regrouped = merge(alloc, leaf_0(), leaf_1());
+    [
+        folded(merge(alloc, leaf_0(), leaf_1())),
+        folded(merge(alloc, leaf_1(), leaf_0())),
+        folded(merge(alloc, repeated, merge(alloc, leaf_0(), leaf_1()))),
+        folded(merge(alloc, regrouped, leaf_0())),
+        folded_as_eights(merge(alloc, leaf_1(), leaf_0())),
+    ]
+}
+
+#[test]
+fn leaves_alone_decide_a_tree(rt: HostRuntime) {
+    assert_eq!(rt; folded_trees(rt.alloc()), [Some(FURTHEST); 5]);
+}
+
+// What the tree of depth 1000 that merges the numbers below 1001 on the right folds to. The one that merges them on the
+// left is dropped.
+fn folded_deep(alloc: Global) -> Option<u64> {
     let mut tree = Some(Tree::Leaf(0));
     let mut dropped = Some(Tree::Leaf(0));
     for count in 1..1001 {
         tree = merge(alloc, tree, Some(Tree::Leaf(count)));
         dropped = merge(alloc, Some(Tree::Leaf(count)), dropped);
     }
-    Some((tree?, dropped?))
-}
-
-#[test]
-fn folds_a_tree_of_depth_1000(rt: HostRuntime) -> Result<(), Fail> {
-    let (tree, dropped) = deep(rt.alloc()).ok_or("a tree")?;
-    assert_eq!(rt; fold_tree(tree), 1000);
-    drop(dropped);
-    Ok(())
+    drop(dropped?);
+    Some(fold_tree(tree?))
 }
 
 // The join of a number and others.
-fn joined(alloc: Global, first: u64, others: &[u64]) -> Result<u64, Fail> {
-    Ok(join_all(first, Vec::from_slice(alloc, others)?))
+fn joined(alloc: Global, first: u64, others: &[u64]) -> Option<u64> {
+    Some(join_all(first, Vec::from_slice(alloc, others).ok()?))
 }
 
-// The join of eights as a list, and as a tree's leaves.
-fn joined_eights(alloc: Global) -> Result<[u64; 8], Fail> {
+// The join of eights as a list.
+fn joined_eights(alloc: Global) -> Result<[u64; 8], AllocError> {
     let others = vec![in alloc; ahead_at_1(), ahead_at_0(), ahead_at_1()]?;
     Ok(join_eights(ahead_at_0(), others).into_array())
 }
 
 #[test]
-fn joins_a_list(rt: HostRuntime) -> Result<(), Fail> {
+fn joins_lists_and_a_deep_tree(rt: HostRuntime) {
     let alloc = rt.alloc();
-    assert_eq!(rt; joined(alloc, 4, &[9, 2, 9])?, 9);
-    assert_eq!(rt; joined(alloc, 9, &[2, 4])?, 9);
-    assert_eq!(rt; joined(alloc, 4, &[])?, 4);
-    assert_eq!(rt; joined_eights(alloc)?, FURTHEST);
-    let tree = merge(alloc, leaf_1(), leaf_0()).ok_or("a tree")?;
-    assert_eq!(rt; fold_eights(tree).into_array(), FURTHEST);
-    Ok(())
+    assert_eq!(rt;
+        [
+            joined(alloc, 4, &[9, 2, 9]),
+            joined(alloc, 9, &[2, 4]),
+            joined(alloc, 4, &[]),
+            folded_deep(alloc)
+        ],
+        [Some(9), Some(9), Some(4), Some(1000)]
+    );
+    assert_eq!(rt; joined_eights(alloc).ok(), Some(FURTHEST));
 }

@@ -10,17 +10,16 @@ use crate::trees::{join_of, listed, merge, with_place_1};
 use checkpoint::{
     Mark, MarkFault, aligned, furthest, furthest_each, furthest_leaf, furthest_leaf_each, starts,
 };
-use hart_step::{Environment, Stop};
+use hart_step::{Environment, Hart, Stop};
 use join_law::{Ctx, Eight, Tree};
 use origin_set::Origin;
 use std::alloc::Global;
 use std::sync::Arc;
-use std::test::Fail;
 
 /// The origin with the countdown at contexts 0 and 1, and a data byte at context 1.
-fn origin_of(alloc: Global, byte: u8) -> Result<Arc<Origin>, Fail> {
-    let first = program(alloc, &COUNTDOWN, &[])?;
-    let second = program(alloc, &COUNTDOWN, &[byte])?;
+fn origin_of(alloc: Global, byte: u8) -> Option<Arc<Origin>> {
+    let first = program(alloc, &COUNTDOWN, &[]).ok()?;
+    let second = program(alloc, &COUNTDOWN, &[byte]).ok()?;
     let programs = [
         Some(first),
         Some(second),
@@ -31,8 +30,8 @@ fn origin_of(alloc: Global, byte: u8) -> Result<Arc<Origin>, Fail> {
         None,
         None,
     ];
-    let origin = Origin::new(programs, Environment::One)?;
-    Ok(Arc::new(alloc, origin)?)
+    let origin = Origin::new(programs, Environment::One).ok()?;
+    Arc::new(alloc, origin).ok()
 }
 
 /// Takes a mark from its start so many instructions further, at most 1000.
@@ -57,13 +56,15 @@ fn mark_at(alloc: Global, origin: &Arc<Origin>, context: Ctx, count: u64) -> Opt
 }
 
 /// The count, the pc and x5 of a mark.
-fn shown(mark: &Mark) -> (u64, u64, u64) {
+type Shown = (u64, u64, u64);
+
+fn shown(mark: &Mark) -> Shown {
     let state = mark.state();
     (mark.count(), state.pc(), state.regs()[5])
 }
 
 /// What a mark that went on to the stop shows, and what a copy of it from before does.
-fn to_the_stop(alloc: Global, mark: &mut Mark) -> Option<[(u64, u64, u64); 2]> {
+fn to_the_stop(alloc: Global, mark: &mut Mark) -> Option<[Shown; 2]> {
     if mark.count() > 1000 {
         return None;
     }
@@ -72,60 +73,55 @@ fn to_the_stop(alloc: Global, mark: &mut Mark) -> Option<[(u64, u64, u64); 2]> {
     Some([shown(mark), shown(&copy)])
 }
 
-/// What a mark shows at its start and after 7 instructions, what that advance returns, whether origin and context are
-/// kept, and what the mark and its copy show at the stop.
-#[derive(Clone, Copy)]
-struct CountingDown {
-    start: (u64, u64, u64),
-    answer: Result<(u64, Option<Stop>), MarkFault>,
-    later: (u64, u64, u64),
-    is_kept: bool,
-    ends: Option<[(u64, u64, u64); 2]>,
-}
-
-fn countdown(alloc: Global, origin: &Arc<Origin>, context: Ctx) -> Option<CountingDown> {
+/// What a mark shows at its start and after 7 instructions, and what the mark and its copy show once the mark has gone on
+/// to its stop.
+fn countdown(alloc: Global, origin: &Arc<Origin>, context: Ctx) -> Option<[Shown; 4]> {
     let mut mark = Mark::start(alloc, origin, context).ok()?;
     let start = shown(&mark);
-    let answer = mark.advance(7);
+    let _ = mark.advance(7);
     let later = shown(&mark);
-    let is_kept = mark.context() == context && mark.origin().same(origin);
-    let ends = to_the_stop(alloc, &mut mark);
-    Some(CountingDown {
-        start,
-        answer,
-        later,
-        is_kept,
-        ends,
-    })
+    let [end, copy] = to_the_stop(alloc, &mut mark)?;
+    Some([start, later, end, copy])
 }
 
-/// The registers and pc of a mark's hart.
-fn hart_of(alloc: Global, mark: &Mark) -> Option<([u64; 32], u64)> {
-    let hart = mark.hart(alloc).ok()?;
-    Some((*hart.regs(), hart.pc()))
-}
-
-/// What a run of 30 instructions of a context returns, and the registers and pc of the hart then.
-#[derive(Clone, Copy)]
-struct AtTheStop {
-    answer: Result<(u64, Option<Stop>), MarkFault>,
-    hart: Option<([u64; 32], u64)>,
-}
-
-fn at_the_stop(alloc: Global, origin: &Arc<Origin>, context: Ctx) -> Option<AtTheStop> {
-    let mut mark = Mark::start(alloc, origin, context).ok()?;
-    let answer = mark.advance(30);
-    let hart = hart_of(alloc, &mark);
-    Some(AtTheStop { answer, hart })
-}
-
-/// What the join of two marks of a context shows, where they are kin.
-fn joined(
+/// What an advance by so many instructions returns, and whether the mark keeps its origin and context.
+fn advance(
     alloc: Global,
     origin: &Arc<Origin>,
     context: Ctx,
-    counts: (u64, u64),
-) -> Option<(u64, u64, u64)> {
+    count: u64,
+) -> Option<(Result<(u64, Option<Stop>), MarkFault>, bool)> {
+    let mut mark = Mark::start(alloc, origin, context).ok()?;
+    let answer = mark.advance(count.min(1000));
+    Some((
+        answer,
+        mark.context() == context && mark.origin().same(origin),
+    ))
+}
+
+/// The hart of the mark of a context after so many instructions.
+fn hart_at(alloc: Global, origin: &Arc<Origin>, context: Ctx, count: u64) -> Option<Hart> {
+    mark_at(alloc, origin, context, count)?.hart(alloc).ok()
+}
+
+/// The registers and pc of a hart.
+#[derive(Clone, Copy)]
+struct Standing {
+    registers: [u64; 32],
+    pc: u64,
+}
+
+/// Where that hart stands.
+fn standing_at(alloc: Global, origin: &Arc<Origin>, context: Ctx, count: u64) -> Option<Standing> {
+    let hart = hart_at(alloc, origin, context, count)?;
+    Some(Standing {
+        registers: *hart.regs(),
+        pc: hart.pc(),
+    })
+}
+
+/// What the join of two marks of a context shows, where they are kin.
+fn joined(alloc: Global, origin: &Arc<Origin>, context: Ctx, counts: (u64, u64)) -> Option<Shown> {
     let left = mark_at(alloc, origin, context, counts.0);
     let right = mark_at(alloc, origin, context, counts.1);
     let mark = join_of(left, right)?;
@@ -163,6 +159,11 @@ fn two(
     merge(alloc, left, leaf(alloc, origin, right))
 }
 
+/// The counts at contexts 0 and 1.
+fn counts_of(grid: Eight<Mark>) -> (u64, u64) {
+    (grid.c0.count(), grid.c1.count())
+}
+
 /// The counts at contexts 0 and 1 of a folded tree of grids of the origin.
 fn folded(origin: &Arc<Origin>, tree: Option<Tree<Eight<Mark>>>) -> Option<(u64, u64)>
     requires { All (AreMarksOf (arc_value origin.now)) (leaves_of tree) }
@@ -172,7 +173,7 @@ fn folded(origin: &Arc<Origin>, tree: Option<Tree<Eight<Mark>>>) -> Option<(u64,
         return None;
     };
     let best = furthest_leaf_each(tree);
-    Some((best.c0.count(), best.c1.count()))
+    Some(counts_of(best))
 }
 
 const FIVE_THREE: (u64, u64) = (5, 3);
@@ -226,117 +227,120 @@ fn folded_both_ways(
     folded(origin, merge(alloc, left, right))
 }
 
-/// The furthest of both grids, merged both ways, doubled and regrouped.
-fn folded_counts(alloc: Global, origin: &Arc<Origin>) -> Option<[(u64, u64); 5]> {
-    Some([
-        folded_two(alloc, origin, FIVE_THREE, TWO_NINE)?,
-        folded_two(alloc, origin, TWO_NINE, FIVE_THREE)?,
-        folded_to_the_left(alloc, origin, [FIVE_THREE, TWO_NINE, FIVE_THREE])?,
-        folded_to_the_right(alloc, origin, [TWO_NINE, TWO_NINE, FIVE_THREE])?,
-        folded_both_ways(alloc, origin, TWO_NINE, FIVE_THREE)?,
-    ])
-}
-
 /// The furthest of the marks of a context after 2 and 9 instructions, as a list and then as a leaf.
 fn furthest_of_list(alloc: Global, origin: &Arc<Origin>, context: Ctx) -> Option<u64> {
-    let first = mark_at(alloc, origin, context, 2)?;
-    let second = mark_at(alloc, origin, context, 9)?;
+    let first = mark_at(alloc, origin, context, 2);
+    let second = mark_at(alloc, origin, context, 9);
     let (first, others) = listed(alloc, first, second)?;
     Some(furthest_leaf(Tree::<Mark>::Leaf(furthest(first, others))).count())
 }
 
-/// The counts at contexts 0 and 1 of the furthest of two grids.
+/// The counts at contexts 0 and 1 of the furthest of two grids, as a list.
 fn furthest_counts(alloc: Global, origin: &Arc<Origin>) -> Option<(u64, u64)> {
-    let first = grid(alloc, origin, FIVE_THREE)?;
-    let second = grid(alloc, origin, TWO_NINE)?;
+    let first = grid(alloc, origin, FIVE_THREE);
+    let second = grid(alloc, origin, TWO_NINE);
     let (first, others) = listed(alloc, first, second)?;
     let best = furthest_each(first, others);
-    Some((best.c0.count(), best.c1.count()))
+    Some(counts_of(best))
 }
 
-/// What marks of the countdown show.
+/// What advances, joins and copies of the countdown's mark of context 0 show.
 #[derive(Clone, Copy)]
 struct ShownMarks {
-    countdown: CountingDown,
-    at_the_stop: AtTheStop,
-    joined: [(u64, u64, u64); 4],
-    folded: [(u64, u64); 5],
-    of_list: u64,
-    of_eights: (u64, u64),
+    countdown: Option<[Shown; 4]>,
+    answers: [Option<(Result<(u64, Option<Stop>), MarkFault>, bool)>; 2],
+    joins: [Option<Shown>; 4],
+    of_list: Option<u64>,
 }
 
-fn shown_by(alloc: Global, origin: &Arc<Origin>) -> Option<ShownMarks> {
+fn shown_by(alloc: Global, origin: &Arc<Origin>) -> ShownMarks {
     let [first, ..] = Ctx::all();
-    Some(ShownMarks {
-        countdown: countdown(alloc, origin, first)?,
-        at_the_stop: at_the_stop(alloc, origin, first)?,
-        joined: [
-            joined(alloc, origin, first, (4, 7))?,
-            joined(alloc, origin, first, (7, 4))?,
-            joined(alloc, origin, first, (7, 7))?,
-            joined(alloc, origin, first, (30, 0))?,
+    ShownMarks {
+        countdown: countdown(alloc, origin, first),
+        answers: [
+            advance(alloc, origin, first, 7),
+            advance(alloc, origin, first, 30),
         ],
-        folded: folded_counts(alloc, origin)?,
-        of_list: furthest_of_list(alloc, origin, first)?,
-        of_eights: furthest_counts(alloc, origin)?,
-    })
+        joins: [
+            joined(alloc, origin, first, (4, 7)),
+            joined(alloc, origin, first, (7, 4)),
+            joined(alloc, origin, first, (7, 7)),
+            joined(alloc, origin, first, (30, 0)),
+        ],
+        of_list: furthest_of_list(alloc, origin, first),
+    }
 }
 
 /// What marks of the countdown show, where memory suffices. Here alone the origin is held.
-fn marks_shown(alloc: Global) -> Result<ShownMarks, Fail> {
+fn marks_shown(alloc: Global) -> Option<ShownMarks> {
     let origin = origin_of(alloc, 1)?;
-    let shown = shown_by(alloc, &origin);
-    drop(origin);
-    Ok(shown.ok_or("a mark")?)
+    Some(shown_by(alloc, &origin))
 }
 
 #[test]
-fn counts_down(rt: HostRuntime) -> Result<(), Fail> {
-    let shown = marks_shown(rt.alloc())?.countdown;
-    assert_eq!(rt; shown.start, (0, 0x10000, 0));
-    assert_eq!(rt; shown.answer, Ok((7, None)));
-    assert_eq!(rt; shown.later, (7, 0x10004, 7));
-    assert!(rt; shown.is_kept);
-    assert_eq!(rt; shown.ends, Some([(21, 0x1000c, 0), (7, 0x10004, 7)]));
-    Ok(())
+fn marks_of_a_countdown(rt: HostRuntime) {
+    let Some(it) = marks_shown(rt.alloc()) else {
+        panic!(rt; "no mark");
+    };
+    let countdown = [
+        (0, 0x10000, 0),
+        (7, 0x10004, 7),
+        (21, 0x1000c, 0),
+        (7, 0x10004, 7),
+    ];
+    assert_eq!(rt; it.countdown, Some(countdown));
+    let answers = [
+        Some((Ok((7, None)), true)),
+        Some((Ok((21, Some(Stop::Ecall))), true)),
+    ];
+    assert_eq!(rt; it.answers, answers);
+    // Two marks join to the further.
+    let further = [
+        Some((7, 0x10004, 7)),
+        Some((7, 0x10004, 7)),
+        Some((7, 0x10004, 7)),
+        Some((21, 0x1000c, 0)),
+    ];
+    assert_eq!(rt; it.joins, further);
+    assert_eq!(rt; it.of_list, Some(9));
+}
+
+/// Where the hart of context 0 stands at its stop.
+fn stopped(alloc: Global) -> Option<Standing> {
+    let origin = origin_of(alloc, 1)?;
+    let [first, ..] = Ctx::all();
+    standing_at(alloc, &origin, first, 30)
 }
 
 #[test]
-fn stops(rt: HostRuntime) -> Result<(), Fail> {
-    let shown = marks_shown(rt.alloc())?.at_the_stop;
-    let (registers, pc) = shown.hart.ok_or("a hart")?;
-    assert_eq!(rt; shown.answer, Ok((21, Some(Stop::Ecall))));
-    assert_eq!(rt; registers, [0; 32]);
-    assert_eq!(rt; pc, 0x1000c);
-    Ok(())
+fn stops(rt: HostRuntime) {
+    let Some(it) = stopped(rt.alloc()) else {
+        panic!(rt; "no hart");
+    };
+    assert_eq!(rt; it.registers, [0; 32]);
+    assert!(rt; it.pc == 0x1000c);
+}
+
+/// The furthest of both grids, merged both ways, doubled and regrouped, and as a list.
+fn furthest_of_grids(alloc: Global, origin: &Arc<Origin>) -> [Option<(u64, u64)>; 6] {
+    [
+        folded_two(alloc, origin, FIVE_THREE, TWO_NINE),
+        folded_two(alloc, origin, TWO_NINE, FIVE_THREE),
+        folded_to_the_left(alloc, origin, [FIVE_THREE, TWO_NINE, FIVE_THREE]),
+        folded_to_the_right(alloc, origin, [TWO_NINE, TWO_NINE, FIVE_THREE]),
+        folded_both_ways(alloc, origin, TWO_NINE, FIVE_THREE),
+        furthest_counts(alloc, origin),
+    ]
+}
+
+fn grids_shown(alloc: Global) -> Option<[Option<(u64, u64)>; 6]> {
+    let origin = origin_of(alloc, 1)?;
+    Some(furthest_of_grids(alloc, &origin))
 }
 
 #[test]
-fn joins_to_the_further(rt: HostRuntime) -> Result<(), Fail> {
-    let [of_4_and_7, of_7_and_4, of_7_and_7, of_30_and_0] = marks_shown(rt.alloc())?.joined;
-    assert_eq!(rt; of_4_and_7, (7, 0x10004, 7));
-    assert_eq!(rt; of_7_and_4, (7, 0x10004, 7));
-    assert_eq!(rt; of_7_and_7, (7, 0x10004, 7));
-    assert_eq!(rt; of_30_and_0, (21, 0x1000c, 0));
-    Ok(())
-}
-
-#[test]
-fn grid_of_merges(rt: HostRuntime) -> Result<(), Fail> {
-    assert_eq!(rt; marks_shown(rt.alloc())?.folded, [(5, 9); 5]);
-    Ok(())
-}
-
-#[test]
-fn furthest_of_lists(rt: HostRuntime) -> Result<(), Fail> {
-    assert_eq!(rt; marks_shown(rt.alloc())?.of_list, 9);
-    Ok(())
-}
-
-#[test]
-fn furthest_of_eights(rt: HostRuntime) -> Result<(), Fail> {
-    assert_eq!(rt; marks_shown(rt.alloc())?.of_eights, (5, 9));
-    Ok(())
+fn grid_of_merges(rt: HostRuntime) {
+    assert_eq!(rt; grids_shown(rt.alloc()), Some([Some((5, 9)); 6]));
 }
 
 /// What a mark's refused copy and hart give, and what the mark shows then; none where the mark itself is refused.
@@ -344,7 +348,7 @@ fn furthest_of_eights(rt: HostRuntime) -> Result<(), Fail> {
 struct RefusedGrowths {
     copy: Option<MarkFault>,
     hart: Option<MarkFault>,
-    mark: (u64, u64, u64),
+    mark: Shown,
 }
 
 fn refused_growths(alloc: Global, origin: &Arc<Origin>) -> Option<RefusedGrowths> {
@@ -356,19 +360,20 @@ fn refused_growths(alloc: Global, origin: &Arc<Origin>) -> Option<RefusedGrowths
     Some(RefusedGrowths { copy, hart, mark })
 }
 
+fn refused_growths_of_a_countdown(alloc: Global) -> Option<RefusedGrowths> {
+    let origin = origin_of(alloc, 1)?;
+    refused_growths(alloc, &origin)
+}
+
 /// Also run with `rt try --test --fail-alloc N`, which refuses the Nth growth: C3 is returned, and the mark stays.
 #[test]
-fn returns_c3_for_refused_growths(rt: HostRuntime) -> Result<(), Fail> {
-    let origin = origin_of(rt.alloc(), 1)?;
-    let refused = refused_growths(rt.alloc(), &origin);
-    drop(origin);
-    let Some(refused) = refused else {
-        return Ok(());
+fn returns_c3_for_refused_growths(rt: HostRuntime) {
+    let Some(refused) = refused_growths_of_a_countdown(rt.alloc()) else {
+        return;
     };
     assert!(rt; matches!(&refused.copy, None | Some(MarkFault::OutOfMemory)));
     assert!(rt; matches!(&refused.hart, None | Some(MarkFault::OutOfMemory)));
     assert_eq!(rt; refused.mark, (0, 0x10000, 0));
-    Ok(())
 }
 
 /// The counts of two marks that `try_join` hands back, in its order, with its refusal.
@@ -403,66 +408,74 @@ fn aligned_with(
     Some(aligned(&marks))
 }
 
-/// What marks of two origins show.
+/// What marks of two origins show: what is refused of marks of both, of two contexts, of both and of two contexts, and of
+/// none of these; and whether eight are aligned with one of the same context of the other origin, and of another context.
 #[derive(Clone, Copy)]
 struct OfTwo {
-    of_foreign: Option<(u64, u64, MarkFault)>,
-    of_other: Option<(u64, u64, MarkFault)>,
-    of_both: Option<(u64, u64, MarkFault)>,
-    of_kin: Option<(u64, u64, MarkFault)>,
-    is_aligned: bool,
-    is_aligned_at_first: bool,
+    refusals: [Option<Option<(u64, u64, MarkFault)>>; 4],
+    are_aligned: [Option<bool>; 2],
 }
 
-fn shown_by_two(alloc: Global, origin: &Arc<Origin>, other: &Arc<Origin>) -> Option<OfTwo> {
+fn shown_by_two(alloc: Global, origin: &Arc<Origin>, other: &Arc<Origin>) -> OfTwo {
     let [first, second, ..] = Ctx::all();
-    Some(OfTwo {
-        of_foreign: refused_at(alloc, (origin, other), (first, first))?,
-        of_other: refused_at(alloc, (origin, origin), (first, second))?,
-        of_both: refused_at(alloc, (origin, other), (first, second))?,
-        of_kin: refused_at(alloc, (origin, origin), (first, first))?,
-        is_aligned: aligned_with(alloc, origin, other, second)?,
-        is_aligned_at_first: aligned_with(alloc, origin, other, first)?,
-    })
+    OfTwo {
+        refusals: [
+            refused_at(alloc, (origin, other), (first, first)),
+            refused_at(alloc, (origin, origin), (first, second)),
+            refused_at(alloc, (origin, other), (first, second)),
+            refused_at(alloc, (origin, origin), (first, first)),
+        ],
+        are_aligned: [
+            aligned_with(alloc, origin, other, second),
+            aligned_with(alloc, origin, other, first),
+        ],
+    }
 }
 
 /// What marks of two origins with these data bytes show, where memory suffices.
-fn marks_shown_of_two(alloc: Global, bytes: (u8, u8)) -> Result<OfTwo, Fail> {
+fn marks_shown_of_two(alloc: Global, bytes: (u8, u8)) -> Option<OfTwo> {
     let origin = origin_of(alloc, bytes.0)?;
     let other = origin_of(alloc, bytes.1)?;
-    let shown = shown_by_two(alloc, &origin, &other);
-    drop(origin);
-    drop(other);
-    Ok(shown.ok_or("a mark")?)
+    Some(shown_by_two(alloc, &origin, &other))
 }
 
 #[test]
-fn hands_back_what_it_refuses(rt: HostRuntime) -> Result<(), Fail> {
-    let shown = marks_shown_of_two(rt.alloc(), (1, 2))?;
-    assert_eq!(rt; shown.of_foreign, Some((5, 8, MarkFault::ForeignOrigin)));
-    assert_eq!(rt; shown.of_other, Some((5, 8, MarkFault::OtherContext)));
-    assert_eq!(rt; shown.of_both, Some((5, 8, MarkFault::ForeignOrigin)));
-    assert_eq!(rt; shown.of_kin, None);
-    Ok(())
+fn hands_back_what_it_refuses(rt: HostRuntime) {
+    let Some(it) = marks_shown_of_two(rt.alloc(), (1, 2)) else {
+        panic!(rt; "no mark");
+    };
+    let refusals = [
+        Some(Some((5, 8, MarkFault::ForeignOrigin))),
+        Some(Some((5, 8, MarkFault::OtherContext))),
+        Some(Some((5, 8, MarkFault::ForeignOrigin))),
+        Some(None),
+    ];
+    assert_eq!(rt; it.refusals, refusals);
+    assert!(rt; it.are_aligned[0] == Some(false));
 }
 
 #[test]
-fn aligns(rt: HostRuntime) -> Result<(), Fail> {
-    let of_same = marks_shown_of_two(rt.alloc(), (1, 1))?;
-    assert!(rt; of_same.is_aligned);
-    assert!(rt; !of_same.is_aligned_at_first);
-    assert!(rt; !marks_shown_of_two(rt.alloc(), (1, 2))?.is_aligned);
-    Ok(())
+fn aligns(rt: HostRuntime) {
+    let Some(it) = marks_shown_of_two(rt.alloc(), (1, 1)) else {
+        panic!(rt; "no mark");
+    };
+    assert_eq!(rt; it.are_aligned, [Some(true), Some(false)]);
+}
+
+/// Whether a fault is printed as this code.
+fn is_code(alloc: Global, fault: MarkFault, code: &str) -> Option<bool> {
+    Some(fault.to_string(alloc).ok()?.as_str() == code)
 }
 
 #[test]
-fn codes(rt: HostRuntime) -> Result<(), Fail> {
+fn codes(rt: HostRuntime) {
     let alloc = rt.alloc();
-    let foreign = MarkFault::ForeignOrigin.to_string(alloc)?;
-    assert_eq!(rt; foreign.as_str(), "C1");
-    let other = MarkFault::OtherContext.to_string(alloc)?;
-    assert_eq!(rt; other.as_str(), "C2");
-    let memory = MarkFault::OutOfMemory.to_string(alloc)?;
-    assert_eq!(rt; memory.as_str(), "C3");
-    Ok(())
+    assert_eq!(rt;
+        [
+            is_code(alloc, MarkFault::ForeignOrigin, "C1"),
+            is_code(alloc, MarkFault::OtherContext, "C2"),
+            is_code(alloc, MarkFault::OutOfMemory, "C3")
+        ],
+        [Some(true); 3]
+    );
 }

@@ -1,9 +1,9 @@
 //! Values of any type, merged and listed. What a concrete function holds is dropped on each of its ways out at a cost in
 //! proof, so what may be missing is passed on here as an `Option`, where the type is a parameter.
 
-ghost use Rattle.std.specs.Prelude.{◌≡◌, ◌∷◌, ◌++◌, [], IfSome};
+ghost use Rattle.std.specs.Prelude.{◌≡◌, ◌++◌, IfSome, Some};
 ghost use Rattle.join_law.specs.Tree.{leaves};
-ghost use Rattle.mark_tests.specs.Leaves.{leaves_of};
+ghost use Rattle.mark_tests.specs.Leaves.{leaves_of, list_of};
 
 use join_law::{Eight, Join, Tree};
 use std::alloc::Global;
@@ -22,14 +22,13 @@ pub fn merge<J: Drop>(
 }
 
 /// A value, and the list of another.
-pub fn listed<J: Drop>(alloc: Global, first: J, second: J) -> Option<(J, Vec<J>)>
-    ensures first { IfSome result (λ both. both.0 ≡ first) }
-    ensures second { IfSome result (λ both. both.1.items ≡ second ∷ []) }
+pub fn listed<J: Drop>(alloc: Global, first: Option<J>, second: Option<J>) -> Option<(J, Vec<J>)>
+    ensures first { IfSome result (λ both. first ≡ Some both.0) }
+    ensures second { IfSome result (λ both. both.1.items ≡ list_of second) }
 {
+    let first = first?;
     let mut others = Vec::new(alloc);
-    if others.push(second).is_err() {
-        return None;
-    }
+    others.push(second?).ok()?;
     Some((first, others))
 }
 

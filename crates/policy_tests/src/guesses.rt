@@ -1,202 +1,228 @@
 //! The predictor's table, by the guesses that it gives.
-ghost use Rattle.std.specs.Prelude.{◌<◌};
 
 use branch_predict::{Always, Guess, Sequential, Tables};
 use join_law::Ctx;
 use rv64_decode::{AluOp, BranchCondition, BranchOffset, Immediate, Insn, JumpOffset, Register};
+use std::alloc::Global;
 use std::process::Abort;
-use std::test::Fail;
 
 const PC: u64 = 0x10000;
+/// Where a branch at `PC` goes on if it is taken.
+const TAKEN: u64 = PC + 64;
+/// Where one goes on that isn't.
+const LINE: u64 = PC + 4;
 
-// Context 0 fetched an instruction.
-fn ask<G: Guess>(guess: &mut G, pc: u64, insn: &Insn) -> u64 {
-    guess.guess(Ctx::all()[0], pc, insn)
+/// An instruction of a script.
+enum Kind {
+    /// `beq x0, x0` to the instruction 64 bytes on.
+    Branch,
+    /// `jal rd` to the instruction 16 bytes on.
+    Jal(u8),
+    /// `jalr rd, 8(rs1)`.
+    Jalr(u8, u8),
+    /// `add x1, x0, x0`.
+    Add,
 }
 
-// An instruction of context 0 retired, so often.
-fn tell<G: Guess>(guess: &mut G, pc: u64, insn: &Insn, next: u64, times: u32) {
-    for k in 0..times {
-        guess.learn(Ctx::all()[0], pc, insn, next);
+fn insn_of(kind: &Kind) -> Insn {
+    match kind {
+        Kind::Branch => Insn::Branch {
+            condition: BranchCondition::Equal,
+            rs1: Register::new(0),
+            rs2: Register::new(0),
+            offset: BranchOffset::new(64),
+        },
+        Kind::Jal(rd) => Insn::Jal {
+            rd: Register::new(*rd % 32),
+            offset: JumpOffset::new(16),
+        },
+        Kind::Jalr(rd, rs1) => Insn::Jalr {
+            rd: Register::new(*rd % 32),
+            rs1: Register::new(*rs1 % 32),
+            immediate: Immediate::new(8),
+        },
+        Kind::Add => Insn::Alu {
+            op: AluOp::Add,
+            rd: Register::new(1),
+            rs1: Register::new(0),
+            rs2: Register::new(0),
+        },
     }
 }
 
-// Context 0 fetches each in turn, and goes on as the table says.
-fn assert_asked<G: Guess>(rt: &impl Abort, guess: &mut G, table: &[(u64, Insn, u64)]) {
-    for (pc, insn, want) in table {
-        assert_eq!(rt; ask(guess, *pc, insn), *want, "{insn:?} at {pc}");
+/// A step of a script: the pc of an instruction, the instruction, and where it goes on.
+enum Step {
+    /// Context 0 fetches it, and goes on there by the guess.
+    Fetches(u64, Kind, u64),
+    /// Context 7 does.
+    LastFetches(u64, Kind, u64),
+    /// An instruction of context 0 retired and went on there, so often.
+    Retires(u64, Kind, u64, u32),
+}
+
+use Kind::{Add, Branch, Jal, Jalr};
+use Step::{Fetches, LastFetches, Retires};
+
+const COUNTERS_START_AT_1_AND_STOP_AT_0_AND_3: &[Step] = &[
+    Fetches(PC, Branch, LINE),
+    Retires(PC, Branch, TAKEN, 1),
+    Fetches(PC, Branch, TAKEN),
+    Retires(PC, Branch, LINE, 1),
+    Fetches(PC, Branch, LINE),
+    Retires(PC, Branch, LINE, 5),
+    Fetches(PC, Branch, LINE),
+    Retires(PC, Branch, TAKEN, 1),
+    Fetches(PC, Branch, LINE),
+    Retires(PC, Branch, TAKEN, 1),
+    Fetches(PC, Branch, TAKEN),
+    Retires(PC, Branch, TAKEN, 5),
+    Fetches(PC, Branch, TAKEN),
+    Retires(PC, Branch, LINE, 1),
+    Fetches(PC, Branch, TAKEN),
+    Retires(PC, Branch, LINE, 1),
+    Fetches(PC, Branch, LINE),
+];
+
+const BRANCHES_1024_BYTES_APART_SHARE_A_COUNTER: &[Step] = &[
+    Retires(PC, Branch, PC + 64, 1),
+    Fetches(PC + 1024, Branch, PC + 1088),
+    Fetches(PC + 1020, Branch, PC + 1024),
+    Fetches(PC + 4, Branch, PC + 8),
+    Fetches(PC + 256, Branch, PC + 260),
+];
+
+/// Nine calls, the returns from the last eight, and one more: the stack is empty.
+const A_NINTH_RETURN_ADDRESS_DROPS_THE_OLDEST: &[Step] = &[
+    Fetches(PC, Jal(1), PC + 16),
+    Fetches(PC + 256, Jal(1), PC + 272),
+    Fetches(PC + 512, Jal(1), PC + 528),
+    Fetches(PC + 768, Jal(1), PC + 784),
+    Fetches(PC + 1024, Jal(1), PC + 1040),
+    Fetches(PC + 1280, Jal(1), PC + 1296),
+    Fetches(PC + 1536, Jal(1), PC + 1552),
+    Fetches(PC + 1792, Jal(1), PC + 1808),
+    Fetches(PC + 2048, Jal(1), PC + 2064),
+    Fetches(PC, Jalr(0, 1), PC + 2052),
+    Fetches(PC, Jalr(0, 1), PC + 1796),
+    Fetches(PC, Jalr(0, 1), PC + 1540),
+    Fetches(PC, Jalr(0, 1), PC + 1284),
+    Fetches(PC, Jalr(0, 1), PC + 1028),
+    Fetches(PC, Jalr(0, 1), PC + 772),
+    Fetches(PC, Jalr(0, 1), PC + 516),
+    Fetches(PC, Jalr(0, 1), PC + 260),
+    Fetches(PC, Jalr(0, 1), PC + 4),
+];
+
+/// A squash isn't shown to a guess: what was fetched past it stays pushed.
+const A_CUT_LEAVES_THE_STACK: &[Step] = &[
+    Fetches(PC, Jal(1), PC + 16),
+    Fetches(PC + 32, Jalr(1, 5), PC + 36),
+    Retires(PC, Jal(1), PC + 16, 1),
+    Fetches(PC + 64, Jalr(0, 1), PC + 36),
+    Fetches(PC + 64, Jalr(0, 1), PC + 4),
+    Fetches(PC + 64, Jalr(0, 1), PC + 68),
+];
+
+/// A return writes no target.
+const OTHER_JUMPS_GO_BY_THEIR_LAST_TARGETS: &[Step] = &[
+    Fetches(PC, Jalr(1, 5), PC + 4),
+    Fetches(PC, Jalr(1, 1), PC + 4),
+    Fetches(PC, Jalr(0, 5), PC + 4),
+    Fetches(PC, Jalr(5, 1), PC + 4),
+    Retires(PC, Jalr(0, 1), 0x20000, 1),
+    Fetches(PC, Jalr(0, 5), PC + 4),
+    Retires(PC, Jalr(1, 5), 0x30000, 1),
+    Fetches(PC, Jalr(0, 5), 0x30000),
+    Fetches(PC + 256, Jalr(0, 5), 0x30000),
+    Fetches(PC + 4, Jalr(0, 5), PC + 8),
+];
+
+const CONTEXTS_ARE_APART: &[Step] = &[
+    Retires(PC, Branch, PC + 64, 1),
+    Retires(PC, Jalr(0, 5), 0x30000, 1),
+    Fetches(PC + 128, Jal(1), PC + 144),
+    LastFetches(PC, Branch, PC + 4),
+    LastFetches(PC, Jalr(0, 5), PC + 4),
+    LastFetches(PC, Jalr(0, 1), PC + 4),
+    Fetches(PC, Jalr(0, 1), PC + 132),
+];
+
+const WHAT_IS_NO_CALL_PUSHES_NOTHING: &[Step] = &[
+    Fetches(PC, Jal(0), PC + 16),
+    Fetches(PC, Jal(5), PC + 16),
+    Fetches(PC, Jalr(5, 6), PC + 4),
+    Fetches(PC, Branch, PC + 4),
+    Fetches(PC, Add, PC + 4),
+    Fetches(PC + 64, Jalr(0, 1), PC + 68),
+];
+
+const ALWAYS_LEARNS_NOTHING: &[Step] = &[
+    Retires(PC, Branch, PC + 64, 2),
+    Fetches(PC, Branch, u64::MAX),
+    Retires(PC, Jal(1), PC + 64, 2),
+    Fetches(PC, Jal(1), u64::MAX),
+    Retires(PC, Jalr(0, 1), PC + 64, 2),
+    Fetches(PC, Jalr(0, 1), u64::MAX),
+];
+
+const SEQUENTIAL_LEARNS_NOTHING: &[Step] = &[
+    Retires(PC, Branch, PC + 64, 2),
+    Fetches(PC, Branch, PC + 4),
+    Retires(PC, Jal(1), PC + 64, 2),
+    Fetches(PC, Jal(1), PC + 4),
+    Retires(PC, Jalr(0, 1), PC + 64, 2),
+    Fetches(PC, Jalr(0, 1), PC + 4),
+    Fetches(u64::MAX - 3, Branch, 0),
+];
+
+/// Where a step goes on by the guess, and where by the script.
+fn goes_on<G: Guess>(guess: &mut G, step: &Step) -> (u64, u64) {
+    let [first, .., last] = Ctx::all();
+    match step {
+        Fetches(pc, kind, next) => (guess.guess(first, *pc, &insn_of(kind)), *next),
+        LastFetches(pc, kind, next) => (guess.guess(last, *pc, &insn_of(kind)), *next),
+        Retires(pc, kind, next, times) => {
+            for k in 0..*times {
+                guess.learn(first, *pc, &insn_of(kind), *next);
+            }
+            (*next, *next)
+        }
     }
 }
 
-// `beq x0, x0` to the instruction 64 bytes on.
-fn branch() -> Insn {
-    Insn::Branch {
-        condition: BranchCondition::Equal,
-        rs1: Register::new(0),
-        rs2: Register::new(0),
-        offset: BranchOffset::new(64),
+/// A guess gives the script's guesses.
+fn assert_script<G: Guess>(rt: &impl Abort, guess: &mut G, script: &[Step]) {
+    for (number, step) in script.iter().enumerate() {
+        let (found, want) = goes_on(guess, step);
+        assert_eq!(rt; found, want, "step {number}");
     }
 }
 
-// `jal rd` to the instruction 16 bytes on.
-fn jal(rd: u8) -> Insn
-    requires { rd < 32 }
-{
-    Insn::Jal {
-        rd: Register::new(rd),
-        offset: JumpOffset::new(16),
-    }
-}
-
-// `jalr rd, 8(rs1)`.
-fn jalr(rd: u8, rs1: u8) -> Insn
-    requires link { rd < 32 }
-    requires base { rs1 < 32 }
-{
-    Insn::Jalr {
-        rd: Register::new(rd),
-        rs1: Register::new(rs1),
-        immediate: Immediate::new(8),
-    }
-}
-
-#[test]
-fn counters_start_at_1_and_stop_at_0_and_3(rt: HostRuntime) -> Result<(), Fail> {
-    let mut tables = Tables::new(rt.alloc())?;
-    let (taken, line) = (PC + 64, PC + 4);
-    assert_eq!(rt; ask(&mut tables, PC, &branch()), line, "at 1");
-    // So often it goes on there, and the guess after that.
-    let retired = [
-        (taken, 1, taken),
-        (line, 1, line),
-        (line, 5, line),
-        (taken, 1, line),
-        (taken, 1, taken),
-        (taken, 5, taken),
-        (line, 1, taken),
-        (line, 1, line),
-    ];
-    for (next, times, want) in retired {
-        tell(&mut tables, PC, &branch(), next, times);
-        assert_eq!(rt; ask(&mut tables, PC, &branch()), want, "{times} to {next}");
-    }
-    Ok(())
-}
-
-#[test]
-fn branches_1024_bytes_apart_share_a_counter(rt: HostRuntime) -> Result<(), Fail> {
-    let mut tables = Tables::new(rt.alloc())?;
-    tell(&mut tables, PC, &branch(), PC + 64, 1);
-    let table = [
-        (PC + 1024, branch(), PC + 1088),
-        (PC + 1020, branch(), PC + 1024),
-        (PC + 4, branch(), PC + 8),
-        (PC + 256, branch(), PC + 260),
-    ];
-    assert_asked(&rt, &mut tables, &table);
-    Ok(())
-}
-
-#[test]
-fn a_ninth_return_address_drops_the_oldest(rt: HostRuntime) -> Result<(), Fail> {
-    let mut tables = Tables::new(rt.alloc())?;
-    for call in 0..9 {
-        let pc = PC + 256 * call;
-        assert_eq!(rt; ask(&mut tables, pc, &jal(1)), pc + 16);
-    }
-    for back in 0..8 {
-        assert_eq!(rt;
-            ask(&mut tables, PC, &jalr(0, 1)),
-            PC + 256 * (8 - back) + 4
-        );
-    }
-    assert_eq!(rt; ask(&mut tables, PC, &jalr(0, 1)), PC + 4, "empty");
-    Ok(())
-}
-
-// A squash isn't shown to a guess: what was fetched past it stays pushed.
-#[test]
-fn a_cut_leaves_the_stack(rt: HostRuntime) -> Result<(), Fail> {
-    let mut tables = Tables::new(rt.alloc())?;
-    ask(&mut tables, PC, &jal(1));
-    ask(&mut tables, PC + 32, &jalr(1, 5));
-    tell(&mut tables, PC, &jal(1), PC + 16, 1);
-    let table = [
-        (PC + 64, jalr(0, 1), PC + 36),
-        (PC + 64, jalr(0, 1), PC + 4),
-        (PC + 64, jalr(0, 1), PC + 68),
-    ];
-    assert_asked(&rt, &mut tables, &table);
-    Ok(())
-}
-
-#[test]
-fn other_jumps_go_by_their_last_targets(rt: HostRuntime) -> Result<(), Fail> {
-    let mut tables = Tables::new(rt.alloc())?;
-    let untold = [
-        (PC, jalr(1, 5), PC + 4),
-        (PC, jalr(1, 1), PC + 4),
-        (PC, jalr(0, 5), PC + 4),
-        (PC, jalr(5, 1), PC + 4),
-    ];
-    assert_asked(&rt, &mut tables, &untold);
-    // A return writes no target.
-    tell(&mut tables, PC, &jalr(0, 1), 0x20000, 1);
-    assert_asked(&rt, &mut tables, &[(PC, jalr(0, 5), PC + 4)]);
-    tell(&mut tables, PC, &jalr(1, 5), 0x30000, 1);
-    let told = [
-        (PC, jalr(0, 5), 0x30000),
-        (PC + 256, jalr(0, 5), 0x30000),
-        (PC + 4, jalr(0, 5), PC + 8),
-    ];
-    assert_asked(&rt, &mut tables, &told);
-    Ok(())
-}
-
-#[test]
-fn contexts_are_apart(rt: HostRuntime) -> Result<(), Fail> {
-    let mut tables = Tables::new(rt.alloc())?;
-    tell(&mut tables, PC, &branch(), PC + 64, 1);
-    tell(&mut tables, PC, &jalr(0, 5), 0x30000, 1);
-    ask(&mut tables, PC + 128, &jal(1));
-    let last = Ctx::all()[7];
-    for insn in [branch(), jalr(0, 5), jalr(0, 1)] {
-        assert_eq!(rt; tables.guess(last, PC, &insn), PC + 4);
-    }
-    assert_eq!(rt; ask(&mut tables, PC, &jalr(0, 1)), PC + 132);
-    Ok(())
-}
-
-#[test]
-fn what_is_no_call_pushes_nothing(rt: HostRuntime) -> Result<(), Fail> {
-    let mut tables = Tables::new(rt.alloc())?;
-    let add = Insn::Alu {
-        op: AluOp::Add,
-        rd: Register::new(1),
-        rs1: Register::new(0),
-        rs2: Register::new(0),
+/// New tables give the script's guesses.
+fn assert_tables(rt: &impl Abort, alloc: Global, script: &[Step]) {
+    let Ok(mut tables) = Tables::new(alloc) else {
+        panic!(rt; "out of memory");
     };
-    let table = [
-        (PC, jal(0), PC + 16),
-        (PC, jal(5), PC + 16),
-        (PC, jalr(5, 6), PC + 4),
-        (PC, branch(), PC + 4),
-        (PC, add, PC + 4),
-        (PC + 64, jalr(0, 1), PC + 68),
-    ];
-    assert_asked(&rt, &mut tables, &table);
-    Ok(())
+    assert_script(rt, &mut tables, script);
+}
+
+#[test]
+fn tables_guess_by_what_they_learned(rt: HostRuntime) {
+    for script in [
+        COUNTERS_START_AT_1_AND_STOP_AT_0_AND_3,
+        BRANCHES_1024_BYTES_APART_SHARE_A_COUNTER,
+        A_NINTH_RETURN_ADDRESS_DROPS_THE_OLDEST,
+        A_CUT_LEAVES_THE_STACK,
+        OTHER_JUMPS_GO_BY_THEIR_LAST_TARGETS,
+        CONTEXTS_ARE_APART,
+        WHAT_IS_NO_CALL_PUSHES_NOTHING,
+    ] {
+        assert_tables(&rt, rt.alloc(), script);
+    }
 }
 
 #[test]
 fn constant_guesses_learn_nothing(rt: HostRuntime) {
-    let mut always = Always(u64::MAX);
-    let mut sequential = Sequential;
-    for insn in [branch(), jal(1), jalr(0, 1)] {
-        tell(&mut always, PC, &insn, PC + 64, 2);
-        tell(&mut sequential, PC, &insn, PC + 64, 2);
-        assert_eq!(rt; ask(&mut always, PC, &insn), u64::MAX);
-        assert_eq!(rt; ask(&mut sequential, PC, &insn), PC + 4);
-    }
-    assert_eq!(rt; ask(&mut sequential, u64::MAX - 3, &branch()), 0);
+    assert_script(&rt, &mut Always(u64::MAX), ALWAYS_LEARNS_NOTHING);
+    assert_script(&rt, &mut Sequential, SEQUENTIAL_LEARNS_NOTHING);
 }

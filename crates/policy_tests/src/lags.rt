@@ -2,10 +2,8 @@
 use core_profile::Profile;
 use data_tags::{Alternating, Delay, Flat, Kind, Lag, Latencies, Tags};
 use join_law::Ctx;
+use std::alloc::Global;
 use std::process::Abort;
-use std::test::Fail;
-
-const KINDS: [Kind; 4] = [Kind::Branch, Kind::Load, Kind::Store, Kind::Alu];
 
 // Five latencies that differ.
 fn latencies() -> Latencies {
@@ -18,140 +16,240 @@ fn latencies() -> Latencies {
     }
 }
 
-fn ask<D: Delay>(delay: &mut D, kind: Kind, address: u64) -> Lag {
-    delay.delay(Ctx::all()[0], kind, address)
+/// What a context issues, in order, and the cycles that it takes; whether it is a load that missed.
+struct Issued {
+    context: usize,
+    kind: Kind,
+    address: u64,
+    cycles: u8,
+    miss: bool,
 }
 
-fn hit() -> Lag {
-    Lag {
-        cycles: 2,
-        miss: false,
-    }
-}
+/// A load of context 0 that hits.
+const HIT: Issued = Issued {
+    context: 0,
+    kind: Kind::Load,
+    address: 0,
+    cycles: 2,
+    miss: false,
+};
 
-fn miss() -> Lag {
-    Lag {
-        cycles: 20,
-        miss: true,
+/// A load of context 0 that misses.
+const MISS: Issued = Issued {
+    cycles: 20,
+    miss: true,
+    ..HIT
+};
+
+const BRANCH: Issued = Issued {
+    kind: Kind::Branch,
+    cycles: 5,
+    ..HIT
+};
+
+const STORE: Issued = Issued {
+    kind: Kind::Store,
+    cycles: 7,
+    ..HIT
+};
+
+const ALU: Issued = Issued {
+    kind: Kind::Alu,
+    cycles: 3,
+    ..HIT
+};
+
+/// One latency a kind, twice.
+const FLAT: &[Issued] = &[
+    Issued {
+        address: 64,
+        ..BRANCH
+    },
+    Issued { address: 64, ..HIT },
+    Issued {
+        address: 64,
+        ..STORE
+    },
+    Issued { address: 64, ..ALU },
+    Issued {
+        address: 64,
+        ..BRANCH
+    },
+    Issued { address: 64, ..HIT },
+    Issued {
+        address: 64,
+        ..STORE
+    },
+    Issued { address: 64, ..ALU },
+];
+
+/// The lags go by turns.
+const ALTERNATING: &[Issued] = &[
+    Issued { cycles: 1, ..HIT },
+    Issued {
+        cycles: 200,
+        ..MISS
+    },
+    Issued { cycles: 1, ..ALU },
+    Issued { cycles: 200, ..ALU },
+];
+
+/// The line is loaded once, and so is the next, which is another.
+const A_LOAD_MISSES_ONCE: &[Issued] = &[
+    Issued {
+        address: 0x100000,
+        ..MISS
+    },
+    Issued {
+        address: 0x100000,
+        ..HIT
+    },
+    Issued {
+        address: 0x10003F,
+        ..HIT
+    },
+    Issued {
+        address: 0x100008,
+        ..HIT
+    },
+    Issued {
+        address: 0x100040,
+        ..MISS
+    },
+    Issued {
+        address: 0x100000,
+        ..HIT
+    },
+];
+
+const LOADS_4096_BYTES_APART_SHARE_A_LINE: &[Issued] = &[
+    Issued {
+        address: 0x100000,
+        ..MISS
+    },
+    Issued {
+        address: 0x101000,
+        ..MISS
+    },
+    Issued {
+        address: 0x100000,
+        ..MISS
+    },
+    Issued { address: 0, ..MISS },
+    Issued { address: 63, ..HIT },
+];
+
+const CONTEXTS_SHARE_THE_TABLE_AND_NO_TAG: &[Issued] = &[
+    Issued {
+        address: 0x100000,
+        ..MISS
+    },
+    Issued {
+        context: 7,
+        address: 0x100000,
+        ..MISS
+    },
+    Issued {
+        address: 0x100000,
+        ..MISS
+    },
+    Issued {
+        address: 0x100000,
+        ..HIT
+    },
+];
+
+/// No store leaves a tag, and none takes one.
+const OTHER_KINDS_TOUCH_NO_TAG: &[Issued] = &[
+    STORE,
+    BRANCH,
+    ALU,
+    MISS,
+    Issued {
+        address: 4096,
+        ..STORE
+    },
+    HIT,
+];
+
+// The lags are those of the table.
+fn assert_lags<D: Delay>(rt: &impl Abort, delay: &mut D, table: &[Issued]) {
+    for it in table {
+        let lag = delay.delay(Ctx::all()[it.context % 8], it.kind, it.address);
+        assert_eq!(rt;
+            (lag.cycles, lag.miss),
+            (it.cycles, it.miss),
+            "{}",
+            it.address
+        );
     }
 }
 
 #[test]
-fn flat_has_one_latency_a_kind(rt: HostRuntime) {
+fn lags_of_no_table(rt: HostRuntime) {
     let mut flat = Flat::new(latencies());
-    assert_eq!(rt; flat.greatest(), 20);
-    for times in 0..2 {
-        for (kind, want) in KINDS.into_iter().zip([5, 2, 7, 3]) {
-            let lag = ask(&mut flat, kind, 64);
-            assert_eq!(rt; (lag.cycles, lag.miss), (want, false), "{kind:?}");
-        }
+    let mut alternating = Alternating { long: false };
+    assert_eq!(rt; [flat.greatest(), alternating.greatest()], [20, 200]);
+    assert_lags(&rt, &mut flat, FLAT);
+    assert_lags(&rt, &mut alternating, ALTERNATING);
+}
+
+// New tags give the lags of the table.
+fn assert_tags(rt: &impl Abort, alloc: Global, table: &[Issued]) {
+    let Ok(mut tags) = Tags::new(alloc, latencies()) else {
+        panic!(rt; "out of memory");
+    };
+    assert!(rt; tags.greatest() == 20);
+    assert_lags(rt, &mut tags, table);
+}
+
+#[test]
+fn lags_by_tags(rt: HostRuntime) {
+    for table in [
+        A_LOAD_MISSES_ONCE,
+        LOADS_4096_BYTES_APART_SHARE_A_LINE,
+        CONTEXTS_SHARE_THE_TABLE_AND_NO_TAG,
+        OTHER_KINDS_TOUCH_NO_TAG,
+    ] {
+        assert_tags(&rt, rt.alloc(), table);
     }
+}
+
+// The cycles of each kind, and last of a load that misses.
+fn cycles(latencies: &Latencies) -> [u8; 5] {
+    [
+        latencies.lag(Kind::Alu, false).cycles,
+        latencies.lag(Kind::Branch, false).cycles,
+        latencies.lag(Kind::Store, false).cycles,
+        latencies.lag(Kind::Load, false).cycles,
+        latencies.lag(Kind::Load, true).cycles,
+    ]
 }
 
 // The defaults are 1 but for a miss of 20.
 #[test]
 fn a_default_profile_has_its_latencies(rt: HostRuntime) {
     let latencies = Latencies::from(&Profile::default());
-    assert_eq!(rt; latencies.greatest(), 20);
-    for (kind, misses, want) in [
-        (Kind::Alu, false, 1),
-        (Kind::Branch, false, 1),
-        (Kind::Store, false, 1),
-        (Kind::Load, false, 1),
-        (Kind::Load, true, 20),
-    ] {
-        assert_eq!(rt; latencies.lag(kind, misses).cycles, want, "{kind:?}");
-    }
+    assert_eq!(rt; cycles(&latencies), [1, 1, 1, 1, 20]);
+    assert!(rt; latencies.greatest() == 20);
+}
+
+// The greatest of five latencies of which that at this place is 9, and the others are 1.
+fn greatest_with_9_at(place: u8) -> u8 {
+    let pick = |k: u8| if k == place { 9 } else { 1 };
+    let latencies = Latencies {
+        alu: pick(0),
+        branch: pick(1),
+        store: pick(2),
+        hit: pick(3),
+        miss: pick(4),
+    };
+    latencies.greatest()
 }
 
 #[test]
 fn greatest_is_that_of_five(rt: HostRuntime) {
     for place in 0..5 {
-        let pick = |k: u8| if k == place { 9 } else { 1 };
-        let latencies = Latencies {
-            alu: pick(0),
-            branch: pick(1),
-            store: pick(2),
-            hit: pick(3),
-            miss: pick(4),
-        };
-        assert_eq!(rt; latencies.greatest(), 9, "{place}");
-    }
-}
-
-// Loads of context 0, one after another, hit or miss as the table says.
-fn assert_loads(rt: &impl Abort, tags: &mut Tags, table: &[(u64, Lag)]) {
-    for &(address, want) in table {
-        assert_eq!(rt; ask(tags, Kind::Load, address), want, "{address}");
-    }
-}
-
-// The line is loaded once, and so is the next, which is another.
-#[test]
-fn a_load_misses_once(rt: HostRuntime) -> Result<(), Fail> {
-    let mut tags = Tags::new(rt.alloc(), latencies())?;
-    assert_eq!(rt; tags.greatest(), 20);
-    let table = [
-        (0x100000, miss()),
-        (0x100000, hit()),
-        (0x10003F, hit()),
-        (0x100008, hit()),
-        (0x100040, miss()),
-        (0x100000, hit()),
-    ];
-    assert_loads(&rt, &mut tags, &table);
-    Ok(())
-}
-
-#[test]
-fn loads_4096_bytes_apart_share_a_line(rt: HostRuntime) -> Result<(), Fail> {
-    let mut tags = Tags::new(rt.alloc(), latencies())?;
-    let table = [
-        (0x100000, miss()),
-        (0x101000, miss()),
-        (0x100000, miss()),
-        (0, miss()),
-        (63, hit()),
-    ];
-    assert_loads(&rt, &mut tags, &table);
-    Ok(())
-}
-
-#[test]
-fn contexts_share_the_table_and_no_tag(rt: HostRuntime) -> Result<(), Fail> {
-    let mut tags = Tags::new(rt.alloc(), latencies())?;
-    for context in [Ctx::all()[0], Ctx::all()[7], Ctx::all()[0]] {
-        assert_eq!(rt; tags.delay(context, Kind::Load, 0x100000), miss());
-    }
-    assert_eq!(rt; ask(&mut tags, Kind::Load, 0x100000), hit());
-    Ok(())
-}
-
-// No store leaves a tag, and none takes one.
-#[test]
-fn other_kinds_touch_no_tag(rt: HostRuntime) -> Result<(), Fail> {
-    let mut tags = Tags::new(rt.alloc(), latencies())?;
-    for (kind, want) in [(Kind::Store, 7), (Kind::Branch, 5), (Kind::Alu, 3)] {
-        let lag = ask(&mut tags, kind, 0);
-        assert_eq!(rt; (lag.cycles, lag.miss), (want, false), "{kind:?}");
-    }
-    assert_loads(&rt, &mut tags, &[(0, miss())]);
-    ask(&mut tags, Kind::Store, 4096);
-    assert_loads(&rt, &mut tags, &[(0, hit())]);
-    Ok(())
-}
-
-#[test]
-fn alternating_goes_by_turns(rt: HostRuntime) {
-    let mut delay = Alternating { long: false };
-    assert_eq!(rt; delay.greatest(), 200);
-    for (kind, cycles, misses) in [
-        (Kind::Load, 1, false),
-        (Kind::Load, 200, true),
-        (Kind::Alu, 1, false),
-        (Kind::Alu, 200, false),
-    ] {
-        let lag = ask(&mut delay, kind, 0);
-        assert_eq!(rt; (lag.cycles, lag.miss), (cycles, misses));
+        assert_eq!(rt; greatest_with_9_at(place), 9, "{place}");
     }
 }

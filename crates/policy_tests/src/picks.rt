@@ -53,36 +53,40 @@ fn picked<P: Pick>(pick: &P, view: &FetchView, num1: u8) -> [usize; 4]
 #[test]
 fn icount_takes_the_fewest_entries(rt: HostRuntime) {
     let view = with_entries(3, [4, 0, 2, 0, 9, 9, 9, 9]);
-    assert_eq!(rt; picked(&Icount, &view, 2), [3, 1, 9, 9]);
+    let named = NamedPick::from(FetchPolicy::Icount);
     assert_eq!(rt;
-        picked(&NamedPick::from(FetchPolicy::Icount), &view, 4),
-        [3, 1, 2, 0]
+        [picked(&Icount, &view, 2), picked(&named, &view, 4)],
+        [[3, 1, 9, 9], [3, 1, 2, 0]]
     );
 }
 
 #[test]
 fn iqposn_takes_the_farthest_from_the_front(rt: HostRuntime) {
     let all = with_queue([true; 8]);
-    assert_eq!(rt; picked(&Iqposn, &all, 4), [6, 7, 1, 3]);
     let three = with_queue([true, false, true, false, false, true, false, false]);
-    assert_eq!(rt; picked(&Iqposn, &three, 4), [0, 5, 2, 9]);
+    let named = NamedPick::from(FetchPolicy::Iqposn);
     assert_eq!(rt;
-        picked(&NamedPick::from(FetchPolicy::Iqposn), &three, 1),
-        [0, 9, 9, 9]
+        [
+            picked(&Iqposn, &all, 4),
+            picked(&Iqposn, &three, 4),
+            picked(&named, &three, 1)
+        ],
+        [[6, 7, 1, 3], [0, 5, 2, 9], [0, 9, 9, 9]]
     );
 }
 
 #[test]
 fn round_robin_takes_turns(rt: HostRuntime) {
     let view = with_entries(11, [4, 0, 2, 0, 9, 9, 9, 9]);
-    assert_eq!(rt; picked(&RoundRobin, &view, 4), [3, 4, 5, 6]);
+    let none = with_queue([false; 8]);
+    let named = NamedPick::from(FetchPolicy::RoundRobin);
     assert_eq!(rt;
-        picked(&NamedPick::from(FetchPolicy::RoundRobin), &view, 2),
-        [3, 4, 9, 9]
-    );
-    assert_eq!(rt;
-        picked(&RoundRobin, &with_queue([false; 8]), 4),
-        [9, 9, 9, 9]
+        [
+            picked(&RoundRobin, &view, 4),
+            picked(&named, &view, 2),
+            picked(&RoundRobin, &none, 4)
+        ],
+        [[3, 4, 5, 6], [3, 4, 9, 9], [9, 9, 9, 9]]
     );
 }
 
@@ -104,9 +108,14 @@ fn the_least_key_goes_first_and_of_equal_ones_the_earlier_turn(rt: HostRuntime) 
         [63, 56, 74]
     );
     let none = NO_KEY;
-    assert_eq!(rt; first(&[none, 57, 58, none, 76, none, none, none], 0), 1);
-    assert_eq!(rt; first(&[none, 63, 56, none, 74, none, none, none], 2), 2);
-    assert_eq!(rt; first(&[none; 8], 0), 8);
+    assert_eq!(rt;
+        [
+            first(&[none, 57, 58, none, 76, none, none, none], 0),
+            first(&[none, 63, 56, none, 74, none, none, none], 2),
+            first(&[none; 8], 0)
+        ],
+        [1, 2, 8]
+    );
 }
 
 #[test]
@@ -123,25 +132,41 @@ fn counts_are_their_own(rt: HostRuntime) {
         cycle: 0,
         contexts: Eight::from_array(contexts),
     };
-    assert!(rt; Brcount.key(&view, first) == 2 && Brcount.key(&view, second) == 3);
-    assert!(rt; Misscount.key(&view, first) == 1 && Misscount.key(&view, second) == 0);
     let brcount = NamedPick::from(FetchPolicy::Brcount);
     let misscount = NamedPick::from(FetchPolicy::Misscount);
-    assert!(rt; brcount.key(&view, first) == 2 && misscount.key(&view, first) == 1);
+    assert_eq!(rt;
+        [
+            Brcount.key(&view, first),
+            Brcount.key(&view, second),
+            brcount.key(&view, first)
+        ],
+        [2, 3, 2]
+    );
+    assert_eq!(rt;
+        [
+            Misscount.key(&view, first),
+            Misscount.key(&view, second),
+            misscount.key(&view, first)
+        ],
+        [1, 0, 1]
+    );
+}
+
+/// Whether a policy reads places, and whether the policy of its name does.
+fn reads<P: Pick>(pick: &P, policy: FetchPolicy) -> [bool; 2] {
+    [pick.reads_places(), NamedPick::from(policy).reads_places()]
 }
 
 #[test]
 fn iqposn_alone_reads_places(rt: HostRuntime) {
-    assert!(rt; Iqposn.reads_places() && !RoundRobin.reads_places() && !Icount.reads_places());
-    assert!(rt; !Brcount.reads_places() && !Misscount.reads_places());
-    for policy in [
-        FetchPolicy::RoundRobin,
-        FetchPolicy::Icount,
-        FetchPolicy::Brcount,
-        FetchPolicy::Misscount,
-        FetchPolicy::Iqposn,
-    ] {
-        let reads = NamedPick::from(policy).reads_places();
-        assert!(rt; reads == (policy == FetchPolicy::Iqposn));
-    }
+    assert_eq!(rt;
+        [
+            reads(&Iqposn, FetchPolicy::Iqposn),
+            reads(&RoundRobin, FetchPolicy::RoundRobin),
+            reads(&Icount, FetchPolicy::Icount),
+            reads(&Brcount, FetchPolicy::Brcount),
+            reads(&Misscount, FetchPolicy::Misscount)
+        ],
+        [[true; 2], [false; 2], [false; 2], [false; 2], [false; 2]]
+    );
 }

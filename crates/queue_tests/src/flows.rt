@@ -3,13 +3,13 @@ ghost use Rattle.std.specs.Prelude.{◌≡◌, ◌<◌, IfOk, IsSome, length};
 ghost use Rattle.data_flow.specs.Flow.{lane, node_at, with_lane, without_oldest};
 ghost use Rattle.queue_tests.specs.Worked.{named, with_x1, of_three, finished};
 
+use crate::selected::has_stamps;
 use data_flow::{DataFlow, Operands};
 use issue_queue::{OldestFirst, Order, SpecLast};
 use join_law::Ctx;
 use rv64_decode::Register;
-use std::alloc::Global;
+use std::alloc::{AllocError, Global};
 use std::process::Abort;
-use std::test::Fail;
 
 // The registers of an instruction, by their numbers.
 fn named(stamp: u64, destination: u8, first: u8, second: u8) -> Operands
@@ -27,7 +27,7 @@ fn named(stamp: u64, destination: u8, first: u8, second: u8) -> Operands
 }
 
 // Contexts 0 and 1 hold 10 and 20 in x1.
-fn with_x1(alloc: Global) -> Result<DataFlow, Fail>
+fn with_x1(alloc: Global) -> Result<DataFlow, AllocError>
     ensures { IfOk result (λ d. d ≡ with_x1) }
 {
     let mut flow = DataFlow::new(alloc, 32, 4, 8)?;
@@ -38,7 +38,7 @@ fn with_x1(alloc: Global) -> Result<DataFlow, Fail>
 }
 
 // In context 0 an instruction makes x5 of x1, and the next makes x5 of that. One of context 1 makes x6 of x1.
-fn of_three(alloc: Global) -> Result<DataFlow, Fail>
+fn of_three(alloc: Global) -> Result<DataFlow, AllocError>
     ensures { IfOk result (λ d. d ≡ of_three) }
 {
     let mut flow = with_x1(alloc)?;
@@ -57,15 +57,16 @@ fn assert_selected<O: Order>(rt: &impl Abort, flow: &mut DataFlow, order: &O, st
     ensures { flow.new ≡ record flow.old { waiters = flow.new.waiters } }
 {
     let selected = flow.select(order, 8);
-    assert_eq!(rt; selected.len(), stamps.len());
-    for (entry, stamp) in selected.as_slice().iter().zip(stamps) {
-        assert_eq!(rt; entry.stamp, *stamp);
-    }
+    assert!(rt; has_stamps(selected.as_slice(), stamps));
 }
 
-// How many of a context wait, and how many of these are guessed.
-fn waiting_and_guessed(flow: &DataFlow, context: Ctx) -> [usize; 2] {
-    [flow.waiting_count(context), flow.guessed_count(context)]
+// How many registers are free, how many of a context wait, and how many of these are guessed.
+fn counts(flow: &DataFlow, context: Ctx) -> [usize; 3] {
+    [
+        flow.free_count(),
+        flow.waiting_count(context),
+        flow.guessed_count(context),
+    ]
 }
 
 // Commits the oldest of a context of which none waits.
@@ -85,76 +86,93 @@ fn finish_two(rt: &impl Abort, flow: &mut DataFlow)
     ensures extra { flow.new.extra ≡ 32 }
 {
     let [first, second, ..] = Ctx::all();
-    assert_eq!(rt; flow.sources(first, 0), Some((10, 0)));
-    assert_eq!(rt; flow.sources(first, 1), None);
-    assert_eq!(rt; flow.sources(second, 0), Some((20, 20)));
+    let sources = [
+        flow.sources(first, 0),
+        flow.sources(first, 1),
+        flow.sources(second, 0),
+    ];
     assert_selected(rt, flow, &OldestFirst, &[1, 3]);
     flow.finish(first, 0, 15);
-    assert_eq!(rt; flow.sources(first, 1), Some((15, 10)));
+    let [of_first, of_second, of_third] = sources;
+    assert_eq!(rt;
+        [of_first, of_second, of_third, flow.sources(first, 1)],
+        [Some((10, 0)), None, Some((20, 20)), Some((15, 10))]
+    );
     assert_selected(rt, flow, &OldestFirst, &[2]);
     flow.finish(first, 1, 25);
 }
 
 #[test]
-fn waits_for_an_older_result(rt: HostRuntime) -> Result<(), Fail> {
-    let mut flow = of_three(rt.alloc())?;
+fn waits_for_an_older_result(rt: HostRuntime) {
+    let Ok(mut flow) = of_three(rt.alloc()) else {
+        panic!(rt; "out of memory");
+    };
     let [first, ..] = Ctx::all();
     finish_two(&rt, &mut flow);
     commit(&rt, &mut flow, first);
     commit(&rt, &mut flow, first);
-    assert_eq!(rt; flow.free_count(), 31);
+    let free = flow.free_count();
     flow.rename(first, named(4, 0, 5, 1));
-    assert_eq!(rt; flow.sources(first, 0), Some((25, 10)));
-    Ok(())
+    assert_eq!(rt; (free, flow.sources(first, 0)), (31, Some((25, 10))));
 }
 
 #[test]
-fn restores_an_older_value(rt: HostRuntime) -> Result<(), Fail> {
-    let mut flow = with_x1(rt.alloc())?;
+fn restores_an_older_value(rt: HostRuntime) {
+    let Ok(mut flow) = with_x1(rt.alloc()) else {
+        panic!(rt; "out of memory");
+    };
     let [first, ..] = Ctx::all();
     flow.rename(first, named(1, 5, 1, 0));
     flow.finish(first, 0, 15);
     flow.rename(first, named(2, 5, 5, 1));
     flow.cut_from(first, 2);
     flow.rename(first, named(3, 0, 5, 1));
-    assert_eq!(rt; flow.sources(first, 1), Some((15, 10)));
+    let restored = flow.sources(first, 1);
     flow.cut_from(first, 1);
     flow.rename(first, named(4, 0, 5, 1));
-    assert_eq!(rt; flow.sources(first, 0), Some((0, 10)));
-    Ok(())
+    assert_eq!(rt;
+        [restored, flow.sources(first, 0)],
+        [Some((15, 10)), Some((0, 10))]
+    );
 }
 
 #[test]
-fn counts_what_waits(rt: HostRuntime) -> Result<(), Fail> {
-    let mut flow = of_three(rt.alloc())?;
+fn counts_what_waits(rt: HostRuntime) {
+    let Ok(mut flow) = of_three(rt.alloc()) else {
+        panic!(rt; "out of memory");
+    };
     let [first, second, third, ..] = Ctx::all();
-    assert_eq!(rt; flow.free_count(), 29);
-    assert!(rt; flow.has_place());
-    assert_eq!(rt; waiting_and_guessed(&flow, first), [2, 1]);
-    assert_eq!(rt; flow.oldest_place(second), Some(2));
-    assert_eq!(rt; flow.oldest_place(third), None);
+    assert_eq!(rt;
+        (
+            flow.has_place(),
+            flow.oldest_place(second),
+            flow.oldest_place(third)
+        ),
+        (true, Some(2), None)
+    );
+    let before = counts(&flow, first);
     flow.cut_from(first, 2);
-    assert_eq!(rt; flow.free_count(), 30);
-    assert_eq!(rt; waiting_and_guessed(&flow, first), [1, 0]);
-    Ok(())
+    assert_eq!(rt; [before, counts(&flow, first)], [[29, 2, 1], [30, 1, 0]]);
 }
 
 #[test]
-fn leaves_a_held_one(rt: HostRuntime) -> Result<(), Fail> {
-    let mut flow = of_three(rt.alloc())?;
+fn leaves_a_held_one(rt: HostRuntime) {
+    let Ok(mut flow) = of_three(rt.alloc()) else {
+        panic!(rt; "out of memory");
+    };
     let [_, second, ..] = Ctx::all();
     flow.hold(second, 3, true);
     assert_selected(&rt, &mut flow, &OldestFirst, &[1]);
     flow.hold(second, 3, false);
     assert_selected(&rt, &mut flow, &OldestFirst, &[3]);
-    Ok(())
 }
 
 #[test]
-fn takes_a_speculative_one_last(rt: HostRuntime) -> Result<(), Fail> {
-    let mut flow = of_three(rt.alloc())?;
+fn takes_a_speculative_one_last(rt: HostRuntime) {
+    let Ok(mut flow) = of_three(rt.alloc()) else {
+        panic!(rt; "out of memory");
+    };
     let [first, ..] = Ctx::all();
     flow.speculate(first, 1, true);
     assert_selected(&rt, &mut flow, &SpecLast, &[3, 1]);
-    Ok(())
 }

@@ -1,7 +1,7 @@
 //! The worked examples.
 
+use crate::selected::has_stamps;
 use core_profile::IssuePolicy;
-use core_view::EntryId;
 use issue_queue::{
     BranchFirst, NamedOrder, OldestFirst, Order, Queue, QueueFault, SpecLast, Waiting,
 };
@@ -37,11 +37,10 @@ fn put_ready(rt: &impl Abort, queue: &mut Queue, number: usize, stamp: u64) {
     put(rt, queue, waiting(context(rt, number), stamp, [None, None]));
 }
 
-fn assert_stamps(rt: &impl Abort, selected: &[EntryId], stamps: &[u64]) {
-    assert_eq!(rt; selected.len(), stamps.len());
-    for (entry, stamp) in selected.iter().zip(stamps) {
-        assert_eq!(rt; entry.stamp, *stamp);
-    }
+// By an order these are taken, first to last, at most eight.
+fn assert_selected<O: Order>(rt: &impl Abort, queue: &mut Queue, order: &O, stamps: &[u64]) {
+    let selected = queue.select(order, 8);
+    assert!(rt; has_stamps(selected.as_slice(), stamps));
 }
 
 // Ready entries 10 (context 0), 11 (context 1, guessed), 12 (context 1, speculative), 13 (context 0).
@@ -60,25 +59,20 @@ fn four_ready(rt: &impl Abort) -> Queue {
 fn assert_order<O: Order>(rt: &impl Abort, order: &O, stamps: &[u64]) {
     let mut queue = four_ready(rt);
     let selected = queue.select(order, 3);
-    assert_stamps(rt, selected.as_slice(), stamps);
-    assert_eq!(rt; queue.len(), 1);
+    assert!(rt; has_stamps(selected.as_slice(), stamps) && queue.len() == 1);
+}
+
+// An order and that of its name in a profile take these of four ready entries.
+fn assert_orders<O: Order>(rt: &impl Abort, order: &O, policy: IssuePolicy, stamps: &[u64]) {
+    assert_order(rt, order, stamps);
+    assert_order(rt, &NamedOrder::from(policy), stamps);
 }
 
 #[test]
 fn orders_ready_entries(rt: HostRuntime) {
-    assert_order(&rt, &OldestFirst, &[10, 11, 12]);
-    assert_order(&rt, &SpecLast, &[10, 11, 13]);
-    assert_order(&rt, &BranchFirst, &[11, 10, 12]);
-}
-
-#[test]
-fn orders_by_the_name_in_a_profile(rt: HostRuntime) {
-    let oldest = NamedOrder::from(IssuePolicy::OldestFirst);
-    assert_order(&rt, &oldest, &[10, 11, 12]);
-    let speculative = NamedOrder::from(IssuePolicy::SpecLast);
-    assert_order(&rt, &speculative, &[10, 11, 13]);
-    let branch = NamedOrder::from(IssuePolicy::BranchFirst);
-    assert_order(&rt, &branch, &[11, 10, 12]);
+    assert_orders(&rt, &OldestFirst, IssuePolicy::OldestFirst, &[10, 11, 12]);
+    assert_orders(&rt, &SpecLast, IssuePolicy::SpecLast, &[10, 11, 13]);
+    assert_orders(&rt, &BranchFirst, IssuePolicy::BranchFirst, &[11, 10, 12]);
 }
 
 #[test]
@@ -92,43 +86,52 @@ fn wakes_63_of_64(rt: HostRuntime) {
     let other = waiting(context(&rt, 4), 1, [Some(register(&rt, 0)), None]);
     put(&rt, &mut queue, other);
     assert!(rt; queue.is_full());
-    assert_eq!(rt; queue.select(&OldestFirst, 8).len(), 0);
-    assert_eq!(rt; queue.wake(woken), 63);
-    let selected = queue.select(&OldestFirst, 8);
-    assert_stamps(
+    assert_selected(&rt, &mut queue, &OldestFirst, &[]);
+    let count = queue.wake(woken);
+    assert_selected(
         &rt,
-        selected.as_slice(),
+        &mut queue,
+        &OldestFirst,
         &[138, 139, 140, 141, 142, 143, 144, 145],
     );
-    assert_eq!(rt; queue.len(), 56);
+    assert_eq!(rt; [count, queue.len()], [63, 56]);
 }
 
 #[test]
 fn forgets_the_waits_of_a_dropped_entry(rt: HostRuntime) {
     let mut queue = Queue::new(8);
-    let first = Some(register(&rt, 5));
-    let second = Some(register(&rt, 6));
-    put(&rt, &mut queue, waiting(context(&rt, 0), 7, [first, None]));
+    let [first, second] = [register(&rt, 5), register(&rt, 6)];
+    put(
+        &rt,
+        &mut queue,
+        waiting(context(&rt, 0), 7, [Some(first), None]),
+    );
     queue.drop_from(context(&rt, 0), 7);
     assert!(rt; queue.is_empty());
-    put(&rt, &mut queue, waiting(context(&rt, 0), 8, [second, None]));
-    assert_eq!(rt; queue.wake(register(&rt, 5)), 0);
-    assert_eq!(rt; queue.select(&OldestFirst, 8).len(), 0);
-    assert_eq!(rt; queue.wake(register(&rt, 6)), 1);
-    assert_stamps(&rt, queue.select(&OldestFirst, 8).as_slice(), &[8]);
+    put(
+        &rt,
+        &mut queue,
+        waiting(context(&rt, 0), 8, [Some(second), None]),
+    );
+    let of_first = queue.wake(first);
+    assert_selected(&rt, &mut queue, &OldestFirst, &[]);
+    let of_second = queue.wake(second);
+    assert_selected(&rt, &mut queue, &OldestFirst, &[8]);
+    assert_eq!(rt; [of_first, of_second], [0, 1]);
 }
 
 #[test]
 fn waits_for_both_sources(rt: HostRuntime) {
     let mut queue = Queue::new(8);
-    let sources = [Some(register(&rt, 1)), Some(register(&rt, 2))];
+    let [first, second] = [register(&rt, 1), register(&rt, 2)];
+    let sources = [Some(first), Some(second)];
     put(&rt, &mut queue, waiting(context(&rt, 0), 3, sources));
-    let same = [Some(register(&rt, 2)), Some(register(&rt, 2))];
+    let same = [Some(second), Some(second)];
     put(&rt, &mut queue, waiting(context(&rt, 0), 4, same));
-    queue.wake(register(&rt, 2));
-    assert_stamps(&rt, queue.select(&OldestFirst, 8).as_slice(), &[4]);
-    queue.wake(register(&rt, 1));
-    assert_stamps(&rt, queue.select(&OldestFirst, 8).as_slice(), &[3]);
+    queue.wake(second);
+    assert_selected(&rt, &mut queue, &OldestFirst, &[4]);
+    queue.wake(first);
+    assert_selected(&rt, &mut queue, &OldestFirst, &[3]);
 }
 
 #[test]
@@ -142,11 +145,10 @@ fn refuses_where_full(rt: HostRuntime) {
     let Err((back, fault)) = queue.put(ninth) else {
         panic!(rt; "a full queue took an entry");
     };
-    assert_eq!(rt; back, ninth);
-    assert_eq!(rt; fault, QueueFault::Full);
-    assert_eq!(rt; queue.len(), queue.capacity());
+    assert!(rt; back == ninth && fault == QueueFault::Full);
+    let len = queue.len();
     queue.drop_from(context(&rt, 2), 5);
-    assert_eq!(rt; queue.len(), 5);
+    assert_eq!(rt; [len, queue.len()], [queue.capacity(), 5]);
 }
 
 #[test]
@@ -155,9 +157,9 @@ fn leaves_a_held_entry(rt: HostRuntime) {
     put_ready(&rt, &mut queue, 0, 1);
     put_ready(&rt, &mut queue, 0, 2);
     queue.hold(context(&rt, 0), 1, true);
-    assert_stamps(&rt, queue.select(&OldestFirst, 8).as_slice(), &[2]);
+    assert_selected(&rt, &mut queue, &OldestFirst, &[2]);
     queue.hold(context(&rt, 0), 1, false);
-    assert_stamps(&rt, queue.select(&OldestFirst, 8).as_slice(), &[1]);
+    assert_selected(&rt, &mut queue, &OldestFirst, &[1]);
 }
 
 // Five ready entries, by stamp of contexts 2, 2, 5, 0 and 5, the last of them guessed.
@@ -176,13 +178,8 @@ fn five_ready(rt: &impl Abort) -> Queue {
 #[test]
 fn counts_the_entries_of_a_context(rt: HostRuntime) {
     let queue = five_ready(&rt);
-    assert_eq!(rt; queue.count(context(&rt, 5)), 2);
-    assert_eq!(rt; queue.guessed_count(context(&rt, 5)), 1);
-}
-
-#[test]
-fn finds_the_oldest_place_of_a_context(rt: HostRuntime) {
-    let queue = five_ready(&rt);
+    let fifth = context(&rt, 5);
+    assert_eq!(rt; [queue.count(fifth), queue.guessed_count(fifth)], [2, 1]);
     for (number, place) in [(2, Some(0)), (5, Some(2)), (0, Some(3)), (1, None)] {
         assert_eq!(rt; queue.oldest_place(context(&rt, number)), place, "{number}");
     }

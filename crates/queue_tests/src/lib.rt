@@ -3,6 +3,8 @@
 #![tactic(auto)]
 
 #[cfg(test)]
+mod codes;
+#[cfg(test)]
 mod flows;
 #[cfg(test)]
 mod issuing;
@@ -12,3 +14,5 @@ mod loads_and_stores;
 mod renames;
 #[cfg(test)]
 mod rings;
+#[cfg(test)]
+mod selected;

@@ -1,8 +1,8 @@
 //! Renames at concrete values.
 use join_law::Ctx;
-use rename_file::{PhysicalRegister, Registers, RenameFault};
+use rename_file::{PhysicalRegister, Registers};
+use std::alloc::Global;
 use std::process::Abort;
-use std::test::Fail;
 
 // The value that a source reads, once it is there.
 fn read(registers: &Registers, context: Ctx, rs: u8) -> Option<u64> {
@@ -25,67 +25,71 @@ fn produce(registers: &mut Registers, context: Ctx, rd: u8, value: u64) -> bool 
     true
 }
 
+// The number of the register with this number.
+fn index_of(number: usize) -> Option<usize> {
+    Some(PhysicalRegister::new(number)?.index())
+}
+
 #[test]
 fn a_register_has_its_number(rt: HostRuntime) {
-    let last = PhysicalRegister::new(479).expect(&rt, "479 is below 480");
-    assert_eq!(rt; last.index(), 479);
-    assert!(rt; PhysicalRegister::new(480).is_none());
+    assert_eq!(rt; [index_of(479), index_of(480)], [Some(479), None]);
 }
 
-#[test]
-fn refusals_are_printed_as_their_codes(rt: HostRuntime) -> Result<(), Fail> {
-    let text = format!(in rt.alloc(); "{} {}", RenameFault::NoneFree, RenameFault::OutOfMemory)?;
-    assert_eq!(rt; text.as_str(), "N1 N2");
-    Ok(())
+// Whether a renamed register of a context is there, and what x5 reads, before it is written and then.
+fn seen(alloc: Global) -> Option<[(bool, Option<u64>); 2]> {
+    let mut registers = Registers::new(alloc, 32).ok()?;
+    let [first, ..] = Ctx::all();
+    registers.set_committed(first, 5, 70);
+    let register = registers.rename(first, 5).ok()?;
+    let before = (registers.ready(register), read(&registers, first, 5));
+    registers.write(register, 71);
+    let after = (registers.ready(register), read(&registers, first, 5));
+    Some([before, after])
 }
 
-#[test]
-fn a_rename_is_seen_once_it_is_written(rt: HostRuntime) -> Result<(), Fail> {
-    let mut registers = Registers::new(rt.alloc(), 32)?;
+// What x5 holds beside a rename that is written, and what that of another context reads.
+fn beside(alloc: Global) -> Option<(u64, Option<u64>)> {
+    let mut registers = Registers::new(alloc, 32).ok()?;
     let [first, second, ..] = Ctx::all();
     registers.set_committed(first, 5, 70);
-    let Ok(register) = registers.rename(first, 5) else {
-        return Err("no register is free".into());
-    };
-    assert!(rt; !registers.ready(register));
-    assert_eq!(rt; read(&registers, first, 5), None);
-    registers.write(register, 71);
-    assert!(rt; registers.ready(register));
-    assert_eq!(rt; read(&registers, first, 5), Some(71));
-    assert_eq!(rt; registers.committed(first, 5), 70);
-    assert_eq!(rt; read(&registers, second, 5), Some(0));
-    Ok(())
+    if !produce(&mut registers, first, 5, 71) {
+        return None;
+    }
+    Some((registers.committed(first, 5), read(&registers, second, 5)))
 }
 
-#[test]
-fn a_rename_is_undone(rt: HostRuntime) -> Result<(), Fail> {
-    let mut registers = Registers::new(rt.alloc(), 32)?;
+// What x5 reads before a rename is undone and after it, and how many registers are free then.
+fn undone(alloc: Global) -> Option<(Option<u64>, Option<u64>, usize)> {
+    let mut registers = Registers::new(alloc, 32).ok()?;
     let [context, ..] = Ctx::all();
     registers.set_committed(context, 5, 70);
-    let Ok(register) = registers.rename(context, 5) else {
-        return Err("no register is free".into());
-    };
+    let register = registers.rename(context, 5).ok()?;
     registers.write(register, 71);
-    assert_eq!(rt; read(&registers, context, 5), Some(71));
+    let before = read(&registers, context, 5);
     registers.undo(context);
-    assert_eq!(rt; read(&registers, context, 5), Some(70));
-    assert_eq!(rt; registers.free_count(), 32);
-    Ok(())
+    Some((before, read(&registers, context, 5), registers.free_count()))
+}
+
+// What x31 holds once its rename is committed, how many registers are free then, and what x0 reads.
+fn committed(alloc: Global) -> Option<(u64, usize, Option<u64>)> {
+    let mut registers = Registers::new(alloc, 32).ok()?;
+    let [_, context, ..] = Ctx::all();
+    let register = registers.rename(context, 31).ok()?;
+    registers.write(register, 9);
+    registers.commit(context);
+    Some((
+        registers.committed(context, 31),
+        registers.free_count(),
+        read(&registers, context, 0),
+    ))
 }
 
 #[test]
-fn the_oldest_rename_is_committed(rt: HostRuntime) -> Result<(), Fail> {
-    let mut registers = Registers::new(rt.alloc(), 32)?;
-    let [_, context, ..] = Ctx::all();
-    let Ok(register) = registers.rename(context, 31) else {
-        return Err("no register is free".into());
-    };
-    registers.write(register, 9);
-    registers.commit(context);
-    assert_eq!(rt; registers.committed(context, 31), 9);
-    assert_eq!(rt; registers.free_count(), 32);
-    assert_eq!(rt; read(&registers, context, 0), Some(0));
-    Ok(())
+fn renames(rt: HostRuntime) {
+    assert_eq!(rt; seen(rt.alloc()), Some([(false, None), (true, Some(71))]));
+    assert_eq!(rt; beside(rt.alloc()), Some((70, Some(0))));
+    assert_eq!(rt; undone(rt.alloc()), Some((Some(71), Some(70), 32)));
+    assert_eq!(rt; committed(rt.alloc()), Some((9, 32, Some(0))));
 }
 
 // Renames x1 to x31 of the context, and writes 0 to 30.
@@ -96,14 +100,18 @@ fn produce_each(rt: &impl Abort, registers: &mut Registers, context: Ctx) {
 }
 
 #[test]
-fn none_is_free_once_the_extra_ones_are_in_use(rt: HostRuntime) -> Result<(), Fail> {
-    let mut registers = Registers::new(rt.alloc(), 32)?;
+fn none_is_free_once_the_extra_ones_are_in_use(rt: HostRuntime) {
+    let Ok(mut registers) = Registers::new(rt.alloc(), 32) else {
+        panic!(rt; "out of memory");
+    };
     let [.., context] = Ctx::all();
     produce_each(&rt, &mut registers, context);
-    assert!(rt; produce(&mut registers, context, 1, 100));
-    assert_eq!(rt; registers.free_count(), 0);
-    assert!(rt; !produce(&mut registers, context, 2, 101));
-    assert_eq!(rt; read(&registers, context, 1), Some(100));
-    assert_eq!(rt; read(&registers, context, 31), Some(30));
-    Ok(())
+    let is_last = produce(&mut registers, context, 1, 100);
+    let free = registers.free_count();
+    let is_one_more = produce(&mut registers, context, 2, 101);
+    assert_eq!(rt; (is_last, free, is_one_more), (true, 0, false));
+    assert_eq!(rt;
+        [read(&registers, context, 1), read(&registers, context, 31)],
+        [Some(100), Some(30)]
+    );
 }
