@@ -79,6 +79,27 @@ waiting_finish cells buffers p v es lt h =
     All-map (IsWaiting (set cells p (Some v)) buffers) (awake p) es
     (All-weaker (IsWaiting cells buffers) (λ e. IsWaiting (set cells p (Some v)) buffers (awake p e)) (λ e. finish_one cells buffers p v e lt) es h)
 
+-- ---- a register that has its value
+
+-- none waits for it
+unwaited : (cells : List (Option ℕ)) (p q : ℕ) → IsSome (cell_of cells p) → filter (λ r. not (r == p)) (unready cells q) ≡ unready cells q
+unwaited cells p q valued = elim (cases_eq q p) [
+  | inl same ↦ subst (λ k. filter (λ r. not (r == p)) (unready cells k) ≡ unready cells k) (sym same) (let has : is_some (cell_of cells p) ≡ true = valued in rw has refl)
+  | inr differ ↦ woken_other (cell_of cells q) p q differ
+]
+
+awake_same : (cells : List (Option ℕ)) (buffers : List (Buffer Renamed)) (p : ℕ) (e : Entry) → IsSome (cell_of cells p) → IsWaiting cells buffers e → awake p e ≡ e
+awake_same cells buffers p e valued h =
+    let n : Renamed = get_or (get_or buffers e.context no_buffer).items h.place no_renamed in
+    let waits : filter (λ r. not (r == p)) e.waits ≡ e.waits =
+    ap (filter (λ r. not (r == p))) h.waits ∙ filter-append (λ r. not (r == p)) (unready cells n.first) (unready cells n.second)
+    ∙ ap₂ (λ (xs ys : List ℕ). xs ++ ys) (unwaited cells p n.first valued) (unwaited cells p n.second valued) ∙ sym h.waits in
+    ap (λ (ws : List ℕ). let x : Entry = record e { waits = ws } in x) waits
+
+pub all_awake : (cells : List (Option ℕ)) (buffers : List (Buffer Renamed)) (p : ℕ) (es : List Entry) → IsSome (cell_of cells p) → All (IsWaiting cells buffers) es → map (awake p) es ≡ es
+all_awake cells buffers p [] valued h = refl
+all_awake cells buffers p (e ∷ es) valued h = rw (awake_same cells buffers p e valued (h 0 e (omega arith)), all_awake cells buffers p es valued (λ k d lt. h (suc k) d (omega (arith, lt)))) refl
+
 -- ---- another value
 
 -- two registers' cells that are both there or both not

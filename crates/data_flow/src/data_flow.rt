@@ -1,6 +1,6 @@
 //! The data flow of eight contexts: registers, renaming, and the queue of what waits for its sources.
 
-ghost use Rattle.std.specs.Prelude.{◌≡◌, ℕ, ◌+◌, ◌-◌, ◌<◌, ◌≤◌, ◌↔◌, [], ◌∷◌, ◌++◌, false, length, map, option_map, All, IfOk, OnErr, IsOk, IsSome, IsTrue, Err, slice_set, count_by, ◌==◌, ◌&&◌};
+ghost use Rattle.std.specs.Prelude.{◌≡◌, ℕ, ◌+◌, ◌-◌, ◌<◌, ◌≤◌, ◌↔◌, [], ◌∷◌, ◌++◌, false, length, map, option_map, slice_get, Some, All, IfOk, OnErr, IsOk, IsSome, IsTrue, Err, slice_set, count_by, ◌==◌, ◌&&◌};
 ghost use Rattle.std.specs.Option.{ForSome, option_to_list};
 ghost use Rattle.circular_buffer.specs.Buffer.{buffer, last_item};
 ghost use Rattle.reorder_buffer.specs.Growing.{IsGrowing};
@@ -200,13 +200,10 @@ impl<A: Allocator> DataFlow<A> {
         ensures { self.new ≡ with_lane self.old context (with_result (lane self.old context) place value) }
     {
         let ring = &self.renamed[context.index()];
-        let renamed = ring.get(place).unwrap();
-        if !renamed.has_destination() {
-            return;
-        }
-        let destination = renamed.destination;
-        self.registers.write(destination, value);
-        self.queue.wake(destination);
+        let renamed = at(ring, place);
+        let (destination, mask) = (renamed.destination, renamed.result_mask());
+        let register = self.registers.write_masked(destination, value, mask);
+        self.queue.wake(register);
     }
 
     /// The oldest instruction of a context is committed.
@@ -398,6 +395,18 @@ fn put_in<A: Allocator>(
     }) else {
         unreachable!();
     };
+}
+
+/// The instruction at a place that is there.
+#[inline(always)]
+fn at<A: Allocator>(ring: &Ring<Renamed, A>, place: usize) -> &Renamed
+    requires { place < length ring.now.items }
+    ensures { slice_get ring.now.items place ≡ Some result.now }
+{
+    let Some(renamed) = ring.get(place) else {
+        unreachable!();
+    };
+    renamed
 }
 
 /// One more instruction, the youngest, in a ring with room.

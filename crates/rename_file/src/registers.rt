@@ -125,6 +125,28 @@ impl<A: Allocator> Registers<A> {
         self.cells[place] = Some(value);
     }
 
+    /// Gives a register its value, where a mask has all bits. Where it has none nothing changes, and it returns a register
+    /// that has its value, an x0, in place of this one.
+    // It takes no jump, which would be guessed wrongly too often: of a choice the compiler makes one.
+    #[inline(always)]
+    pub fn write_masked(
+        &mut self,
+        register: PhysicalRegister,
+        value: u64,
+        mask: u64,
+    ) -> PhysicalRegister
+        requires register { 0 < mask → (mask ≡ 18446744073709551615) × (8 ≤ register) × (register < length self.old.cells) }
+        ensures written { 0 < mask → self.new ≡ with_cell self.old register (Some value) }
+        ensures there { 0 < mask → result ≡ register }
+        ensures same { mask ≡ 0 → self.new ≡ self.old }
+        ensures valued { mask ≡ 0 → IsSome (cell self.old result) }
+        ensures file { IsFile self.new }
+    {
+        let target = masked(register, mask);
+        self.cells[target.index()] = Some(masked_value(value, mask));
+        target
+    }
+
     /// Renames one of x1 to x31 to a register that was free, which has no value yet.
     pub fn rename(&mut self, context: Ctx, rd: u8) -> Result<PhysicalRegister, RenameFault>
         requires { (0 < rd) × (rd < 32) }
@@ -171,4 +193,23 @@ impl<A: Allocator> Registers<A> {
         let freed = map.undo();
         let _ = self.free.try_push_back(freed);
     }
+}
+
+/// A value, where a mask has all bits, and 0, where it has none.
+#[inline(always)]
+fn masked_value(value: u64, mask: u64) -> u64
+    ensures value { mask ≡ 18446744073709551615 → result ≡ value }
+    ensures zero { mask ≡ 0 → result ≡ 0 }
+{
+    value & mask
+}
+
+/// A register, where a mask has all bits, and the x0 of context 0, where it has none.
+#[inline(always)]
+fn masked(register: PhysicalRegister, mask: u64) -> PhysicalRegister
+    ensures register { mask ≡ 18446744073709551615 → result ≡ register }
+    ensures zero { mask ≡ 0 → result ≡ 0 }
+{
+    let number = register.index() & mask as usize;
+    PhysicalRegister::at(number)
 }

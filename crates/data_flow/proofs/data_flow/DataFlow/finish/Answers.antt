@@ -1,41 +1,35 @@
-use Rattle.std.proofs.Common.{arith, sym}
+use Rattle.std.proofs.Common.{Some, arith, refl, sym}
 use Rattle.data_flow.proofs.Places.{here, eight}
-use Rattle.data_flow.proofs.Sources.{some_there, at_place, not_true, not_false}
-use Rattle.data_flow.proofs.Steps.{result_register, finish_leaves, finish_none}
+use Rattle.data_flow.proofs.Sources.{place_of_value}
+use Rattle.data_flow.proofs.Steps.{result_register, has_one, has_masked, finish_masked}
 use Rattle.data_flow.proofs.data_flow.DataFlow.finish.Goals as goal
 
 pub index-ring-requires : goal.index-ring-requires
 index-ring-requires g c = omega (arith, (eight c.self.inside c.self.invariant).1, c.self.inside.renamed.ok.0)
 
-pub unwrap-renamed-requires : goal.unwrap-renamed-requires
-unwrap-renamed-requires g c =
+pub at-renamed-requires : goal.at-renamed-requires
+at-renamed-requires g c =
     let h = here c.self.inside c.args.self.now c.args.context c.index.result c.index-ring.result.now c.self.view_is c.self.invariant c.index.ensures.value c.index.ensures.bound c.index-ring.ensures in
-    some_there c.index-ring.result.now.items c.args.place c.get.result (omega (arith, h.count)) c.get.ensures
+    omega (arith, h.count)
 
-pub returns-then-not-has_destination : goal.returns-then-not-has_destination
-returns-then-not-has_destination g c =
+pub write_masked-register-requires : goal.write_masked-register-requires
+write_masked-register-requires g c =
     let h = here c.self.inside c.args.self.now c.args.context c.index.result c.index-ring.result.now c.self.view_is c.self.invariant c.index.ensures.value c.index.ensures.bound c.index-ring.ensures in
-    let at = at_place c.index-ring.result.now c.args.place c.get.result c.unwrap-renamed.result c.get.ensures c.unwrap-renamed.ensures in
-    finish_none c.self.inside c.args.self.now c.args.context c.index.result c.args.place c.args.value c.index-ring.result.now c.unwrap-renamed.result.now h at (not_false _ (sym c.if-not-has_destination.ensures))
-
-pub write-requires : goal.write-requires
-write-requires g c =
-    let h = here c.self.inside c.args.self.now c.args.context c.index.result c.index-ring.result.now c.self.view_is c.self.invariant c.index.ensures.value c.index.ensures.bound c.index-ring.ensures in
-    let at = at_place c.index-ring.result.now c.args.place c.get.result c.unwrap-renamed.result c.get.ensures c.unwrap-renamed.ensures in
-    let k = result_register c.self.inside c.args.self.now c.args.context c.index.result c.args.place c.index-ring.result.now c.unwrap-renamed.result.now c.self.invariant h at (not_true _ (sym c.if-not-has_destination.ensures)) in
-    (k.above, k.in_range)
+    let at = place_of_value c.index-ring.result.now c.args.place (Some c.at-renamed.result.now) c.at-renamed.result.now (sym c.at-renamed.ensures) refl in
+    let has = has_masked c.at-renamed.result.now.operands.destination c.result_mask-mask.result c.result_mask-mask.ensures.none in
+    record { register = λ some. (c.result_mask-mask.ensures.all (has_one c.at-renamed.result.now.operands.destination (has some)), (result_register c.self.inside c.args.self.now c.args.context c.index.result c.args.place c.index-ring.result.now c.at-renamed.result.now c.self.invariant h at (has some)).above, (result_register c.self.inside c.args.self.now c.args.context c.index.result c.args.place c.index-ring.result.now c.at-renamed.result.now c.self.invariant h at (has some)).in_range) }
 
 pub invariant_of-self : goal.invariant_of-self
 invariant_of-self g c =
     let h = here c.self.inside c.args.self.now c.args.context c.index.result c.index-ring.result.now c.self.view_is c.self.invariant c.index.ensures.value c.index.ensures.bound c.index-ring.ensures in
-    let at = at_place c.index-ring.result.now c.args.place c.get.result c.unwrap-renamed.result c.get.ensures c.unwrap-renamed.ensures in
-    let k = finish_leaves c.self.inside c.args.self.now c.args.context c.index.result c.args.place c.args.value c.index-ring.result.now c.unwrap-renamed.result.now c.write.new.self c.wake.new.self
-    c.self.view_is c.self.invariant h at (not_true _ (sym c.if-not-has_destination.ensures)) c.write.ensures.written c.wake.ensures.entries in
-    record { file = c.write.ensures.file; tied = k.tied; waiting = k.waiting }
+    let at = place_of_value c.index-ring.result.now c.args.place (Some c.at-renamed.result.now) c.at-renamed.result.now (sym c.at-renamed.ensures) refl in
+    let k = finish_masked c.self.inside c.args.self.now c.args.context c.index.result c.args.place c.args.value c.index-ring.result.now c.at-renamed.result.now c.write_masked-register.new.self c.wake.new.self c.write_masked-register.result c.result_mask-mask.result
+    c.self.view_is c.self.invariant h at c.result_mask-mask.ensures.none (λ some. omega (arith, c.result_mask-mask.ensures.all some)) c.write_masked-register.ensures.written c.write_masked-register.ensures.there c.write_masked-register.ensures.same c.write_masked-register.ensures.valued c.wake.ensures.entries in
+    record { file = c.write_masked-register.ensures.file; tied = k.tied; waiting = k.waiting }
 
 pub returns : goal.returns
 returns g c =
     let h = here c.self.inside c.args.self.now c.args.context c.index.result c.index-ring.result.now c.self.view_is c.self.invariant c.index.ensures.value c.index.ensures.bound c.index-ring.ensures in
-    let at = at_place c.index-ring.result.now c.args.place c.get.result c.unwrap-renamed.result c.get.ensures c.unwrap-renamed.ensures in
-    (finish_leaves c.self.inside c.args.self.now c.args.context c.index.result c.args.place c.args.value c.index-ring.result.now c.unwrap-renamed.result.now c.write.new.self c.wake.new.self
-    c.self.view_is c.self.invariant h at (not_true _ (sym c.if-not-has_destination.ensures)) c.write.ensures.written c.wake.ensures.entries).shows
+    let at = place_of_value c.index-ring.result.now c.args.place (Some c.at-renamed.result.now) c.at-renamed.result.now (sym c.at-renamed.ensures) refl in
+    (finish_masked c.self.inside c.args.self.now c.args.context c.index.result c.args.place c.args.value c.index-ring.result.now c.at-renamed.result.now c.write_masked-register.new.self c.wake.new.self c.write_masked-register.result c.result_mask-mask.result
+    c.self.view_is c.self.invariant h at c.result_mask-mask.ensures.none (λ some. omega (arith, c.result_mask-mask.ensures.all some)) c.write_masked-register.ensures.written c.write_masked-register.ensures.there c.write_masked-register.ensures.same c.write_masked-register.ensures.valued c.wake.ensures.entries).shows
