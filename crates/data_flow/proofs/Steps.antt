@@ -1,7 +1,8 @@
 -- Each call, from the fields before it to the fields after it.
-use Rattle.std.proofs.Common.{◌≡◌, ℕ, ◌+◌, ◌-◌, ◌<◌, ◌≤◌, Bool, true, false, not, List, [], ◌∷◌, ◌++◌, length, get_or, take, drop, map, slice_get, Option, Some, None, refl, sym, ap, subst, ◌∙◌, arith}
+use Rattle.std.proofs.Common.{◌≡◌, ℕ, ◌+◌, ◌-◌, ◌<◌, ◌≤◌, Bool, true, false, List, [], ◌∷◌, ◌++◌, length, get_or, take, drop, map, slice_get, Option, Some, None, refl, sym, ap, subst, ◌∙◌, arith}
 use Rattle.std.specs.Prelude.{set, sum_by, slice_index, IsSome, All, ◌==◌}
 use Rattle.std.specs.List.{list_any}
+use Rattle.std.proofs.lemmas.Bool.{eqb-true, eqb-false}
 use Rattle.std.proofs.lemmas.Bool.Decides.{nat_tests}
 use Rattle.std.proofs.lemmas.List.{length-set, set-get_or, take_more, take_all}
 use Rattle.std.proofs.lemmas.Option.{slice_get_within}
@@ -88,20 +89,33 @@ finish_none d now c k i v found n h at has =
     let lanes : set now.lanes c (with_result (lane now c) i v) ≡ now.lanes = ap (set now.lanes c) same ∙ set-get_or now.lanes c no_lane in
     ap (λ (ls : List Lane). let f : Flow = record now { lanes = ls } in f) (sym lanes)
 
--- either way, where it is written and woken as told
-pub finish_told : {A : Type 0} (d : Inside A) (now : Flow) (c k i v : ℕ) (found : Buffer Renamed) (n : Renamed) (r : File) (q : IssueQueue) (p : ℕ) (has : Bool) → flow d ≡ now → IsWiredUp d → Here d now c k found → IsAt found i n
-    → has ≡ not (n.operands.destination == 0) → (has ≡ true → r ≡ with_cell d.registers n.destination (Some v)) → (has ≡ true → p ≡ n.destination) → (has ≡ false → r ≡ d.registers) → (has ≡ false → IsSome (get_or d.registers.cells p None))
-    → q ≡ record d.queue { entries = map (awake p) d.queue.entries } → Leaves r d.renamed.items q (with_lane now c (with_result (lane now c) i v))
-finish_told d now c k i v found n r q p has shows up h at told written there same valued woken = by_told has refl
+-- whether it has a destination
+pub has_one : (n : ℕ) → (n == 0) ≡ false → 0 < n
+has_one n h = omega (arith, eqb-false n 0 h)
+
+-- a mask tells whether it has one
+pub has_masked : (n mask : ℕ) → (n ≡ 0 → mask ≡ 0) → 0 < mask → (n == 0) ≡ false
+has_masked n mask none some = by_test (n == 0) refl
   where
-    by_told : (b : Bool) → has ≡ b → Leaves r d.renamed.items q (with_lane now c (with_result (lane now c) i v))
-    by_told true is =
-        finish_leaves d now c k i v found n r q shows up h at (not_true (n.operands.destination == 0) (sym told ∙ is)) (written is)
-        (woken ∙ ap (λ w. let e : IssueQueue = record d.queue { entries = map (awake w) d.queue.entries } in e) (there is))
-    by_told false is =
-        let queue : q ≡ d.queue = woken ∙ ap (λ es. let e : IssueQueue = record d.queue { entries = es } in e) (all_awake d.registers.cells d.renamed.items p d.queue.entries (valued is) up.waiting) in
-        let stays = finish_none d now c k i v found n h at (not_false (n.operands.destination == 0) (sym told ∙ is)) in
-        rw (same is, queue) (record { tied = up.tied; waiting = up.waiting; shows = shows ∙ stays })
+    by_test : (b : Bool) → (n == 0) ≡ b → b ≡ false
+    by_test false is = refl
+    by_test true is = let zero_ = none (eqb-true n 0 is) in absurd (omega (arith, zero_, some))
+
+-- either way, where it is written and woken as a mask tells
+pub finish_masked : {A : Type 0} (d : Inside A) (now : Flow) (c k i v : ℕ) (found : Buffer Renamed) (n : Renamed) (r : File) (q : IssueQueue) (p mask : ℕ) → flow d ≡ now → IsWiredUp d → Here d now c k found → IsAt found i n
+    → (n.operands.destination ≡ 0 → mask ≡ 0) → (0 < n.operands.destination → 0 < mask) → (0 < mask → r ≡ with_cell d.registers n.destination (Some v)) → (0 < mask → p ≡ n.destination) → (mask ≡ 0 → r ≡ d.registers)
+    → (mask ≡ 0 → IsSome (get_or d.registers.cells p None)) → q ≡ record d.queue { entries = map (awake p) d.queue.entries } → Leaves r d.renamed.items q (with_lane now c (with_result (lane now c) i v))
+finish_masked d now c k i v found n r q p mask shows up h at none all written there same valued woken = by_test (n.operands.destination == 0) refl
+  where
+    by_test : (b : Bool) → (n.operands.destination == 0) ≡ b → Leaves r d.renamed.items q (with_lane now c (with_result (lane now c) i v))
+    by_test false is =
+        let some = all (has_one n.operands.destination is) in
+        finish_leaves d now c k i v found n r q shows up h at is (written some) (woken ∙ ap (λ w. let e : IssueQueue = record d.queue { entries = map (awake w) d.queue.entries } in e) (there some))
+    by_test true is =
+        let zero_ = none (eqb-true n.operands.destination 0 is) in
+        let queue : q ≡ d.queue = woken ∙ ap (λ es. let e : IssueQueue = record d.queue { entries = es } in e) (all_awake d.registers.cells d.renamed.items p d.queue.entries (valued zero_) up.waiting) in
+        let stays = finish_none d now c k i v found n h at is in
+        rw (same zero_, queue) (record { tied = up.tied; waiting = up.waiting; shows = shows ∙ stays })
 
 -- ---- a committed register
 

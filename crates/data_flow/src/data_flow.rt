@@ -169,9 +169,8 @@ impl<A: Allocator> DataFlow<A> {
     {
         let ring = &self.renamed[context.index()];
         let renamed = at(ring, place);
-        let (destination, has) = (renamed.destination, renamed.has_destination());
-        // Whether there is a destination is guessed wrongly too often for a jump.
-        let register = self.registers.write_where(destination, value, has);
+        let (destination, mask) = (renamed.destination, renamed.result_mask());
+        let register = self.registers.write_masked(destination, value, mask);
         self.queue.wake(register);
     }
 

@@ -1,6 +1,6 @@
 //! The registers of an instruction in flight.
 
-ghost use Rattle.std.specs.Prelude.{◌≡◌, ◌==◌, not};
+ghost use Rattle.std.specs.Prelude.{◌≡◌, ◌<◌, ◌==◌, not};
 
 use rename_file::PhysicalRegister;
 use reorder_buffer::Stamped;
@@ -38,6 +38,16 @@ impl Renamed {
         ensures { result ≡ not (self.now.operands.destination == 0) }
     {
         self.operands.destination.index() != 0
+    }
+
+    /// All bits where it has a result that others may read, and none where it has not.
+    #[inline(always)]
+    pub fn result_mask(&self) -> u64
+        ensures none { self.now.operands.destination ≡ 0 → result ≡ 0 }
+        ensures all { 0 < self.now.operands.destination → result ≡ 18446744073709551615 }
+    {
+        let count = (u64::from(self.operands.destination.index()) + 31) / 32;
+        0u64.wrapping_sub(count)
     }
 }
 

@@ -302,7 +302,7 @@ fn effect_of(word: u32, values: (u64, u64)) -> Option<(u8, u8, u8, Effect)> {
         first_source(&insn).index(),
         second_source(&insn).index(),
         destination(&insn).index(),
-        execute::<()>(&insn, 0x10000, values.0, values.1),
+        execute(&insn, 0x10000, values.0, values.1),
     ))
 }
 

@@ -125,24 +125,25 @@ impl<A: Allocator> Registers<A> {
         self.cells[place] = Some(value);
     }
 
-    /// Gives a register its value, where told so. Returns it, or else a register that has its value: an x0.
-    // It takes no jump, which would be guessed wrongly too often.
+    /// Gives a register its value, where a mask has all bits. Where it has none nothing changes, and it returns a register
+    /// that has its value, an x0, in place of this one.
+    // It takes no jump, which would be guessed wrongly too often: of a choice the compiler makes one.
     #[inline(always)]
-    pub fn write_where(
+    pub fn write_masked(
         &mut self,
         register: PhysicalRegister,
         value: u64,
-        told: bool,
+        mask: u64,
     ) -> PhysicalRegister
-        requires { told ≡ true → (8 ≤ register) × (register < length self.old.cells) }
-        ensures written { told ≡ true → self.new ≡ with_cell self.old register (Some value) }
-        ensures there { told ≡ true → result ≡ register }
-        ensures same { told ≡ false → self.new ≡ self.old }
-        ensures valued { told ≡ false → IsSome (cell self.old result) }
+        requires register { 0 < mask → (mask ≡ 18446744073709551615) × (8 ≤ register) × (register < length self.old.cells) }
+        ensures written { 0 < mask → self.new ≡ with_cell self.old register (Some value) }
+        ensures there { 0 < mask → result ≡ register }
+        ensures same { mask ≡ 0 → self.new ≡ self.old }
+        ensures valued { mask ≡ 0 → IsSome (cell self.old result) }
         ensures file { IsFile self.new }
     {
-        let target = register_where(register, told);
-        self.cells[target.index()] = Some(value_where(value, told));
+        let target = masked(register, mask);
+        self.cells[target.index()] = Some(masked_value(value, mask));
         target
     }
 
@@ -194,24 +195,21 @@ impl<A: Allocator> Registers<A> {
     }
 }
 
-/// A register, where told so, else the x0 of context 0.
+/// A value, where a mask has all bits, and 0, where it has none.
 #[inline(always)]
-fn register_where(register: PhysicalRegister, told: bool) -> PhysicalRegister
-    ensures register { told ≡ true → result ≡ register }
-    ensures zero { told ≡ false → result ≡ 0 }
+fn masked_value(value: u64, mask: u64) -> u64
+    ensures value { mask ≡ 18446744073709551615 → result ≡ value }
+    ensures zero { mask ≡ 0 → result ≡ 0 }
 {
-    if told {
-        register
-    } else {
-        PhysicalRegister::at(0)
-    }
+    value & mask
 }
 
-/// A value, where told so, else 0.
+/// A register, where a mask has all bits, and the x0 of context 0, where it has none.
 #[inline(always)]
-fn value_where(value: u64, told: bool) -> u64
-    ensures value { told ≡ true → result ≡ value }
-    ensures zero { told ≡ false → result ≡ 0 }
+fn masked(register: PhysicalRegister, mask: u64) -> PhysicalRegister
+    ensures register { mask ≡ 18446744073709551615 → result ≡ register }
+    ensures zero { mask ≡ 0 → result ≡ 0 }
 {
-    if told { value } else { 0 }
+    let number = register.index() & mask as usize;
+    PhysicalRegister::at(number)
 }

@@ -49,7 +49,7 @@ fn assert_operations(rt: &impl Abort, memory: &Memory, table: &[(u64, Operation)
 /// The outcome of an instruction that asks nothing of memory.
 fn outcome(word: u32, pc: u64, a: u64, b: u64) -> Result<Outcome, Fail> {
     let insn = decode(word).ok_or("an instruction")?;
-    Ok(Outcome::of_effect(pc, execute::<()>(&insn, pc, a, b), Ok(0)))
+    Ok(Outcome::of_effect(pc, execute(&insn, pc, a, b), Ok(0)))
 }
 
 fn value_and_next(value: u64, next: u64) -> Step {

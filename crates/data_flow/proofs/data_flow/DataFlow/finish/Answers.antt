@@ -1,7 +1,7 @@
-use Rattle.std.proofs.Common.{Some, arith, refl, sym, ◌∙◌}
+use Rattle.std.proofs.Common.{Some, arith, refl, sym}
 use Rattle.data_flow.proofs.Places.{here, eight}
-use Rattle.data_flow.proofs.Sources.{place_of_value, not_true}
-use Rattle.data_flow.proofs.Steps.{result_register, finish_told}
+use Rattle.data_flow.proofs.Sources.{place_of_value}
+use Rattle.data_flow.proofs.Steps.{result_register, has_one, has_masked, finish_masked}
 use Rattle.data_flow.proofs.data_flow.DataFlow.finish.Goals as goal
 
 pub index-ring-requires : goal.index-ring-requires
@@ -12,24 +12,24 @@ at-renamed-requires g c =
     let h = here c.self.inside c.args.self.now c.args.context c.index.result c.index-ring.result.now c.self.view_is c.self.invariant c.index.ensures.value c.index.ensures.bound c.index-ring.ensures in
     omega (arith, h.count)
 
-pub write_where-register-requires : goal.write_where-register-requires
-write_where-register-requires g c has =
+pub write_masked-register-requires : goal.write_masked-register-requires
+write_masked-register-requires g c =
     let h = here c.self.inside c.args.self.now c.args.context c.index.result c.index-ring.result.now c.self.view_is c.self.invariant c.index.ensures.value c.index.ensures.bound c.index-ring.ensures in
     let at = place_of_value c.index-ring.result.now c.args.place (Some c.at-renamed.result.now) c.at-renamed.result.now (sym c.at-renamed.ensures) refl in
-    let k = result_register c.self.inside c.args.self.now c.args.context c.index.result c.args.place c.index-ring.result.now c.at-renamed.result.now c.self.invariant h at (not_true _ (sym c.has_destination-has.ensures ∙ has)) in
-    (k.above, k.in_range)
+    let has = has_masked c.at-renamed.result.now.operands.destination c.result_mask-mask.result c.result_mask-mask.ensures.none in
+    record { register = λ some. (c.result_mask-mask.ensures.all (has_one c.at-renamed.result.now.operands.destination (has some)), (result_register c.self.inside c.args.self.now c.args.context c.index.result c.args.place c.index-ring.result.now c.at-renamed.result.now c.self.invariant h at (has some)).above, (result_register c.self.inside c.args.self.now c.args.context c.index.result c.args.place c.index-ring.result.now c.at-renamed.result.now c.self.invariant h at (has some)).in_range) }
 
 pub invariant_of-self : goal.invariant_of-self
 invariant_of-self g c =
     let h = here c.self.inside c.args.self.now c.args.context c.index.result c.index-ring.result.now c.self.view_is c.self.invariant c.index.ensures.value c.index.ensures.bound c.index-ring.ensures in
     let at = place_of_value c.index-ring.result.now c.args.place (Some c.at-renamed.result.now) c.at-renamed.result.now (sym c.at-renamed.ensures) refl in
-    let k = finish_told c.self.inside c.args.self.now c.args.context c.index.result c.args.place c.args.value c.index-ring.result.now c.at-renamed.result.now c.write_where-register.new.self c.wake.new.self c.write_where-register.result c.has_destination-has.result
-    c.self.view_is c.self.invariant h at c.has_destination-has.ensures c.write_where-register.ensures.written c.write_where-register.ensures.there c.write_where-register.ensures.same c.write_where-register.ensures.valued c.wake.ensures.entries in
-    record { file = c.write_where-register.ensures.file; tied = k.tied; waiting = k.waiting }
+    let k = finish_masked c.self.inside c.args.self.now c.args.context c.index.result c.args.place c.args.value c.index-ring.result.now c.at-renamed.result.now c.write_masked-register.new.self c.wake.new.self c.write_masked-register.result c.result_mask-mask.result
+    c.self.view_is c.self.invariant h at c.result_mask-mask.ensures.none (λ some. omega (arith, c.result_mask-mask.ensures.all some)) c.write_masked-register.ensures.written c.write_masked-register.ensures.there c.write_masked-register.ensures.same c.write_masked-register.ensures.valued c.wake.ensures.entries in
+    record { file = c.write_masked-register.ensures.file; tied = k.tied; waiting = k.waiting }
 
 pub returns : goal.returns
 returns g c =
     let h = here c.self.inside c.args.self.now c.args.context c.index.result c.index-ring.result.now c.self.view_is c.self.invariant c.index.ensures.value c.index.ensures.bound c.index-ring.ensures in
     let at = place_of_value c.index-ring.result.now c.args.place (Some c.at-renamed.result.now) c.at-renamed.result.now (sym c.at-renamed.ensures) refl in
-    (finish_told c.self.inside c.args.self.now c.args.context c.index.result c.args.place c.args.value c.index-ring.result.now c.at-renamed.result.now c.write_where-register.new.self c.wake.new.self c.write_where-register.result c.has_destination-has.result
-    c.self.view_is c.self.invariant h at c.has_destination-has.ensures c.write_where-register.ensures.written c.write_where-register.ensures.there c.write_where-register.ensures.same c.write_where-register.ensures.valued c.wake.ensures.entries).shows
+    (finish_masked c.self.inside c.args.self.now c.args.context c.index.result c.args.place c.args.value c.index-ring.result.now c.at-renamed.result.now c.write_masked-register.new.self c.wake.new.self c.write_masked-register.result c.result_mask-mask.result
+    c.self.view_is c.self.invariant h at c.result_mask-mask.ensures.none (λ some. omega (arith, c.result_mask-mask.ensures.all some)) c.write_masked-register.ensures.written c.write_masked-register.ensures.there c.write_masked-register.ensures.same c.write_masked-register.ensures.valued c.wake.ensures.entries).shows
