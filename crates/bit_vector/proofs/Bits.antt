@@ -185,6 +185,16 @@ lowest-clear x i fits lt = elim (lt-or 0 x) [
   | inl some ↦ (bit_at-trailing_zeros w64 x some (omega (arith, fits))).2 i lt
 ]
 
+pub lowest-set : (x : ℕ) → x < 18446744073709551616 → trailing_zeros w64 x < 64 → bit_at x (trailing_zeros w64 x) ≡ 1
+unfolding lib.Count.count_trailing_zeros
+lowest-set x fits within = elim (lt-or 0 x) [
+  | inr none ↦ (
+      let zero_ : x ≡ 0 = omega (arith, none) in
+      let all : trailing_zeros w64 x ≡ 64 = ap (trailing_zeros w64) zero_ in
+      omega (arith, all, within))
+  | inl some ↦ (bit_at-trailing_zeros w64 x some (omega (arith, fits))).1
+]
+
 -- ---- bits of two words
 
 pub both-set : (a b i : ℕ) → bit_at a i ≡ 1 → bit_at b i ≡ 1 → bit_at (bit_and a b) i ≡ 1

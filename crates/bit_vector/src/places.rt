@@ -76,6 +76,7 @@ pub fn count(word: u64) -> usize
 pub fn lowest(word: u64) -> usize
     ensures within { result ≤ 64 }
     ensures clear { (i : ℕ) → i < result → bit_at word i ≡ 0 }
+    ensures set { result < 64 → bit_at word result ≡ 1 }
 {
     word.trailing_zeros() as usize
 }
