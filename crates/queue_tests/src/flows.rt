@@ -43,12 +43,9 @@ fn of_three(alloc: Global) -> Result<DataFlow, AllocError>
 {
     let mut flow = with_x1(alloc)?;
     let [first, second, ..] = Ctx::all();
-    flow.rename(first, named(1, 5, 1, 0));
-    flow.wait(first, false, false);
-    flow.rename(first, named(2, 5, 5, 1));
-    flow.wait(first, true, false);
-    flow.rename(second, named(3, 6, 1, 1));
-    flow.wait(second, false, false);
+    flow.rename_waiting(first, named(1, 5, 1, 0), false, false);
+    flow.rename_waiting(first, named(2, 5, 5, 1), true, false);
+    flow.rename_waiting(second, named(3, 6, 1, 1), false, false);
     Ok(flow)
 }
 
