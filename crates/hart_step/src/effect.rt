@@ -204,17 +204,8 @@ fn branched(condition: BranchCondition, offset: BranchOffset, pc: u64, a: u64, b
 }
 
 /// The effect of an instruction at a pc, where its sources have the values `a` and `b`.
-pub fn execute(insn: &Insn, pc: u64, a: u64, b: u64) -> Effect
-    ensures effect { result ≡ effect_of insn.now pc a b }
-    ensures aligned { pc % 4 ≡ 0 → LeadsToAligned result }
-{
-    execute_for::<()>(insn, pc, a, b)
-}
-
-/// The same. The calls that name one type share a copy of the code, and that of a single call stands in line there: a
-/// caller that can't afford a call names a type of its own.
 #[inline(always)]
-pub fn execute_for<Caller>(insn: &Insn, pc: u64, a: u64, b: u64) -> Effect
+pub fn execute(insn: &Insn, pc: u64, a: u64, b: u64) -> Effect
     ensures effect { result ≡ effect_of insn.now pc a b }
     ensures aligned { pc % 4 ≡ 0 → LeadsToAligned result }
 {

@@ -8,9 +8,7 @@ mod hart;
 mod stop;
 mod values;
 
-pub use effect::{
-    Effect, destination, execute, execute_for, first_source, following, offset_by, second_source,
-};
+pub use effect::{Effect, destination, execute, first_source, following, offset_by, second_source};
 pub use environment::Environment;
 pub use hart::{Hart, load_width, stop_of_fault, store_width};
 pub use stop::Stop;
