@@ -7,7 +7,7 @@ use std::marker::Model;
 /// The number of a context, from 0 to 7. A contract sees it as that number.
 #[derive(Clone, Copy, Debug, Default, PartialEq, Eq, Hash, PartialOrd, Ord)]
 pub struct Ctx {
-    number: u8,
+    number: usize,
 }
 
 impl Model for Ctx {
@@ -27,9 +27,7 @@ impl Ctx {
         ensures value { IfSome result (λ c. c ≡ number) }
     {
         if number < 8 {
-            Some(Ctx {
-                number: number as u8,
-            })
+            Some(Ctx { number })
         } else {
             None
         }
@@ -56,6 +54,6 @@ impl Ctx {
         ensures value { result ≡ self }
         ensures bound { result < 8 }
     {
-        self.number as usize
+        self.number
     }
 }
