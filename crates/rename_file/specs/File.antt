@@ -1,5 +1,5 @@
 -- Physical registers: which of them each context has committed, which are renames, which are free.
-use Rattle.std.specs.Prelude.{◌≡◌, ℕ, ◌+◌, ◌-◌, ◌<◌, ◌≤◌, List, [], ◌∷◌, ◌++◌, length, take, drop, slice_set, slice_index, slice_index_or, Option, Some, None, IsSome, All, nat_lt, ◌==◌, if◌then◌else◌, sum_by}
+use Rattle.std.specs.Prelude.{◌≡◌, ℕ, ◌+◌, ◌-◌, ◌<◌, ◌≤◌, List, [], ◌∷◌, ◌++◌, length, take, drop, slice_set, slice_index, slice_index_or, slice_get, Option, Some, None, IsSome, All, nat_lt, ◌==◌, if◌then◌else◌, sum_by}
 use Rattle.rename_file.specs.declared.rename_map.Rename.{Rename}
 
 -- one context: the register that is committed for each of x0 to x31, the renames since, oldest first, and how many renames it may have
@@ -8,7 +8,7 @@ pub record Bank : Type 0 where
   pub renames : List Rename
   pub room : ℕ
 
--- the contexts, the registers that are free, and for each register its value, once it is there
+-- the contexts, the registers that are free, the newest last, and for each register its value, once it is there
 pub record File : Type 0 where
   pub banks : List Bank
   pub free : List ℕ
@@ -85,9 +85,13 @@ with_cell f p v = record { banks = f.banks; free = f.free; cells = slice_set f.c
 abbrev pub renamed_bank : Bank → ℕ → ℕ → Bank
 renamed_bank b rd p = record { committed = b.committed; renames = b.renames ++ record { rd = rd; register = p } ∷ []; room = b.room }
 
--- rd of the context c is renamed to p, the first that was free, which has no value yet
+-- p is the newest of the free
+abbrev pub IsNewestFree : File → ℕ → Type 0
+IsNewestFree f p = slice_get f.free (length f.free - 1) ≡ Some p
+
+-- rd of the context c is renamed to p, the newest of the free, which has no value yet
 abbrev pub renamed : File → ℕ → ℕ → ℕ → File
-renamed f c rd p = record { banks = slice_set f.banks c (renamed_bank (bank f c) rd p); free = drop 1 f.free; cells = slice_set f.cells p None }
+renamed f c rd p = record { banks = slice_set f.banks c (renamed_bank (bank f c) rd p); free = take (length f.free - 1) f.free; cells = slice_set f.cells p None }
 
 abbrev pub no_rename : Rename
 no_rename = record { rd = 0; register = 0 }

@@ -12,6 +12,5 @@ invariant-loop-context g l = record {
 abbrev pub invariant-loop-number : goal.invariant-loop-number
 invariant-loop-number g l = record {
   len : length l.free.items + 256 ≡ l.number;
-  capacity : l.free.capacity ≡ l.extra;
   row : (i : ℕ) → i < length l.free.items → get_or l.free.items i 0 ≡ 256 + i;
 }
