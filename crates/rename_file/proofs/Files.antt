@@ -86,6 +86,6 @@ IsFile-undone f c lt some ok =
 pub has_room : (f : File) (c : ℕ) → c < 8 → 0 < length (bank f c).renames → IsFile f → length f.free + 256 < length f.cells
 has_room f c lt some ok = omega (arith, ok.extra, get_or-le-sum_by renames_in f.banks c no_bank (omega (arith, ok.eight)))
 
--- where a register is free, a context has room for a rename
-pub has_room_for : (f : File) (c : ℕ) → c < 8 → 0 < length f.free → IsFile f → length (bank f c).renames < (bank f c).room
-has_room_for f c lt some ok = omega (arith, ok.extra, (ok.banks c lt).room, get_or-le-sum_by renames_in f.banks c no_bank (omega (arith, ok.eight)))
+-- a context has so many renames at most
+pub has_room_for : (f : File) (c : ℕ) → c < 8 → IsFile f → length (bank f c).renames + 256 ≤ length f.cells
+has_room_for f c lt ok = omega (arith, ok.extra, get_or-le-sum_by renames_in f.banks c no_bank (omega (arith, ok.eight)))

@@ -1,5 +1,5 @@
 -- The lemmas on files in the terms of the code: the context that was found by its index, and what became of it.
-use Rattle.std.proofs.Common.{◌≡◌, ℕ, ◌-◌, ◌<◌, ◌≤◌, [], ◌∷◌, ◌++◌, length, get_or, take, None, arith}
+use Rattle.std.proofs.Common.{◌≡◌, ℕ, ◌+◌, ◌-◌, ◌<◌, ◌≤◌, [], ◌∷◌, ◌++◌, length, get_or, take, None, arith}
 use Rattle.std.specs.Prelude.{set, slice_index, IsSome}
 use Rattle.std.proofs.lemmas.List.{get_or_read}
 use Rattle.rename_file.specs.File.{File, IsFile, Bank, IsNewestFree, bank, no_bank, mapped, renamed_bank, committed_bank, undone_bank, first, last}
@@ -49,8 +49,8 @@ last_narrow f c i old ok at some =
     let o : old ≡ bank f c = bank_found f c i old ok at in
     rw o (some, (last_is f.cells c (bank f c) some (ok.banks c at.below)).narrow)
 
-pub room_found : (f : File) (c i : ℕ) (old : Bank) → IsFile f → Found f c i old → 0 < length f.free → length old.renames < old.room
-room_found f c i old ok at some = let o : old ≡ bank f c = bank_found f c i old ok at in rw o (has_room_for f c at.below some ok)
+pub room_found : (f : File) (c i : ℕ) (old : Bank) → IsFile f → Found f c i old → length old.renames + 256 ≤ length f.cells
+room_found f c i old ok at = let o : old ≡ bank f c = bank_found f c i old ok at in rw o (has_room_for f c at.below ok)
 
 pub source_found : (f : File) (c i rs p : ℕ) (old : Bank) → IsFile f → Found f c i old → rs < 32 → p ≡ mapped old rs → IsNewest (bank f c) rs p × (p < length f.cells)
 source_found f c i rs p old ok at narrow is =

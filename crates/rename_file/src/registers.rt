@@ -1,6 +1,6 @@
 //! The physical registers of all contexts.
 
-ghost use Rattle.std.specs.Prelude.{true, false, ◌≡◌, ◌↔◌, ◌+◌, ◌<◌, ◌≤◌, length, slice_index, IfOk, OnOk, OnErr, IsOk, IsSome, IsTrue, Ok, Err, Some};
+ghost use Rattle.std.specs.Prelude.{true, false, ◌≡◌, ◌↔◌, ◌+◌, ◌<◌, ◌≤◌, length, replicate, slice_index, IfOk, OnOk, OnErr, IsOk, IsSome, IsTrue, Ok, Err, Some};
 ghost use Rattle.rename_file.specs.File.{IsFile, bank, cell, mapped, rename_count, IsNewestFree, with_cell, renamed, committed_one, undone, first};
 ghost use Rattle.rename_file.specs.Fresh.{IsFresh};
 ghost use Rattle.rename_file.specs.Newest.{IsNewest};
@@ -16,7 +16,7 @@ use std::marker::Model;
 /// No call but `new` takes memory, and each is of one step.
 #[derive(Drop)]
 pub struct Registers<A: Allocator = Global> {
-    maps: Vec<RenameMap<A>, A>,
+    maps: Vec<RenameMap, A>,
     free: ArrayVec<PhysicalRegister, 224>,
     cells: Vec<Option<u64>, A>,
 }
@@ -48,14 +48,14 @@ impl<A: Allocator + Copy> Registers<A> {
     {
         let mut maps = Vec::new(alloc);
         for context in 0..8 {
-            maps.push(RenameMap::new(alloc, context, extra)?)
+            maps.push(RenameMap::new(context))
                 .map_err(AllocError::from)?;
         }
         let mut free = ArrayVec::new();
         for number in 256..256 + extra {
             free.push(PhysicalRegister::at(number));
         }
-        let cells = vec![in alloc; Some(0); 256 + extra]?;
+        let cells = zeros(alloc, 256 + extra)?;
         Ok(Registers { maps, free, cells })
     }
 }
@@ -191,6 +191,13 @@ impl<A: Allocator> Registers<A> {
         let freed = map.undo();
         self.free.push(freed);
     }
+}
+
+/// So many registers that hold 0.
+fn zeros<A: Allocator>(alloc: A, count: usize) -> Result<Vec<Option<u64>, A>, AllocError>
+    ensures { IfOk result (λ v. v.items ≡ replicate count (Some 0)) }
+{
+    vec![in alloc; Some(0); count]
 }
 
 /// A value, where a mask has all bits, and 0, where it has none.

@@ -1,6 +1,5 @@
 use Rattle.std.proofs.Common.{rules, ◌≡◌, ◌-◌, Some, length, slice_get, arith}
 use Rattle.std.proofs.lemmas.List.{length-set}
-use Rattle.std.proofs.lemmas.Option.{slice_get_within}
 use Rattle.rename_file.specs.Shown.{shown}
 use Rattle.rename_file.proofs.Uses.{newest_free}
 use Rattle.rename_file.proofs.Files.{newest_above}
@@ -16,7 +15,7 @@ pub push-requires-clause-room : goal.push-requires-clause-room
 push-requires-clause-room g c =
     let taken : slice_get c.self.inside.free.items (length c.self.inside.free.items - 1) ≡ Some c.in-Some.taken = search rules in
     let at = found (shown c.self.inside) c.args.context c.index-2.result c.index_mut-map.result.now c.index-2.ensures.value (omega arith) c.index_mut-map.ensures.value in
-    room_found (shown c.self.inside) c.args.context c.index-2.result c.index_mut-map.result.now c.self.invariant.file at (omega (arith, slice_get_within c.self.inside.free.items (length c.self.inside.free.items - 1) c.in-Some.taken taken))
+    omega (arith, room_found (shown c.self.inside) c.args.context c.index-2.result c.index_mut-map.result.now c.self.invariant.file at, c.self.invariant.room)
 
 pub invariant_of-self-2 : goal.invariant_of-self-2
 invariant_of-self-2 g c =

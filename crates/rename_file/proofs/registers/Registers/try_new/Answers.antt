@@ -5,10 +5,10 @@ use Rattle.rename_file.proofs.registers.Registers.try_new.Goals as goal
 
 pub loop-context-preserved : goal.loop-context-preserved
 loop-context-preserved g c =
-    let pushed : c.push.new.self.items ≡ c.loop-context.maps.items ++ c.in_ok-new.field-0 ∷ [] = search rules in
+    let pushed : c.push.new.self.items ≡ c.loop-context.maps.items ++ c.new.result ∷ [] = search rules in
     record {
-      len = rw pushed (omega (arith, length_push c.loop-context.maps.items c.in_ok-new.field-0, c.loop-context.invariant.len));
-      first = rw pushed (first_more c.args.extra c.loop-context.maps.items c.in_ok-new.field-0 c.loop-context.context c.loop-context.invariant.len c.loop-context.invariant.first c.in_ok-new.ensures);
+      len = rw pushed (omega (arith, length_push c.loop-context.maps.items c.new.result, c.loop-context.invariant.len));
+      first = rw pushed (first_more c.loop-context.maps.items c.new.result c.loop-context.context c.loop-context.invariant.len c.loop-context.invariant.first c.new.ensures);
     }
 
 pub loop-number-preserved : goal.loop-number-preserved

@@ -6,7 +6,7 @@ use Rattle.rename_file.proofs.registers.Registers.try_new.Given as goal
 abbrev pub invariant-loop-context : goal.invariant-loop-context
 invariant-loop-context g l = record {
   len : length l.maps.items ≡ l.context;
-  first : (c : ℕ) → c < l.context → IsFirst (get_or l.maps.items c no_bank) c l.extra;
+  first : (c : ℕ) → c < l.context → IsFirst (get_or l.maps.items c no_bank) c;
 }
 
 abbrev pub invariant-loop-number : goal.invariant-loop-number
