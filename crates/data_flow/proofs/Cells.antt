@@ -1,13 +1,13 @@
 -- A write to a physical register changes the context that uses it, and no other.
-use Rattle.std.proofs.Common.{◌≡◌, ◌≢◌, ℕ, zero, suc, ◌+◌, ◌<◌, ◌≤◌, Bool, true, false, List, [], ◌∷◌, length, get_or, take, map, slice_get, Option, Some, None, refl, sym, ap, subst, arith, inl, inr}
+use Rattle.std.proofs.Common.{◌≡◌, ◌≢◌, ℕ, zero, suc, ◌+◌, ◌<◌, ◌≤◌, Bool, true, false, List, [], ◌∷◌, length, get_or, take, map, Option, None, refl, sym, ap, subst, arith, inl, inr}
 use Rattle.std.specs.Prelude.{set, sum_by, slice_index, ◌==◌, if◌then◌else◌}
 use Rattle.std.proofs.lemmas.Bool.{cases_lt}
 use Rattle.std.proofs.lemmas.Bool.Decides.{nat_tests}
 use Rattle.std.proofs.lemmas.List.{length-set, set_past, get_or-set_other}
 use Rattle.std.proofs.lemmas.List.Sums.{sum_by-cons, sum_by-set, get_or-le-sum_by}
 use Rattle.rename_file.specs.declared.rename_map.Rename.{Rename}
-use Rattle.rename_file.specs.File.{Bank, bank, no_bank, File, IsFile, uses_in, at}
-use Rattle.rename_file.proofs.Uses.{at_self, used_in_range, used_once, first_use}
+use Rattle.rename_file.specs.File.{Bank, bank, no_bank, File, IsFile, IsNewestFree, uses_in, at}
+use Rattle.rename_file.proofs.Uses.{at_self, used_in_range, used_once, newest_use}
 use Rattle.circular_buffer.specs.Buffer.{Buffer}
 use Rattle.hart_step.specs.State.{written}
 use Rattle.data_flow.specs.declared.operands.Renamed.{Renamed}
@@ -64,8 +64,8 @@ pub used_is_cell : (f : File) (c p : ℕ) → IsFile f → c < length f.banks �
 used_is_cell f c p ok lt used = used_in_range f p ok (omega (arith, used_in_banks f c p lt used))
 
 -- a register that is free is in use nowhere
-pub free_unused : (f : File) (p : ℕ) → IsFile f → slice_get f.free 0 ≡ Some p → sum_by (uses_in p) f.banks ≡ 0
-free_unused f p ok e = omega (arith, used_once f p ok, first_use p p f.free e, at_self p)
+pub free_unused : (f : File) (p : ℕ) → IsFile f → IsNewestFree f p → sum_by (uses_in p) f.banks ≡ 0
+free_unused f p ok e = omega (arith, used_once f p ok, newest_use p p f.free e, at_self p)
 
 -- ---- what is unused is not seen
 

@@ -21,7 +21,7 @@ use Rattle.data_flow.proofs.Ties.{lanes-set, tied-set, get_or-map}
 use Rattle.data_flow.proofs.Cells.{same_all_tied, used_is_cell}
 use Rattle.data_flow.proofs.LaneEvents.{stamp_of, finished, one_lane, finish_lane, set_lane, result_used, result_above, bank_past, commits, committable, IsCommittable, bank_before, undoes, undoable}
 use Rattle.data_flow.proofs.Places.{Here, here_unread}
-use Rattle.data_flow.proofs.Sources.{IsAt, not_true, not_false}
+use Rattle.data_flow.proofs.Sources.{IsAt}
 use Rattle.data_flow.proofs.Waiters.{waiters_awake}
 use Rattle.data_flow.proofs.Waits.{all_awake, waiting_finish, waiting_set, waiting_drop, waiting_take, waits_named}
 

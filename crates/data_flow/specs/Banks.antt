@@ -1,6 +1,6 @@
 -- What naming a result does to a bank.
-use Rattle.std.specs.Prelude.{◌≡◌, ℕ, ◌<◌, ◌≤◌, length, slice_set, slice_get, Some, None, ◌==◌, if◌then◌else◌}
-use Rattle.rename_file.specs.File.{Bank, File, bank, mapped, renamed_bank}
+use Rattle.std.specs.Prelude.{◌≡◌, ℕ, ◌<◌, ◌≤◌, length, slice_set, None, ◌==◌, if◌then◌else◌}
+use Rattle.rename_file.specs.File.{Bank, File, IsNewestFree, bank, mapped, renamed_bank}
 use Rattle.data_flow.specs.declared.operands.Operands.{Operands}
 use Rattle.data_flow.specs.declared.operands.Renamed.{Renamed}
 
@@ -11,7 +11,7 @@ bank_with b rd p = if rd == 0 then b else renamed_bank b rd p
 -- a register that was free is named, and has no value yet
 pub record CellsWith (old new : File) (rd p : ℕ) : Type 0 where
   pub none : rd ≡ 0 → (new.cells ≡ old.cells) × (new.free ≡ old.free)
-  pub named : 0 < rd → (new.cells ≡ slice_set old.cells p None) × (slice_get old.free 0 ≡ Some p) × (8 ≤ p) × (p < length old.cells)
+  pub named : 0 < rd → (new.cells ≡ slice_set old.cells p None) × IsNewestFree old p × (8 ≤ p) × (p < length old.cells)
 
 -- an instruction with what its sources stood for in a context before its own register was named
 pub record IsNamed (old : File) (c : ℕ) (o : Operands) (n : Renamed) : Type 0 where

@@ -21,7 +21,6 @@ IsBank-written cells p v c b known ok = record {
   others = ok.others;
   valued = λ r lt. some_written cells p v (slice_index b.committed r) (known r lt) (ok.valued r lt);
   renamed = ok.renamed;
-  room = rw length-set ok.room;
 }
 
 pub IsBank-emptied : (cells : List (Option ℕ)) (p c : ℕ) (b : Bank) → ((r : ℕ) → r < 32 → slice_index b.committed r ≢ p) → IsBank cells c b → IsBank (set cells p None) c b
@@ -31,7 +30,6 @@ IsBank-emptied cells p c b other ok = record {
   others = ok.others;
   valued = λ r lt. rw (get_or-set_other cells p (slice_index b.committed r) None None (other r lt)) (ok.valued r lt);
   renamed = ok.renamed;
-  room = rw length-set ok.room;
 }
 
 -- each context, after a change of one of them
@@ -50,7 +48,6 @@ IsBank-renamed cells c rd p b named narrow above ok = record {
   others = ok.others;
   valued = ok.valued;
   renamed = All-push IsRename b.renames (record { rd = rd; register = p }) ok.renamed (record { named = named; narrow = narrow; register = above });
-  room = ok.room;
 }
 
 pub first_is : (cells : List (Option ℕ)) (c : ℕ) (b : Bank) → 0 < length b.renames → IsBank cells c b → IsRename (first b)
@@ -77,7 +74,6 @@ IsBank-committed cells c b some ready ok =
       others = λ r some-r lt. at_set (λ q. 8 ≤ q) b.committed n.rd n.register r (omega (arith, ok.wide)) is.register (λ _. ok.others r some-r lt);
       valued = λ r lt. at_set (λ q. IsSome (get_or cells q None)) b.committed n.rd n.register r (omega (arith, ok.wide)) ready (λ _. ok.valued r lt);
       renamed = All-drop IsRename 1 b.renames ok.renamed;
-      room = ok.room;
     }
 
 pub IsBank-undone : (cells : List (Option ℕ)) (c : ℕ) (b : Bank) → IsBank cells c b → IsBank cells c (undone_bank b)
@@ -87,5 +83,4 @@ IsBank-undone cells c b ok = record {
   others = ok.others;
   valued = ok.valued;
   renamed = All-take IsRename (length b.renames - 1) b.renames ok.renamed;
-  room = ok.room;
 }

@@ -1,13 +1,13 @@
 -- Each call leaves a file.
-use Rattle.std.proofs.Common.{◌≡◌, ℕ, ◌+◌, ◌-◌, ◌<◌, ◌≤◌, [], ◌∷◌, length, get_or, drop, slice_get, Some, None, ap, ◌∙◌, arith, length-append}
+use Rattle.std.proofs.Common.{◌≡◌, ℕ, ◌+◌, ◌-◌, ◌<◌, ◌≤◌, [], ◌∷◌, length, get_or, drop, Some, None, ap, ◌∙◌, arith, length-append}
 use Rattle.std.specs.Prelude.{set, sum_by, slice_index, IsSome}
 use Rattle.std.proofs.lemmas.List.{length-set, length-drop, length-take, drop_all, get_or-set_other}
-use Rattle.std.proofs.lemmas.List.Elements.{All-push, All-drop, All-get_or}
+use Rattle.std.proofs.lemmas.List.Elements.{All-push, All-take, All-get_or}
 use Rattle.std.proofs.lemmas.List.Sums.{sum_by-set, sum_by_push, sum_by-drop_more, sum_by-take-drop, get_or-le-sum_by}
 use Rattle.std.proofs.lemmas.Option.{get_or_from_slice_get, slice_get_within}
 use Rattle.rename_file.specs.declared.rename_map.Rename.{Rename}
-use Rattle.rename_file.specs.File.{File, IsFile, Bank, bank, no_bank, no_rename, at, with_cell, renamed, renamed_bank, committed_one, committed_bank, undone, undone_bank, first, last}
-use Rattle.rename_file.proofs.Uses.{uses-set, first_use, committed_in_range, not_committed}
+use Rattle.rename_file.specs.File.{File, IsFile, Bank, IsNewestFree, bank, no_bank, no_rename, at, with_cell, renamed, renamed_bank, committed_one, committed_bank, undone, undone_bank, first, last}
+use Rattle.rename_file.proofs.Uses.{uses-set, newest_use, committed_in_range, not_committed}
 use Rattle.rename_file.proofs.Banks.{IsBank-written, IsBank-emptied, IsBank-renamed, IsBank-committed, IsBank-undone, banks-set, first_is, last_is}
 
 abbrev renames_in : Bank → ℕ
@@ -23,15 +23,17 @@ IsFile-written f p v above ok = record {
   extra = rw length-set ok.extra;
 }
 
--- the first of the free isn't an x0
-pub first_above : (f : File) (p : ℕ) → slice_get f.free 0 ≡ Some p → IsFile f → 8 ≤ p
-first_above f p taken ok =
-    let above : 8 ≤ get_or f.free 0 p = All-get_or (λ q. 8 ≤ q) f.free 0 p (slice_get_within f.free 0 p taken) ok.free in
-    rw (get_or_from_slice_get f.free 0 p p taken) at above
+-- the newest of the free isn't an x0
+pub newest_above : (f : File) (p : ℕ) → IsNewestFree f p → IsFile f → 8 ≤ p
+newest_above f p taken ok =
+    let k : ℕ = length f.free - 1 in
+    let above : 8 ≤ get_or f.free k p = All-get_or (λ q. 8 ≤ q) f.free k p (slice_get_within f.free k p taken) ok.free in
+    rw (get_or_from_slice_get f.free k p p taken) at above
 
-pub IsFile-renamed : (f : File) (c rd p : ℕ) → c < 8 → 0 < rd → rd < 32 → slice_get f.free 0 ≡ Some p → IsFile f → IsFile (renamed f c rd p)
+pub IsFile-renamed : (f : File) (c rd p : ℕ) → c < 8 → 0 < rd → rd < 32 → IsNewestFree f p → IsFile f → IsFile (renamed f c rd p)
 IsFile-renamed f c rd p lt named narrow taken ok =
-    let above = first_above f p taken ok in
+    let above = newest_above f p taken ok in
+    let k : ℕ = length f.free - 1 in
     let b = renamed_bank (bank f c) rd p in
     let in_banks : c < length f.banks = omega (arith, ok.eight) in
     record {
@@ -40,9 +42,9 @@ IsFile-renamed f c rd p lt named narrow taken ok =
           (λ k lt-k. IsBank-emptied f.cells p k (bank f k) (λ r narrow-r. not_committed f p k r ok taken lt-k narrow-r) (ok.banks k lt-k))
           (IsBank-renamed (set f.cells p None) c rd p (bank f c) named narrow above (IsBank-emptied f.cells p c (bank f c) (λ r narrow-r. not_committed f p c r ok taken lt narrow-r) (ok.banks c lt)));
       zeros = λ k lt-k. get_or-set_other f.cells p k None None (λ e. omega arith) ∙ ok.zeros k lt-k;
-      free = All-drop (λ q. 8 ≤ q) 1 f.free ok.free;
-      once = λ q. rw length-set (omega (arith, ok.once q, first_use q p f.free taken, uses-set q f c b in_banks, sum_by_push (λ (n : Rename). at q n.register) (bank f c).renames (record { rd = rd; register = p })));
-      extra = rw length-set (omega (arith, ok.extra, length-drop 1 f.free, slice_get_within f.free 0 p taken, sum_by-set renames_in f.banks c b no_bank in_banks, length-append (bank f c).renames (record { rd = rd; register = p } ∷ [])));
+      free = All-take (λ q. 8 ≤ q) k f.free ok.free;
+      once = λ q. rw length-set (omega (arith, ok.once q, newest_use q p f.free taken, uses-set q f c b in_banks, sum_by_push (λ (n : Rename). at q n.register) (bank f c).renames (record { rd = rd; register = p })));
+      extra = rw length-set (omega (arith, ok.extra, length-take k f.free, slice_get_within f.free k p taken, sum_by-set renames_in f.banks c b no_bank in_banks, length-append (bank f c).renames (record { rd = rd; register = p } ∷ [])));
     }
 
 pub IsFile-committed : (f : File) (c : ℕ) → c < 8 → 0 < length (bank f c).renames → IsSome (get_or f.cells (first (bank f c)).register None) → IsFile f → IsFile (committed_one f c)
@@ -84,6 +86,6 @@ IsFile-undone f c lt some ok =
 pub has_room : (f : File) (c : ℕ) → c < 8 → 0 < length (bank f c).renames → IsFile f → length f.free + 256 < length f.cells
 has_room f c lt some ok = omega (arith, ok.extra, get_or-le-sum_by renames_in f.banks c no_bank (omega (arith, ok.eight)))
 
--- where a register is free, a context has room for a rename
-pub has_room_for : (f : File) (c : ℕ) → c < 8 → 0 < length f.free → IsFile f → length (bank f c).renames < (bank f c).room
-has_room_for f c lt some ok = omega (arith, ok.extra, (ok.banks c lt).room, get_or-le-sum_by renames_in f.banks c no_bank (omega (arith, ok.eight)))
+-- a context has so many renames at most
+pub has_room_for : (f : File) (c : ℕ) → c < 8 → IsFile f → length (bank f c).renames + 256 ≤ length f.cells
+has_room_for f c lt ok = omega (arith, ok.extra, get_or-le-sum_by renames_in f.banks c no_bank (omega (arith, ok.eight)))

@@ -1,8 +1,8 @@
 -- The lemmas on files in the terms of the code: the context that was found by its index, and what became of it.
-use Rattle.std.proofs.Common.{◌≡◌, ℕ, ◌<◌, ◌≤◌, [], ◌∷◌, ◌++◌, length, get_or, drop, slice_get, Some, None, arith}
+use Rattle.std.proofs.Common.{◌≡◌, ℕ, ◌+◌, ◌-◌, ◌<◌, ◌≤◌, [], ◌∷◌, ◌++◌, length, get_or, take, None, arith}
 use Rattle.std.specs.Prelude.{set, slice_index, IsSome}
 use Rattle.std.proofs.lemmas.List.{get_or_read}
-use Rattle.rename_file.specs.File.{File, IsFile, Bank, bank, no_bank, mapped, renamed_bank, committed_bank, undone_bank, first, last}
+use Rattle.rename_file.specs.File.{File, IsFile, Bank, IsNewestFree, bank, no_bank, mapped, renamed_bank, committed_bank, undone_bank, first, last}
 use Rattle.rename_file.specs.Newest.{IsNewest}
 use Rattle.rename_file.proofs.Uses.{committed_in_range}
 use Rattle.rename_file.proofs.Banks.{first_is, last_is}
@@ -21,8 +21,8 @@ found f c i old index below read = record { index = index; below = below; read =
 pub bank_found : (f : File) (c i : ℕ) (old : Bank) → IsFile f → Found f c i old → old ≡ bank f c
 bank_found f c i old ok at = rw at.index at (get_or_read f.banks i old (omega (arith, at.index, at.below, ok.eight)) at.read no_bank)
 
-pub renamed_file : (f : File) (c i rd p : ℕ) (old new : Bank) → IsFile f → Found f c i old → 0 < rd → rd < 32 → slice_get f.free 0 ≡ Some p → new ≡ renamed_bank old rd p
-    → IsFile (record { banks = set f.banks i new; free = drop 1 f.free; cells = set f.cells p None })
+pub renamed_file : (f : File) (c i rd p : ℕ) (old new : Bank) → IsFile f → Found f c i old → 0 < rd → rd < 32 → IsNewestFree f p → new ≡ renamed_bank old rd p
+    → IsFile (record { banks = set f.banks i new; free = take (length f.free - 1) f.free; cells = set f.cells p None })
 renamed_file f c i rd p old new ok at named narrow taken is =
     let o : old ≡ bank f c = bank_found f c i old ok at in
     rw (is, o, at.index) (IsFile-renamed f c rd p at.below named narrow taken ok)
@@ -49,8 +49,8 @@ last_narrow f c i old ok at some =
     let o : old ≡ bank f c = bank_found f c i old ok at in
     rw o (some, (last_is f.cells c (bank f c) some (ok.banks c at.below)).narrow)
 
-pub room_found : (f : File) (c i : ℕ) (old : Bank) → IsFile f → Found f c i old → 0 < length f.free → length old.renames < old.room
-room_found f c i old ok at some = let o : old ≡ bank f c = bank_found f c i old ok at in rw o (has_room_for f c at.below some ok)
+pub room_found : (f : File) (c i : ℕ) (old : Bank) → IsFile f → Found f c i old → length old.renames + 256 ≤ length f.cells
+room_found f c i old ok at = let o : old ≡ bank f c = bank_found f c i old ok at in rw o (has_room_for f c at.below ok)
 
 pub source_found : (f : File) (c i rs p : ℕ) (old : Bank) → IsFile f → Found f c i old → rs < 32 → p ≡ mapped old rs → IsNewest (bank f c) rs p × (p < length f.cells)
 source_found f c i rs p old ok at narrow is =

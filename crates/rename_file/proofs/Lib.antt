@@ -1,3 +1,4 @@
+pub mod Rounds
 pub mod Maps
 pub mod Uses
 pub mod Banks

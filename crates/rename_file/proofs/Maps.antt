@@ -3,7 +3,6 @@ use Rattle.std.proofs.Common.{◌≡◌, ℕ, zero, suc, ◌+◌, ◌-◌, ◌<�
 use Rattle.std.specs.Prelude.{set, slice_index}
 use Rattle.std.proofs.lemmas.List.{length-set, set-set, set-get_or, length-map, map-append, take-map, get_or-map}
 use Rattle.std.proofs.lemmas.Option.{get_or_from_slice_get, slice_get_within}
-use Rattle.circular_buffer.specs.Buffer.{Buffer, buffer}
 use Rattle.rename_file.specs.declared.rename_map.Rename.{Rename}
 use Rattle.rename_file.specs.declared.rename_map.Change.{Change}
 use Rattle.rename_file.specs.declared.rename_map.RenameMap.TheInside.{Inside}
@@ -39,36 +38,36 @@ map_past-undone m (k ∷ c ∷ cs) (suc i) d ok is = map_past-undone (set m k.re
 
 -- ---- what is tracked
 
-pub tracked_push : {A : Type 0} (m : Inside A) (cs : Buffer Change) (rd p previous : ℕ) → IsTracked m → previous ≡ slice_index m.current rd
-    → cs ≡ buffer (m.changes.items ++ record { rename = record { rd = rd; register = p }; previous = previous } ∷ []) m.changes.capacity
-    → IsTracked {A = A} (record { committed = m.committed; current = set m.current rd p; changes = cs })
+pub tracked_push : (m : Inside) (cs : List Change) (rd p previous : ℕ) → IsTracked m → previous ≡ slice_index m.current rd
+    → cs ≡ m.changes ++ record { rename = record { rd = rd; register = p }; previous = previous } ∷ []
+    → IsTracked (record { committed = m.committed; current = set m.current rd p; changes = cs })
 tracked_push m cs rd p previous ok was is =
     let c : Change = record { rename = record { rd = rd; register = p }; previous = previous } in
     rw is (record {
-      current = ap (λ k. set k rd p) ok.current ∙ sym (ap (map_past m.committed) (map-append (λ (x : Change). x.rename) m.changes.items (c ∷ [])) ∙ map_past_push m.committed (renames_of m.changes.items) c.rename);
-      previous = previous_push m.committed m.changes.items c ok.previous (was ∙ ap (λ k. slice_index k rd) ok.current);
+      current = ap (λ k. set k rd p) ok.current ∙ sym (ap (map_past m.committed) (map-append (λ (x : Change). x.rename) m.changes (c ∷ [])) ∙ map_past_push m.committed (renames_of m.changes) c.rename);
+      previous = previous_push m.committed m.changes c ok.previous (was ∙ ap (λ k. slice_index k rd) ok.current);
     })
 
-pub tracked_undone : {A : Type 0} (m : Inside A) (cs : Buffer Change) (c : Change) → IsTracked m → slice_get m.changes.items (length m.changes.items - 1) ≡ Some c
-    → cs ≡ buffer (take (length m.changes.items - 1) m.changes.items) m.changes.capacity
-    → IsTracked {A = A} (record { committed = m.committed; current = set m.current c.rename.rd c.previous; changes = cs })
+pub tracked_undone : (m : Inside) (cs : List Change) (c : Change) → IsTracked m → slice_get m.changes (length m.changes - 1) ≡ Some c
+    → cs ≡ take (length m.changes - 1) m.changes
+    → IsTracked (record { committed = m.committed; current = set m.current c.rename.rd c.previous; changes = cs })
 tracked_undone m cs c ok newest is =
-    let k : ℕ = length m.changes.items - 1 in
-    let same : get_or m.changes.items k c ≡ c = get_or_from_slice_get m.changes.items k c c newest in
-    let some : 0 < length m.changes.items = omega (arith, slice_get_within m.changes.items k c newest) in
-    let map-is = map_past-undone m.committed m.changes.items k c ok.previous (omega (arith, some)) in
+    let k : ℕ = length m.changes - 1 in
+    let same : get_or m.changes k c ≡ c = get_or_from_slice_get m.changes k c c newest in
+    let some : 0 < length m.changes = omega (arith, slice_get_within m.changes k c newest) in
+    let map-is = map_past-undone m.committed m.changes k c ok.previous (omega (arith, some)) in
     rw is (record {
       current = ap (λ x. set x c.rename.rd c.previous) ok.current ∙ (rw same at map-is);
-      previous = previous-take k m.committed m.changes.items ok.previous;
+      previous = previous-take k m.committed m.changes ok.previous;
     })
 
-pub undone_shown : {A : Type 0} (m : Inside A) (old : Bank) (cs : Buffer Change) → shown_bank m ≡ old → cs ≡ buffer (take (length m.changes.items - 1) m.changes.items) m.changes.capacity
-    → ◌≡◌ {A = Bank} (record { committed = m.committed; renames = renames_of cs.items; room = cs.capacity }) (undone_bank old)
+pub undone_shown : (m : Inside) (old : Bank) (cs : List Change) → shown_bank m ≡ old → cs ≡ take (length m.changes - 1) m.changes
+    → ◌≡◌ {A = Bank} (record { committed = m.committed; renames = renames_of cs }) (undone_bank old)
 undone_shown m old cs was is = rw (← was, is) (simp (length-map, take-map))
 
-pub last_register : {A : Type 0} (m : Inside A) (c : Change) → slice_get m.changes.items (length m.changes.items - 1) ≡ Some c → c.rename.register ≡ (last (shown_bank m)).register
+pub last_register : (m : Inside) (c : Change) → slice_get m.changes (length m.changes - 1) ≡ Some c → c.rename.register ≡ (last (shown_bank m)).register
 last_register m c newest =
-    let cs = m.changes.items in
+    let cs = m.changes in
     let k : ℕ = length cs - 1 in
     let there : k < length cs = slice_get_within cs k c newest in
     let same : get_or cs k c ≡ c = get_or_from_slice_get cs k c c newest in

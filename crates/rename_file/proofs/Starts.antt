@@ -33,8 +33,8 @@ counted p a (x ∷ xs) row =
     sum_by-cons (at p) x xs ∙ omega (arith, ap (at p) first, rest, ap (λ e. between (a + 1) e p) end, between_one a p, between_join a (a + 1) (a + suc (length xs)) p (omega arith) (omega arith))
 
 -- what the first registers of the context c use
-uses_first : (p c n : ℕ) (b : Bank) → IsFirst b c n → uses_in p b ≡ at p c + between (31 * c + 8) (31 * c + 39) p
-uses_first p c n b is = split b.committed is.wide is.zero is.others
+uses_first : (p c : ℕ) (b : Bank) → IsFirst b c → uses_in p b ≡ at p c + between (31 * c + 8) (31 * c + 39) p
+uses_first p c b is = split b.committed is.wide is.zero is.others
   where
     split : (m : List ℕ) → length m ≡ 32 → slice_index m 0 ≡ c → ((r : ℕ) → 0 < r → r < 32 → slice_index m r ≡ 31 * c + 7 + r) → sum_by (at p) m + sum_by (λ (n : Rename). at p n.register) b.renames ≡ at p c + between (31 * c + 8) (31 * c + 39) p
     split [] wide zero-is others = absurd (omega arith)
@@ -48,39 +48,38 @@ suc_is : (k : ℕ) → suc k ≡ k + 1
 suc_is k = omega arith
 
 -- what the first k contexts use
-uses_firsts : (p n : ℕ) (bs : List Bank) (k : ℕ) → k ≤ length bs → ((c : ℕ) → c < length bs → IsFirst (get_or bs c no_bank) c n) → sum_by (uses_in p) (take k bs) ≡ between 0 k p + between 8 (31 * k + 8) p
-uses_firsts p n bs zero le all = grind (arith, nat_tests)
-uses_firsts p n bs (suc k) le all =
+uses_firsts : (p : ℕ) (bs : List Bank) (k : ℕ) → k ≤ length bs → ((c : ℕ) → c < length bs → IsFirst (get_or bs c no_bank) c) → sum_by (uses_in p) (take k bs) ≡ between 0 k p + between 8 (31 * k + 8) p
+uses_firsts p bs zero le all = grind (arith, nat_tests)
+uses_firsts p bs (suc k) le all =
     let more : sum_by (uses_in p) (take (k + 1) bs) ≡ sum_by (uses_in p) (take k bs) + uses_in p (get_or bs k no_bank) = sum_by_more (uses_in p) bs k no_bank (omega arith) in
-    let before = uses_firsts p n bs k (omega arith) all in
-    let here = uses_first p k n (get_or bs k no_bank) (all k (omega arith)) in
+    let before = uses_firsts p bs k (omega arith) all in
+    let here = uses_first p k (get_or bs k no_bank) (all k (omega arith)) in
     let end : 31 * k + 39 ≡ 31 * (suc k) + 8 = omega arith in
     omega (arith, ap (λ j. sum_by (uses_in p) (take j bs)) (suc_is k), ap (λ j. between 0 j p) (suc_is k), more, before, here, between_one k p, between_join 0 k (k + 1) p (omega arith) (omega arith), between_join 8 (31 * k + 8) (31 * k + 39) p (omega arith) (omega arith), ap (λ e. between 8 e p) end)
 
 -- no context has a rename
-no_renames : (n : ℕ) (bs : List Bank) (k : ℕ) → k ≤ length bs → ((c : ℕ) → c < length bs → IsFirst (get_or bs c no_bank) c n) → sum_by (λ (b : Bank). length b.renames) (take k bs) ≡ 0
-no_renames n bs zero le all = refl
-no_renames n bs (suc k) le all =
-    omega (arith, ap (λ j. sum_by (λ (b : Bank). length b.renames) (take j bs)) (suc_is k), sum_by_more (λ (b : Bank). length b.renames) bs k no_bank (omega arith), no_renames n bs k (omega arith) all, ap (λ (ns : List Rename). length ns) (all k (omega arith)).renames)
+no_renames : (bs : List Bank) (k : ℕ) → k ≤ length bs → ((c : ℕ) → c < length bs → IsFirst (get_or bs c no_bank) c) → sum_by (λ (b : Bank). length b.renames) (take k bs) ≡ 0
+no_renames bs zero le all = refl
+no_renames bs (suc k) le all =
+    omega (arith, ap (λ j. sum_by (λ (b : Bank). length b.renames) (take j bs)) (suc_is k), sum_by_more (λ (b : Bank). length b.renames) bs k no_bank (omega arith), no_renames bs k (omega arith) all, ap (λ (ns : List Rename). length ns) (all k (omega arith)).renames)
 
-first_bank : (n c : ℕ) (b : Bank) → c < 8 → IsFirst b c n → IsBank (replicate (256 + n) (Some 0)) c b
+first_bank : (n c : ℕ) (b : Bank) → c < 8 → IsFirst b c → IsBank (replicate (256 + n) (Some 0)) c b
 first_bank n c b lt is = record {
   wide = is.wide;
   zero = is.zero;
   others = λ r some narrow. omega (arith, is.others r some narrow);
   valued = λ r narrow. subst IsSome (sym (get_or-replicate {A = Option ℕ} (256 + n) (slice_index b.committed r) (Some 0) None (in_range r narrow))) refl;
   renamed = rw is.renames (All-nil IsRename);
-  room = omega (arith, is.room, length-replicate {A = Option ℕ} (256 + n) (Some 0));
 }
   where
     in_range : (r : ℕ) → r < 32 → slice_index b.committed r < 256 + n
     in_range r narrow = elim (cases_eq r 0) [ inl same ↦ omega (arith, is.zero, ap (slice_index b.committed) same) | inr differ ↦ omega (arith, is.others r (omega (arith, differ)) narrow) ]
 
-pub first_file : (n : ℕ) (bs : List Bank) (free : List ℕ) (cells : List (Option ℕ)) → cells ≡ replicate (256 + n) (Some 0) → length bs ≡ 8 → ((c : ℕ) → c < 8 → IsFirst (get_or bs c no_bank) c n)
+pub first_file : (n : ℕ) (bs : List Bank) (free : List ℕ) (cells : List (Option ℕ)) → cells ≡ replicate (256 + n) (Some 0) → length bs ≡ 8 → ((c : ℕ) → c < 8 → IsFirst (get_or bs c no_bank) c)
     → length free ≡ n → ((i : ℕ) → i < length free → get_or free i 0 ≡ 256 + i) → IsFile (record { banks = bs; free = free; cells = cells })
 first_file n bs free cells cells-are eight all len row =
     let wide : length cells ≡ 256 + n = ap length cells-are ∙ length-replicate {A = Option ℕ} (256 + n) (Some 0) in
-    let all' : (c : ℕ) → c < length bs → IsFirst (get_or bs c no_bank) c n = λ c lt. all c (omega arith) in
+    let all' : (c : ℕ) → c < length bs → IsFirst (get_or bs c no_bank) c = λ c lt. all c (omega arith) in
     let whole : take 8 bs ≡ bs = take_all 8 bs (omega arith) in
     record {
       eight = eight;
@@ -88,19 +87,19 @@ first_file n bs free cells cells-are eight all len row =
       zeros = λ c lt. rw cells-are (get_or-replicate {A = Option ℕ} (256 + n) c (Some 0) None (omega arith));
       free = All-from_get_or (λ p. 8 ≤ p) free 0 (λ i lt. omega (arith, row i lt));
       once = λ p.
-          let used : sum_by (uses_in p) bs ≡ between 0 8 p + between 8 256 p = rw whole at (uses_firsts p n bs 8 (omega arith) all') in
+          let used : sum_by (uses_in p) bs ≡ between 0 8 p + between 8 256 p = rw whole at (uses_firsts p bs 8 (omega arith) all') in
           let spare : sum_by (at p) free ≡ between 256 (256 + length free) p = counted p 256 free row in
           let end : 256 + length free ≡ length cells = omega arith in
           let total : sum_by (at p) free + sum_by (uses_in p) bs ≡ between 0 (length cells) p = omega (arith, used, spare, between_join 0 8 256 p (omega arith) (omega arith), between_join 0 256 (256 + length free) p (omega arith) (omega arith), ap (λ e. between 0 e p) end) in
           total ∙ between_none (length cells) p;
-      extra = let none : sum_by (λ (b : Bank). length b.renames) bs ≡ 0 = rw whole at (no_renames n bs 8 (omega arith) all') in omega (arith, none);
+      extra = let none : sum_by (λ (b : Bank). length b.renames) bs ≡ 0 = rw whole at (no_renames bs 8 (omega arith) all') in omega (arith, none);
     }
 
 -- one more context
-pub first_more : (n : ℕ) (bs : List Bank) (b : Bank) (k : ℕ) → length bs ≡ k → ((c : ℕ) → c < k → IsFirst (get_or bs c no_bank) c n) → IsFirst b k n → (c : ℕ) → c < k + 1 → IsFirst (get_or (bs ++ b ∷ []) c no_bank) c n
-first_more n bs b k len all is c lt =
+pub first_more : (bs : List Bank) (b : Bank) (k : ℕ) → length bs ≡ k → ((c : ℕ) → c < k → IsFirst (get_or bs c no_bank) c) → IsFirst b k → (c : ℕ) → c < k + 1 → IsFirst (get_or (bs ++ b ∷ []) c no_bank) c
+first_more bs b k len all is c lt =
     elim (cases_eq c k) [
-      | inl same ↦ subst (λ j. IsFirst (get_or (bs ++ b ∷ []) j no_bank) j n) (sym same) (rw (get_or_push bs b no_bank k len) is)
+      | inl same ↦ subst (λ j. IsFirst (get_or (bs ++ b ∷ []) j no_bank) j) (sym same) (rw (get_or_push bs b no_bank k len) is)
       | inr differ ↦ rw (get_or_append_left bs (b ∷ []) no_bank c (omega arith)) (all c (omega arith))
     ]
 

@@ -1,21 +1,20 @@
 -- Physical registers: which of them each context has committed, which are renames, which are free.
-use Rattle.std.specs.Prelude.{◌≡◌, ℕ, ◌+◌, ◌-◌, ◌<◌, ◌≤◌, List, [], ◌∷◌, ◌++◌, length, take, drop, slice_set, slice_index, slice_index_or, Option, Some, None, IsSome, All, nat_lt, ◌==◌, if◌then◌else◌, sum_by}
+use Rattle.std.specs.Prelude.{◌≡◌, ℕ, ◌+◌, ◌-◌, ◌<◌, ◌≤◌, List, [], ◌∷◌, ◌++◌, length, take, drop, slice_set, slice_index, slice_index_or, slice_get, Option, Some, None, IsSome, All, nat_lt, ◌==◌, if◌then◌else◌, sum_by}
 use Rattle.rename_file.specs.declared.rename_map.Rename.{Rename}
 
--- one context: the register that is committed for each of x0 to x31, the renames since, oldest first, and how many renames it may have
+-- one context: the register that is committed for each of x0 to x31, and the renames since, oldest first
 pub record Bank : Type 0 where
   pub committed : List ℕ
   pub renames : List Rename
-  pub room : ℕ
 
--- the contexts, the registers that are free, and for each register its value, once it is there
+-- the contexts, the registers that are free, the newest last, and for each register its value, once it is there
 pub record File : Type 0 where
   pub banks : List Bank
   pub free : List ℕ
   pub cells : List (Option ℕ)
 
 abbrev pub no_bank : Bank
-no_bank = record { committed = []; renames = []; room = 0 }
+no_bank = record { committed = []; renames = [] }
 
 -- the context c
 abbrev pub bank : File → ℕ → Bank
@@ -65,7 +64,6 @@ pub record IsBank (cells : List (Option ℕ)) (c : ℕ) (b : Bank) : Type 0 wher
   pub others : (r : ℕ) → 0 < r → r < 32 → 8 ≤ slice_index b.committed r
   pub valued : (r : ℕ) → r < 32 → IsSome (slice_index_or cells (slice_index b.committed r) None)
   pub renamed : All IsRename b.renames
-  pub room : b.room + 256 ≡ length cells
 
 -- eight contexts, 256 registers for what is committed, and extra ones that are free or renames; each in one place
 pub record IsFile (f : File) : Type 0 where
@@ -83,11 +81,15 @@ abbrev pub with_cell : File → ℕ → Option ℕ → File
 with_cell f p v = record { banks = f.banks; free = f.free; cells = slice_set f.cells p v }
 
 abbrev pub renamed_bank : Bank → ℕ → ℕ → Bank
-renamed_bank b rd p = record { committed = b.committed; renames = b.renames ++ record { rd = rd; register = p } ∷ []; room = b.room }
+renamed_bank b rd p = record { committed = b.committed; renames = b.renames ++ record { rd = rd; register = p } ∷ [] }
 
--- rd of the context c is renamed to p, the first that was free, which has no value yet
+-- p is the newest of the free
+abbrev pub IsNewestFree : File → ℕ → Type 0
+IsNewestFree f p = slice_get f.free (length f.free - 1) ≡ Some p
+
+-- rd of the context c is renamed to p, the newest of the free, which has no value yet
 abbrev pub renamed : File → ℕ → ℕ → ℕ → File
-renamed f c rd p = record { banks = slice_set f.banks c (renamed_bank (bank f c) rd p); free = drop 1 f.free; cells = slice_set f.cells p None }
+renamed f c rd p = record { banks = slice_set f.banks c (renamed_bank (bank f c) rd p); free = take (length f.free - 1) f.free; cells = slice_set f.cells p None }
 
 abbrev pub no_rename : Rename
 no_rename = record { rd = 0; register = 0 }
@@ -101,14 +103,14 @@ abbrev pub last : Bank → Rename
 last b = slice_index_or b.renames (length b.renames - 1) no_rename
 
 abbrev pub committed_bank : Bank → Bank
-committed_bank b = record { committed = slice_set b.committed (first b).rd (first b).register; renames = drop 1 b.renames; room = b.room }
+committed_bank b = record { committed = slice_set b.committed (first b).rd (first b).register; renames = drop 1 b.renames }
 
 -- the oldest rename of the context c is the committed register, and the one that it replaces is free
 abbrev pub committed_one : File → ℕ → File
 committed_one f c = record { banks = slice_set f.banks c (committed_bank (bank f c)); free = f.free ++ slice_index (bank f c).committed (first (bank f c)).rd ∷ []; cells = f.cells }
 
 abbrev pub undone_bank : Bank → Bank
-undone_bank b = record { committed = b.committed; renames = take (length b.renames - 1) b.renames; room = b.room }
+undone_bank b = record { committed = b.committed; renames = take (length b.renames - 1) b.renames }
 
 -- the newest rename of the context c is taken off, and its register is free
 abbrev pub undone : File → ℕ → File

@@ -2,13 +2,12 @@
 use Rattle.std.specs.Prelude.{◌≡◌, ℕ, ◌+◌, ◌*◌, ◌<◌, [], length, slice_index, replicate, Some}
 use Rattle.rename_file.specs.File.{Bank, File, IsFile, bank}
 
--- context c with register c for x0, 31 registers in order for x1 to x31, no rename, and room for n
-pub record IsFirst (b : Bank) (c n : ℕ) : Type 0 where
+-- context c with register c for x0, 31 registers in order for x1 to x31, and no rename
+pub record IsFirst (b : Bank) (c : ℕ) : Type 0 where
   pub wide : length b.committed ≡ 32
   pub zero : slice_index b.committed 0 ≡ c
   pub others : (r : ℕ) → 0 < r → r < 32 → slice_index b.committed r ≡ 31 * c + 7 + r
   pub renames : b.renames ≡ []
-  pub room : b.room ≡ n
 
 -- each register has the value 0, n extra ones are free, and no context has a rename
 pub record IsFresh (f : File) (n : ℕ) : Type 0 where

@@ -1,12 +1,12 @@
 -- What the registers in memory stand for.
-use Rattle.std.specs.Prelude.{◌≡◌, ◌+◌, length}
+use Rattle.std.specs.Prelude.{◌≤◌, length}
 use Rattle.rename_file.specs.declared.registers.Registers.TheInside.{Inside}
 use Rattle.rename_file.specs.File.{File, IsFile}
 
 abbrev pub shown : {A : Type 0} → Inside A → File
 shown r = record { banks = r.maps.items; free = r.free.items; cells = r.cells.items }
 
--- the list of the free has room for each extra register
+-- there are at most as many extra registers as the stack of the free has room for
 pub record IsShown {A : Type 0} (r : Inside A) : Type 0 where
   pub file : IsFile (shown r)
-  pub room : r.free.capacity + 256 ≡ length r.cells.items
+  pub room : length r.cells.items ≤ 480

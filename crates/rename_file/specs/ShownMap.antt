@@ -8,14 +8,14 @@ use Rattle.rename_file.specs.File.{Bank, map_past}
 abbrev pub renames_of : List Change → List Rename
 renames_of cs = map (λ (c : Change). c.rename) cs
 
-abbrev pub shown_bank : {A : Type 0} → Inside A → Bank
-shown_bank m = record { committed = m.committed; renames = renames_of m.changes.items; room = m.changes.capacity }
+abbrev pub shown_bank : Inside → Bank
+shown_bank m = record { committed = m.committed; renames = renames_of m.changes }
 
 -- each change keeps what its rd stood for before it, the map being m before the first
 abbrev pub ArePrevious : List ℕ → List Change → Type 0
 ArePrevious m [] = Unit {0}
 ArePrevious m (c ∷ cs) = (c.previous ≡ slice_index m c.rename.rd) × ArePrevious (slice_set m c.rename.rd c.rename.register) cs
 
-pub record IsTracked {A : Type 0} (m : Inside A) : Type 0 where
-  pub current : m.current ≡ map_past m.committed (renames_of m.changes.items)
-  pub previous : ArePrevious m.committed m.changes.items
+pub record IsTracked (m : Inside) : Type 0 where
+  pub current : m.current ≡ map_past m.committed (renames_of m.changes)
+  pub previous : ArePrevious m.committed m.changes

@@ -6,7 +6,7 @@ use std::marker::Model;
 
 /// The number of a physical register, below 480: the eight contexts have 32 committed registers each, and share at
 /// most 224 extra ones. A contract sees it as that number.
-#[derive(Clone, Copy, Debug, PartialEq, Eq, Hash, PartialOrd, Ord)]
+#[derive(Clone, Copy, Debug, Default, PartialEq, Eq, Hash, PartialOrd, Ord)]
 pub struct PhysicalRegister {
     number: u16,
 }

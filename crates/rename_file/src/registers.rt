@@ -1,13 +1,13 @@
 //! The physical registers of all contexts.
 
-ghost use Rattle.std.specs.Prelude.{true, false, ◌≡◌, ◌↔◌, ◌+◌, ◌<◌, ◌≤◌, length, slice_get, slice_index, IfOk, OnOk, OnErr, IsOk, IsSome, IsTrue, Ok, Err, Some};
-ghost use Rattle.rename_file.specs.File.{IsFile, bank, cell, mapped, rename_count, with_cell, renamed, committed_one, undone, first};
+ghost use Rattle.std.specs.Prelude.{true, false, ◌≡◌, ◌↔◌, ◌+◌, ◌<◌, ◌≤◌, length, replicate, slice_index, IfOk, OnOk, OnErr, IsOk, IsSome, IsTrue, Ok, Err, Some};
+ghost use Rattle.rename_file.specs.File.{IsFile, bank, cell, mapped, rename_count, IsNewestFree, with_cell, renamed, committed_one, undone, first};
 ghost use Rattle.rename_file.specs.Fresh.{IsFresh};
 ghost use Rattle.rename_file.specs.Newest.{IsNewest};
 
 use crate::rename_map::RenameMap;
 use crate::{PhysicalRegister, RenameFault};
-use circular_buffer::HeapCircularBuffer;
+use arrayvec::ArrayVec;
 use join_law::Ctx;
 use std::alloc::{AllocError, Allocator, Global};
 use std::marker::Model;
@@ -16,8 +16,8 @@ use std::marker::Model;
 /// No call but `new` takes memory, and each is of one step.
 #[derive(Drop)]
 pub struct Registers<A: Allocator = Global> {
-    maps: Vec<RenameMap<A>, A>,
-    free: HeapCircularBuffer<PhysicalRegister, A>,
+    maps: Vec<RenameMap, A>,
+    free: ArrayVec<PhysicalRegister, 224>,
     cells: Vec<Option<u64>, A>,
 }
 
@@ -48,14 +48,14 @@ impl<A: Allocator + Copy> Registers<A> {
     {
         let mut maps = Vec::new(alloc);
         for context in 0..8 {
-            maps.push(RenameMap::new(alloc, context, extra)?)
+            maps.push(RenameMap::new(context))
                 .map_err(AllocError::from)?;
         }
-        let mut free = HeapCircularBuffer::with_capacity(alloc, extra)?;
+        let mut free = ArrayVec::new();
         for number in 256..256 + extra {
-            let _ = free.try_push_back(PhysicalRegister::at(number));
+            free.push(PhysicalRegister::at(number));
         }
-        let cells = vec![in alloc; Some(0); 256 + extra]?;
+        let cells = zeros(alloc, 256 + extra)?;
         Ok(Registers { maps, free, cells })
     }
 }
@@ -153,12 +153,12 @@ impl<A: Allocator> Registers<A> {
         ensures none_free { (result ≡ Err RenameFault.NoneFree) ↔ (rename_count self.old + 256 ≡ length self.old.cells) }
         ensures found { IsOk result ↔ (0 < length self.old.free) }
         ensures renamed { IfOk result (λ p. self.new ≡ renamed self.old context rd p) }
-        ensures taken { IfOk result (λ p. slice_get self.old.free 0 ≡ Some p) }
+        ensures taken { IfOk result (λ p. IsNewestFree self.old p) }
         ensures bound { IfOk result (λ p. (8 ≤ p) × (p < length self.old.cells)) }
         ensures err { OnErr result ((result ≡ Err RenameFault.NoneFree) × (self.new ≡ self.old)) }
         ensures file { IsFile self.new }
     {
-        let Some(taken) = self.free.pop_front() else {
+        let Some(taken) = self.free.pop() else {
             return Err(RenameFault::NoneFree);
         };
         self.cells[taken.index()] = None;
@@ -177,9 +177,7 @@ impl<A: Allocator> Registers<A> {
     {
         let map = &mut self.maps[context.index()];
         let freed = map.commit();
-        let Ok(()) = self.free.try_push_back(freed) else {
-            unreachable!();
-        };
+        self.free.push(freed);
     }
 
     /// Takes the newest rename of the context off. Its register is free, and its name stands for what it stood for
@@ -191,8 +189,15 @@ impl<A: Allocator> Registers<A> {
     {
         let map = &mut self.maps[context.index()];
         let freed = map.undo();
-        let _ = self.free.try_push_back(freed);
+        self.free.push(freed);
     }
+}
+
+/// So many registers that hold 0.
+fn zeros<A: Allocator>(alloc: A, count: usize) -> Result<Vec<Option<u64>, A>, AllocError>
+    ensures { IfOk result (λ v. v.items ≡ replicate count (Some 0)) }
+{
+    vec![in alloc; Some(0); count]
 }
 
 /// A value, where a mask has all bits, and 0, where it has none.

@@ -1,12 +1,11 @@
 //! What the registers of one context stand for.
 
-ghost use Rattle.std.specs.Prelude.{◌≡◌, ◌<◌, length, slice_index, IfOk};
+ghost use Rattle.std.specs.Prelude.{◌≡◌, ◌<◌, length, slice_index};
 ghost use Rattle.rename_file.specs.File.{mapped, renamed_bank, committed_bank, undone_bank, first, last};
 ghost use Rattle.rename_file.specs.Fresh.{IsFirst};
 
 use crate::PhysicalRegister;
-use circular_buffer::HeapCircularBuffer;
-use std::alloc::{AllocError, Allocator, Global};
+use crate::changes::Changes;
 use std::marker::Model;
 
 /// From here on `register` stands for `rd`.
@@ -21,20 +20,20 @@ pub struct Rename {
 // A rename, and which register stood for its rd before.
 #[derive(Clone, Copy, Debug, PartialEq, Eq)]
 pub(crate) struct Change {
-    rename: Rename,
-    previous: PhysicalRegister,
+    pub rename: Rename,
+    pub previous: PhysicalRegister,
 }
 
 // The committed registers of a context, and its renames, oldest first. The current map is kept beside them, so that a
 // look-up is one index, and each rename keeps what it replaced, so that it can be undone.
 #[derive(Drop)]
-pub(crate) struct RenameMap<A: Allocator = Global> {
+pub(crate) struct RenameMap {
     committed: [PhysicalRegister; 32],
     current: [PhysicalRegister; 32],
-    changes: HeapCircularBuffer<Change, A>,
+    changes: Changes,
 }
 
-impl<A: Allocator> Model for RenameMap<A> {
+impl Model for RenameMap {
     ghost use Rattle.rename_file.specs.File.{Bank};
     ghost use Rattle.rename_file.specs.ShownMap.{shown_bank, IsTracked};
 
@@ -45,21 +44,21 @@ impl<A: Allocator> Model for RenameMap<A> {
     ghost invariant = { IsTracked };
 }
 
-impl<A: Allocator> RenameMap<A> {
-    // A context with registers of its own, and room for so many renames.
-    pub(crate) fn new(alloc: A, context: usize, room: usize) -> Result<Self, AllocError>
+impl RenameMap {
+    // A context with registers of its own.
+    pub(crate) fn new(context: usize) -> RenameMap
         requires { context < 8 }
-        ensures { IfOk result (λ m. IsFirst m context room) }
+        ensures { IsFirst result context }
     {
         let mut committed = [PhysicalRegister::at(context); 32];
         for rd in 1..32 {
             committed[rd] = PhysicalRegister::at(31 * context + 7 + rd);
         }
-        Ok(RenameMap {
+        RenameMap {
             committed,
             current: committed,
-            changes: HeapCircularBuffer::with_capacity(alloc, room)?,
-        })
+            changes: Changes::new(),
+        }
     }
 
     // The register that rs stands for.
@@ -81,15 +80,13 @@ impl<A: Allocator> RenameMap<A> {
     // One more rename, the newest.
     pub(crate) fn push(&mut self, rd: u8, register: PhysicalRegister)
         requires name { rd < 32 }
-        requires room { length self.old.renames < self.old.room }
+        requires room { length self.old.renames < 256 }
         ensures { self.new ≡ renamed_bank self.old rd register }
     {
         let previous = self.current[rd as usize];
         self.current[rd as usize] = register;
         let rename = Rename { rd, register };
-        let Ok(()) = self.changes.try_push_back(Change { rename, previous }) else {
-            unreachable!();
-        };
+        self.changes.push(Change { rename, previous });
     }
 
     // The oldest rename becomes the committed register. The one that it replaces is returned.
@@ -99,9 +96,7 @@ impl<A: Allocator> RenameMap<A> {
         ensures map { self.new ≡ committed_bank self.old }
         ensures freed { result ≡ slice_index self.old.committed (first self.old).rd }
     {
-        let Some(oldest) = self.changes.pop_front() else {
-            unreachable!();
-        };
+        let oldest = self.changes.pop_front();
         let Rename { rd, register } = oldest.rename;
         let freed = self.committed[rd as usize];
         self.committed[rd as usize] = register;
@@ -115,7 +110,7 @@ impl<A: Allocator> RenameMap<A> {
         ensures map { self.new ≡ undone_bank self.old }
         ensures freed { result ≡ (last self.old).register }
     {
-        let change = self.changes.pop_back().unwrap();
+        let change = self.changes.pop_back();
         self.current[change.rename.rd as usize] = change.previous;
         change.rename.register
     }

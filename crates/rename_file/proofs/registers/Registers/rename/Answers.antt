@@ -1,36 +1,35 @@
-use Rattle.std.proofs.Common.{rules, ◌≡◌, Some, slice_get, arith}
+use Rattle.std.proofs.Common.{rules, ◌≡◌, ◌-◌, Some, length, slice_get, arith}
 use Rattle.std.proofs.lemmas.List.{length-set}
-use Rattle.std.proofs.lemmas.Option.{slice_get_within}
 use Rattle.rename_file.specs.Shown.{shown}
-use Rattle.rename_file.proofs.Uses.{first_free}
-use Rattle.rename_file.proofs.Files.{first_above}
+use Rattle.rename_file.proofs.Uses.{newest_free}
+use Rattle.rename_file.proofs.Files.{newest_above}
 use Rattle.rename_file.proofs.FoundContext.{found, renamed_file, room_found}
 use Rattle.rename_file.proofs.registers.Registers.rename.Goals as goal
 
 pub index_mut-requires : goal.index_mut-requires
 index_mut-requires g c =
-    let taken : slice_get c.self.inside.free.items 0 ≡ Some c.in-Some.taken = search rules in
-    omega (arith, first_free (shown c.self.inside) c.in-Some.taken c.self.invariant.file taken, c.index.ensures.value, c.self.inside.cells.ok.0)
+    let taken : slice_get c.self.inside.free.items (length c.self.inside.free.items - 1) ≡ Some c.in-Some.taken = search rules in
+    omega (arith, newest_free (shown c.self.inside) c.in-Some.taken c.self.invariant.file taken, c.index.ensures.value, c.self.inside.cells.ok.0)
 
 pub push-requires-clause-room : goal.push-requires-clause-room
 push-requires-clause-room g c =
-    let taken : slice_get c.self.inside.free.items 0 ≡ Some c.in-Some.taken = search rules in
+    let taken : slice_get c.self.inside.free.items (length c.self.inside.free.items - 1) ≡ Some c.in-Some.taken = search rules in
     let at = found (shown c.self.inside) c.args.context c.index-2.result c.index_mut-map.result.now c.index-2.ensures.value (omega arith) c.index_mut-map.ensures.value in
-    room_found (shown c.self.inside) c.args.context c.index-2.result c.index_mut-map.result.now c.self.invariant.file at (slice_get_within c.self.inside.free.items 0 c.in-Some.taken taken)
+    omega (arith, room_found (shown c.self.inside) c.args.context c.index-2.result c.index_mut-map.result.now c.self.invariant.file at, c.self.invariant.room)
 
 pub invariant_of-self-2 : goal.invariant_of-self-2
 invariant_of-self-2 g c =
-    let taken : slice_get c.self.inside.free.items 0 ≡ Some c.in-Some.taken = search rules in
+    let taken : slice_get c.self.inside.free.items (length c.self.inside.free.items - 1) ≡ Some c.in-Some.taken = search rules in
     let at = found (shown c.self.inside) c.args.context c.index-2.result c.index_mut-map.result.now c.index-2.ensures.value (omega arith) c.index_mut-map.ensures.value in
-    rw (c.pop_front.ensures.items, c.index.ensures.value) (record {
+    rw (c.pop.ensures.rest, c.index.ensures.value) (record {
       file = renamed_file (shown c.self.inside) c.args.context c.index-2.result c.args.rd c.in-Some.taken c.index_mut-map.result.now c.push.new.self c.self.invariant.file at c.requires.0 c.requires.1 taken c.push.ensures;
       room = rw length-set c.self.invariant.room;
     })
 
 pub returns-clause-bound : goal.returns-clause-bound
 returns-clause-bound g c =
-    let taken : slice_get c.self.inside.free.items 0 ≡ Some c.in-Some.taken = search rules in
-    rw (← c.self.view_is) (first_above (shown c.self.inside) c.in-Some.taken taken c.self.invariant.file, first_free (shown c.self.inside) c.in-Some.taken c.self.invariant.file taken)
+    let taken : slice_get c.self.inside.free.items (length c.self.inside.free.items - 1) ≡ Some c.in-Some.taken = search rules in
+    rw (← c.self.view_is) (newest_above (shown c.self.inside) c.in-Some.taken taken c.self.invariant.file, newest_free (shown c.self.inside) c.in-Some.taken c.self.invariant.file taken)
 
 pub returns-clause-file : goal.returns-clause-file
 returns-clause-file g c = (invariant_of-self-2 g c).file

@@ -1,24 +1,20 @@
-use Rattle.std.proofs.Common.{rules, ◌≡◌, ℕ, Option, ◌+◌, ◌<◌, ◌++◌, ◌∷◌, [], Some, length, replicate, arith}
-use Rattle.circular_buffer.specs.Buffer.{buffer}
+use Rattle.std.proofs.Common.{rules, ◌≡◌, ℕ, Option, ◌+◌, ◌++◌, ◌∷◌, [], Some, length, replicate, arith}
 use Rattle.std.proofs.lemmas.List.{length_push, length-replicate}
 use Rattle.rename_file.proofs.Starts.{first_file, first_more, row_more}
 use Rattle.rename_file.proofs.registers.Registers.try_new.Goals as goal
 
 pub loop-context-preserved : goal.loop-context-preserved
 loop-context-preserved g c =
-    let pushed : c.push.new.self.items ≡ c.loop-context.maps.items ++ c.in_ok-new.field-0 ∷ [] = search rules in
+    let pushed : c.push.new.self.items ≡ c.loop-context.maps.items ++ c.new.result ∷ [] = search rules in
     record {
-      len = rw pushed (omega (arith, length_push c.loop-context.maps.items c.in_ok-new.field-0, c.loop-context.invariant.len));
-      first = rw pushed (first_more c.args.extra c.loop-context.maps.items c.in_ok-new.field-0 c.loop-context.context c.loop-context.invariant.len c.loop-context.invariant.first c.in_ok-new.ensures);
+      len = rw pushed (omega (arith, length_push c.loop-context.maps.items c.new.result, c.loop-context.invariant.len));
+      first = rw pushed (first_more c.loop-context.maps.items c.new.result c.loop-context.context c.loop-context.invariant.len c.loop-context.invariant.first c.new.ensures);
     }
 
 pub loop-number-preserved : goal.loop-number-preserved
 loop-number-preserved g c =
-    let room : length c.loop-number.free.items < c.loop-number.free.capacity = omega arith in
-    let pushed : c.try_push_back.new.self ≡ buffer (c.loop-number.free.items ++ c.at.result ∷ []) c.loop-number.free.capacity = search rules in
-    rw pushed (record {
+    rw c.push-in-loop-number.ensures.items (record {
       len = omega (arith, length_push c.loop-number.free.items c.at.result, c.loop-number.invariant.len);
-      capacity = c.loop-number.invariant.capacity;
       row = row_more c.loop-number.free.items c.at.result 256 c.loop-number.invariant.row (omega (arith, c.at.ensures));
     })
 
@@ -28,7 +24,7 @@ invariant_of-result g c =
     let len : length c.loop-number.free.items ≡ c.args.extra = omega arith in
     record {
       file = first_file c.args.extra c.loop-context.maps.items c.loop-number.free.items c.in_ok-cells.cells.items cells (omega arith) (λ k lt. c.loop-context.invariant.first k (omega arith)) len c.loop-number.invariant.row;
-      room = rw cells (omega (arith, length-replicate {A = Option ℕ} (256 + c.args.extra) (Some 0), c.loop-number.invariant.capacity));
+      room = rw cells (omega (arith, length-replicate {A = Option ℕ} (256 + c.args.extra) (Some 0)));
     }
 
 pub returns : goal.returns
