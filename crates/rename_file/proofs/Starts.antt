@@ -95,14 +95,6 @@ first_file n bs free cells cells-are eight all len row =
       extra = let none : sum_by (λ (b : Bank). length b.renames) bs ≡ 0 = rw whole at (no_renames bs 8 (omega arith) all') in omega (arith, none);
     }
 
--- one more context
-pub first_more : (bs : List Bank) (b : Bank) (k : ℕ) → length bs ≡ k → ((c : ℕ) → c < k → IsFirst (get_or bs c no_bank) c) → IsFirst b k → (c : ℕ) → c < k + 1 → IsFirst (get_or (bs ++ b ∷ []) c no_bank) c
-first_more bs b k len all is c lt =
-    elim (cases_eq c k) [
-      | inl same ↦ subst (λ j. IsFirst (get_or (bs ++ b ∷ []) j no_bank) j) (sym same) (rw (get_or_push bs b no_bank k len) is)
-      | inr differ ↦ rw (get_or_append_left bs (b ∷ []) no_bank c (omega arith)) (all c (omega arith))
-    ]
-
 -- one more number in a row
 pub row_more : (xs : List ℕ) (x a : ℕ) → ((i : ℕ) → i < length xs → get_or xs i 0 ≡ a + i) → x ≡ a + length xs → (i : ℕ) → i < length (xs ++ x ∷ []) → get_or (xs ++ x ∷ []) i 0 ≡ a + i
 row_more xs x a row is i lt =

@@ -4,7 +4,7 @@ use Rattle.rename_file.specs.declared.registers.Registers.TheInside.{Inside}
 use Rattle.rename_file.specs.File.{File, IsFile}
 
 abbrev pub shown : {A : Type 0} → Inside A → File
-shown r = record { banks = r.maps.items; free = r.free.items; cells = r.cells.items }
+shown r = record { banks = r.maps; free = r.free.items; cells = r.cells.items }
 
 -- there are at most as many extra registers as the stack of the free has room for
 pub record IsShown {A : Type 0} (r : Inside A) : Type 0 where

@@ -5,7 +5,7 @@ ghost use Rattle.rename_file.specs.File.{IsFile, bank, cell, mapped, rename_coun
 ghost use Rattle.rename_file.specs.Fresh.{IsFresh};
 ghost use Rattle.rename_file.specs.Newest.{IsNewest};
 
-use crate::rename_map::RenameMap;
+use crate::rename_map::{RenameMap, first_maps};
 use crate::{PhysicalRegister, RenameFault};
 use arrayvec::ArrayVec;
 use join_law::Ctx;
@@ -16,7 +16,7 @@ use std::marker::Model;
 /// No call but `new` takes memory, and each is of one step.
 #[derive(Drop)]
 pub struct Registers<A: Allocator = Global> {
-    maps: Vec<RenameMap, A>,
+    maps: [RenameMap; 8],
     free: ArrayVec<PhysicalRegister, 224>,
     cells: Vec<Option<u64>, A>,
 }
@@ -46,11 +46,7 @@ impl<A: Allocator + Copy> Registers<A> {
         requires { (32 ≤ extra) × (extra ≤ 224) }
         ensures { IfOk result (λ r. IsFresh r extra) }
     {
-        let mut maps = Vec::new(alloc);
-        for context in 0..8 {
-            maps.push(RenameMap::new(context))
-                .map_err(AllocError::from)?;
-        }
+        let maps = first_maps();
         let mut free = ArrayVec::new();
         for number in 256..256 + extra {
             free.push(PhysicalRegister::at(number));

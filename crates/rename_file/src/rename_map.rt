@@ -1,7 +1,7 @@
 //! What the registers of one context stand for.
 
-ghost use Rattle.std.specs.Prelude.{◌≡◌, ◌<◌, length, slice_index};
-ghost use Rattle.rename_file.specs.File.{mapped, renamed_bank, committed_bank, undone_bank, first, last};
+ghost use Rattle.std.specs.Prelude.{◌≡◌, ℕ, ◌<◌, length, get_or, slice_index};
+ghost use Rattle.rename_file.specs.File.{mapped, renamed_bank, committed_bank, undone_bank, first, last, no_bank};
 ghost use Rattle.rename_file.specs.Fresh.{IsFirst};
 
 use crate::PhysicalRegister;
@@ -114,4 +114,21 @@ impl RenameMap {
         self.current[change.rename.rd as usize] = change.previous;
         change.rename.register
     }
+}
+
+// The contexts, each with registers of its own.
+pub(crate) fn first_maps() -> [RenameMap; 8]
+    ensures eight { length result ≡ 8 }
+    ensures first { (c : ℕ) → c < 8 → IsFirst (get_or result c no_bank) c }
+{
+    [
+        RenameMap::new(0),
+        RenameMap::new(1),
+        RenameMap::new(2),
+        RenameMap::new(3),
+        RenameMap::new(4),
+        RenameMap::new(5),
+        RenameMap::new(6),
+        RenameMap::new(7),
+    ]
 }

@@ -1,4 +1,4 @@
-use Rattle.std.proofs.Common.{rules, ◌≡◌, ◌-◌, Some, length, slice_get, arith}
+use Rattle.std.proofs.Common.{ap, get_or, rules, ◌≡◌, ◌-◌, Some, length, slice_get, arith}
 use Rattle.std.proofs.lemmas.List.{length-set}
 use Rattle.rename_file.specs.Shown.{shown}
 use Rattle.rename_file.proofs.Uses.{newest_free}
@@ -14,15 +14,15 @@ index_mut-requires g c =
 pub push-requires-clause-room : goal.push-requires-clause-room
 push-requires-clause-room g c =
     let taken : slice_get c.self.inside.free.items (length c.self.inside.free.items - 1) ≡ Some c.in-Some.taken = search rules in
-    let at = found (shown c.self.inside) c.args.context c.index-2.result c.index_mut-map.result.now c.index-2.ensures.value (omega arith) c.index_mut-map.ensures.value in
-    omega (arith, room_found (shown c.self.inside) c.args.context c.index-2.result c.index_mut-map.result.now c.self.invariant.file at, c.self.invariant.room)
+    let at = found (shown c.self.inside) c.args.context c.index-2.result (get_or c.self.inside.maps c.index-2.result c.index-self-index.result) c.index-2.ensures.value (omega arith) (ap (get_or c.self.inside.maps c.index-2.result) c.index-self-index.is) in
+    omega (arith, room_found (shown c.self.inside) c.args.context c.index-2.result (get_or c.self.inside.maps c.index-2.result c.index-self-index.result) c.self.invariant.file at, c.self.invariant.room)
 
 pub invariant_of-self-2 : goal.invariant_of-self-2
 invariant_of-self-2 g c =
     let taken : slice_get c.self.inside.free.items (length c.self.inside.free.items - 1) ≡ Some c.in-Some.taken = search rules in
-    let at = found (shown c.self.inside) c.args.context c.index-2.result c.index_mut-map.result.now c.index-2.ensures.value (omega arith) c.index_mut-map.ensures.value in
+    let at = found (shown c.self.inside) c.args.context c.index-2.result (get_or c.self.inside.maps c.index-2.result c.index-self-index.result) c.index-2.ensures.value (omega arith) (ap (get_or c.self.inside.maps c.index-2.result) c.index-self-index.is) in
     rw (c.pop.ensures.rest, c.index.ensures.value) (record {
-      file = renamed_file (shown c.self.inside) c.args.context c.index-2.result c.args.rd c.in-Some.taken c.index_mut-map.result.now c.push.new.self c.self.invariant.file at c.requires.0 c.requires.1 taken c.push.ensures;
+      file = renamed_file (shown c.self.inside) c.args.context c.index-2.result c.args.rd c.in-Some.taken (get_or c.self.inside.maps c.index-2.result c.index-self-index.result) c.push.new.self c.self.invariant.file at c.requires.0 c.requires.1 taken c.push.ensures;
       room = rw length-set c.self.invariant.room;
     })
 

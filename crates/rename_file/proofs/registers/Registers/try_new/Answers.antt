@@ -1,19 +1,11 @@
 use Rattle.std.proofs.Common.{rules, ◌≡◌, ℕ, Option, ◌+◌, ◌++◌, ◌∷◌, [], Some, length, replicate, arith}
 use Rattle.std.proofs.lemmas.List.{length_push, length-replicate}
-use Rattle.rename_file.proofs.Starts.{first_file, first_more, row_more}
+use Rattle.rename_file.proofs.Starts.{first_file, row_more}
 use Rattle.rename_file.proofs.registers.Registers.try_new.Goals as goal
-
-pub loop-context-preserved : goal.loop-context-preserved
-loop-context-preserved g c =
-    let pushed : c.push.new.self.items ≡ c.loop-context.maps.items ++ c.new.result ∷ [] = search rules in
-    record {
-      len = rw pushed (omega (arith, length_push c.loop-context.maps.items c.new.result, c.loop-context.invariant.len));
-      first = rw pushed (first_more c.loop-context.maps.items c.new.result c.loop-context.context c.loop-context.invariant.len c.loop-context.invariant.first c.new.ensures);
-    }
 
 pub loop-number-preserved : goal.loop-number-preserved
 loop-number-preserved g c =
-    rw c.push-in-loop-number.ensures.items (record {
+    rw c.push.ensures.items (record {
       len = omega (arith, length_push c.loop-number.free.items c.at.result, c.loop-number.invariant.len);
       row = row_more c.loop-number.free.items c.at.result 256 c.loop-number.invariant.row (omega (arith, c.at.ensures));
     })
@@ -23,7 +15,7 @@ invariant_of-result g c =
     let cells : c.in_ok-cells.cells.items ≡ replicate (256 + c.args.extra) (Some 0) = search rules in
     let len : length c.loop-number.free.items ≡ c.args.extra = omega arith in
     record {
-      file = first_file c.args.extra c.loop-context.maps.items c.loop-number.free.items c.in_ok-cells.cells.items cells (omega arith) (λ k lt. c.loop-context.invariant.first k (omega arith)) len c.loop-number.invariant.row;
+      file = first_file c.args.extra c.first_maps-maps.result c.loop-number.free.items c.in_ok-cells.cells.items cells c.first_maps-maps.ensures.eight c.first_maps-maps.ensures.first len c.loop-number.invariant.row;
       room = rw cells (omega (arith, length-replicate {A = Option ℕ} (256 + c.args.extra) (Some 0)));
     }
 
@@ -31,6 +23,6 @@ pub returns : goal.returns
 returns g c = record {
   cells = search rules;
   free = omega arith;
-  renames = λ k lt. (c.loop-context.invariant.first k (omega arith)).renames;
+  renames = λ k lt. (c.first_maps-maps.ensures.first k lt).renames;
   file = (invariant_of-result g c).file;
 }

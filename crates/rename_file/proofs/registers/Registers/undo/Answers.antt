@@ -1,4 +1,4 @@
-use Rattle.std.proofs.Common.{◌<◌, arith}
+use Rattle.std.proofs.Common.{ap, get_or, ◌<◌, arith}
 use Rattle.rename_file.specs.Shown.{shown}
 use Rattle.rename_file.proofs.Files.{has_room}
 use Rattle.rename_file.proofs.FoundContext.{found, undone_file}
@@ -14,9 +14,9 @@ pub invariant_of-self : goal.invariant_of-self
 invariant_of-self g c =
     let f = shown c.self.inside in
     let below : c.args.context < 8 = omega arith in
-    let at = found f c.args.context c.index.result c.index_mut-map.result.now c.index.ensures.value below c.index_mut-map.ensures.value in
+    let at = found f c.args.context c.index.result (get_or c.self.inside.maps c.index.result c.index-self-index.result) c.index.ensures.value below (ap (get_or c.self.inside.maps c.index.result) c.index-self-index.is) in
     let some = rw (← c.self.view_is) at c.requires in
-    rw c.push.ensures.items (record { file = undone_file f c.args.context c.index.result c.index_mut-map.result.now c.undo-freed.new.self c.undo-freed.result c.self.invariant.file at some c.undo-freed.ensures.map c.undo-freed.ensures.freed; room = c.self.invariant.room })
+    rw c.push.ensures.items (record { file = undone_file f c.args.context c.index.result (get_or c.self.inside.maps c.index.result c.index-self-index.result) c.undo-freed.new.self c.undo-freed.result c.self.invariant.file at some c.undo-freed.ensures.map c.undo-freed.ensures.freed; room = c.self.invariant.room })
 
 pub returns-clause-file : goal.returns-clause-file
 returns-clause-file g c = (invariant_of-self g c).file
