@@ -9,6 +9,7 @@ pub mod AlikeMachines
 pub mod CompletedByPlace
 pub mod ContextByContext
 pub mod Renamable
+pub mod RenamedRuns
 pub mod RetiredFronts
 pub mod RetireSteps
 pub mod RetireTurns

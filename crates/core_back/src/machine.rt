@@ -16,7 +16,7 @@ ghost use Rattle.core_context.specs.Heads.{IsGoing, first_done, step_on};
 ghost use Rattle.core_context.specs.Issuable.{HoldsNone};
 ghost use Rattle.core_back.specs.Selected.{IsChosen};
 ghost use Rattle.core_back.specs.Issued.{IsIssued};
-ghost use Rattle.core_back.specs.Fetched.{IsRenamed, IsPickTurn};
+ghost use Rattle.core_back.specs.Fetched.{IsRenamed, IsRenamedRun, IsPickTurn};
 ghost use Rattle.core_back.specs.Renamable.{IsPastFront, IsPastFrontStamp};
 ghost use Rattle.core_back.specs.First.{IsFirst, IsTarget, AreMarksAt};
 ghost use Rattle.checkpoint.specs.Aligned.{IsAligned};
@@ -389,9 +389,8 @@ impl<A: Allocator> Machine<A> {
 
     /// The oldest fetched entry of a context is renamed, if it can be and its stamp is no greater than a limit. Returns
     /// its stamp.
-    // It stays out of line: in a caller's loop its conditional moves become jumps, which are guessed wrongly.
-    #[inline(never)]
-    pub fn try_rename(&mut self, context: Ctx, limit: u64) -> Option<u64>
+    #[inline(always)]
+    fn try_rename(&mut self, context: Ctx, limit: u64) -> Option<u64>
         requires { self.old.names ≡ [] }
         ensures none { result ≡ None → self.new ≡ self.old }
         ensures cannot { result ≡ None → (e : Entry) → e.stamp ≤ limit → ¬ (CanRename self.old.view context e) }
@@ -410,6 +409,34 @@ impl<A: Allocator> Machine<A> {
             &self.profile,
             limit,
         )
+    }
+
+    /// The oldest fetched entries of a context are renamed, one by one, for as long as they can be, their stamps are no
+    /// greater than a limit, and fewer than a width are listed. What is renamed is listed in order.
+    // It stays out of line: in a caller's loop its conditional moves become jumps, which are guessed wrongly.
+    #[inline(never)]
+    pub fn rename_run(
+        &mut self,
+        context: Ctx,
+        limit: u64,
+        width: usize,
+        renamed: &mut ArrayVec<EntryId, 8>,
+    )
+        requires idle { self.old.names ≡ [] }
+        requires width { width ≤ 8 }
+        requires room { length renamed.old.items ≤ width }
+        ensures run { IsRenamedRun context limit width self.old self.new renamed.old.items renamed.new.items }
+        ensures cannot { length renamed.new.items < width → (e : Entry) → e.stamp ≤ limit → ¬ (CanRename self.new.view context e) }
+        ensures flights { in_flight self.new ≡ in_flight self.old }
+        ensures alike { IsAlike self.old self.new }
+        ensures idle { self.new.names ≡ [] }
+    {
+        while renamed.len() < width {
+            let Some(stamp) = self.try_rename(context, limit) else {
+                return;
+            };
+            renamed.push(EntryId { context, stamp });
+        }
     }
 
     /// How many entries of a context are fetched and not yet renamed.

@@ -1,16 +1,16 @@
 -- What renaming in one context for as long as its entries come first keeps.
-use Rattle.std.proofs.Common.{◌≡◌, ◌≢◌, ℕ, ◌+◌, ◌-◌, ◌*◌, ◌<◌, ◌≤◌, List, [], ◌∷◌, ◌++◌, length, get_or, Option, Some, None, refl, sym, ap, ◌∙◌, subst, arith, inl, inr}
+use Rattle.std.proofs.Common.{◌≡◌, ◌≢◌, ℕ, ◌+◌, ◌-◌, ◌*◌, ◌<◌, ◌≤◌, List, [], ◌∷◌, ◌++◌, length, get_or, Option, Some, None, refl, sym, ap, ◌∙◌, subst, arith, inl, inr, append-nil, append_assoc}
 use Rattle.std.specs.Prelude.{set, cond, count_by}
 use Rattle.std.specs.Option.{is_some}
 use Rattle.std.proofs.lemmas.Bool.{cases_lt, cases_eq}
-use Rattle.std.proofs.lemmas.List.{length_push, get_or-set_other}
+use Rattle.std.proofs.lemmas.List.{length_push, length-append, get_or-set_other}
 use Rattle.std.proofs.lemmas.List.Sums.{sum_by-set, count_by-le-length}
 use Rattle.core_view.specs.declared.entry.Entry.{Entry}
 use Rattle.core_view.specs.declared.note.EntryId.{EntryId}
 use Rattle.core_view.specs.View.{View, entry_at}
 use Rattle.lawful_cycle.specs.Rename.{CanRename, IsNext}
 use Rattle.core_back.specs.Machine.{Machine, context_at}
-use Rattle.core_back.specs.Fetched.{IsRenamed}
+use Rattle.core_back.specs.Fetched.{ids_of, IsRenamed, AreRenamed, IsRenamedRun}
 use Rattle.core_cycle.specs.Fronts.{IsFront, AreFronts, IsLeast}
 use Rattle.core_cycle.specs.Runs.{AreBehind, IsRun}
 use Rattle.core_cycle.proofs.KeptFronts.{is_past_front, one_entry, front_within, could_rename}
@@ -33,11 +33,11 @@ module _ (m n : Machine) (c stamp limit : ℕ) (one : IsRenamed m n c stamp) (be
   }
 
   -- what can be renamed of the other contexts still comes after
-  pub behind_after : AreBehind n.view c limit
+  behind_after : AreBehind n.view c limit
   behind_after = λ d e ne can. behind d e ne (could_rename m n c stamp one d e ne can)
 
   -- a run goes on by an entry
-  pub run_more : (width : ℕ) (v : View) (before ids : List EntryId) → stamp ≤ limit → length ids < width → IsRun c width v m.view before ids → IsRun c width v n.view before (ids ++ record { context = c; stamp = stamp } ∷ [])
+  run_more : (width : ℕ) (v : View) (before ids : List EntryId) → stamp ≤ limit → length ids < width → IsRun c width v m.view before ids → IsRun c width v n.view before (ids ++ record { context = c; stamp = stamp } ∷ [])
   run_more width v before ids within room h =
       let id : EntryId = record { context = c; stamp = stamp } in
       let long = length_push ids id in
@@ -56,8 +56,28 @@ module _ (m n : Machine) (c stamp limit : ℕ) (one : IsRenamed m n c stamp) (be
         same = λ is. absurd (omega (arith, is, long, more));
       }
 
-pub run_none : (c width : ℕ) (v : View) (ids : List EntryId) → length ids ≤ width → IsRun c width v v ids ids
+run_none : (c width : ℕ) (v : View) (ids : List EntryId) → length ids ≤ width → IsRun c width v v ids ids
 run_none c width v ids most = record { others = λ d e ne can. can; way = λ start grown way. way; more = omega arith; most = most; same = λ is. refl }
+
+-- a run goes on by as many entries as were renamed one by one
+run_on : (c limit width : ℕ) (v : View) (m n : Machine) (before ids : List EntryId) (stamps : List ℕ) → AreBehind m.view c limit → AreRenamed c limit m stamps n → length (ids ++ ids_of c stamps) ≤ width
+    → IsRun c width v m.view before ids → IsRun c width v n.view before (ids ++ ids_of c stamps)
+run_on c limit width v m n before ids [] behind same most h =
+    subst (λ (u : Machine). IsRun c width v u.view before (ids ++ [])) (sym same) (subst (λ (after : List EntryId). IsRun c width v m.view before after) (sym (append-nil ids)) h)
+run_on c limit width v m n before ids (stamp ∷ stamps) behind (u, within, one, renamed) most h =
+    let id : EntryId = record { context = c; stamp = stamp } in
+    let listed : (ids ++ id ∷ []) ++ ids_of c stamps ≡ ids ++ id ∷ ids_of c stamps = append_assoc ids (id ∷ []) (ids_of c stamps) in
+    let long = length-append ids (id ∷ ids_of c stamps) in
+    subst (λ (after : List EntryId). IsRun c width v n.view before after) listed
+    (run_on c limit width v u n before (ids ++ id ∷ []) stamps (behind_after m u c stamp limit one behind) renamed (subst (λ (after : List EntryId). length after ≤ width) (sym listed) most)
+    (run_more m u c stamp limit one behind width v before ids within (omega (arith, long, most)) h))
+
+-- entries that were renamed one by one, before what can be renamed of the other contexts, are a run
+pub run_of : (c limit width : ℕ) (m n : Machine) (before after : List EntryId) → AreBehind m.view c limit → IsRenamedRun c limit width m n before after → IsRun c width m.view n.view before after
+run_of c limit width m n before after behind run =
+    let most = subst (λ (is : List EntryId). length is ≤ width) run.listed run.most in
+    let long = length-append before (ids_of c run.stamps) in
+    subst (λ (is : List EntryId). IsRun c width m.view n.view before is) (sym run.listed) (run_on c limit width m.view m n before before run.stamps behind run.renamed most (run_none c width m.view before (omega (arith, long, most))))
 
 -- ---- the fronts around a run
 

@@ -64,12 +64,7 @@ fn rename_run<A: Allocator>(
     ensures run { IsRun context width machine.old.view machine.new.view renamed.old.items renamed.new.items }
     ensures cannot { length renamed.new.items < width → (e : Entry) → e.stamp ≤ limit → ¬ (CanRename machine.new.view context e) }
 {
-    while renamed.len() < width {
-        let Some(stamp) = machine.try_rename(context, limit) else {
-            return;
-        };
-        renamed.push(EntryId { context, stamp });
-    }
+    machine.rename_run(context, limit, width, renamed);
 }
 
 /// The fronts once a context's entries were renamed, if there were any: its own is asked anew.
