@@ -1,12 +1,13 @@
 //! The blocks that `step` writes. The digests were taken by another program, over the address and
 //! the bytes of each page.
 
-use crate::devices::{over_failing_readers, over_failing_writers, refusal_line, written};
+use crate::devices::{assert_answer, repeated};
 use lab_commands::run::Request;
 use std::alloc::Global;
-use std::test::Fail;
+use std::process::Abort;
 
-const COUNTDOWN: &str = ".word 0x00A00293\n.word 0xFFF28293\n.word 0xFE029EE3\n.word 0x00000073\n";
+pub const COUNTDOWN: &str =
+    ".word 0x00A00293\n.word 0xFFF28293\n.word 0xFE029EE3\n.word 0x00000073\n";
 
 const COUNTDOWN_BY_NAMES: &str =
     "addi x5, x0, 10\nloop: addi x5, x5, -1\nbne x5, x0, loop\necall\n";
@@ -14,17 +15,21 @@ const COUNTDOWN_BY_NAMES: &str =
 const COUNTDOWN_MEMORY: &str =
     "memory 02f5d09ff1621d14855098874649f25006641c873b3f01d89c6bef590e7890ad\n";
 
-const ZERO_MEMORY: &str =
-    "memory 9e7fb7e1c258c4770669e037e740b672c4a3be5f189e1f5ce5a2b318379b89e8\n";
+pub const FOUR_WITH_SEVEN: Request<'_> = Request::Step {
+    file: "in",
+    count: 4,
+    with: Some(7),
+};
 
-const NOP_MEMORY: &str =
-    "memory 6ed146e46955d2b2354b3a3c957f615ac0a0db545a53844b456d1bcb3ccd3a1f\n";
-
-const EMPTY_MEMORY: &str =
-    "memory e3b0c44298fc1c149afbf4c8996fb92427ae41e4649b934ca495991b7852b855\n";
-
-/// What `step` writes for a text.
-fn block_text(alloc: &Global, text: &str, count: u32, with: Option<u32>) -> Result<String, Fail> {
+/// `step` writes these parts for a text, or the line of a refusal.
+fn assert_block(
+    rt: &impl Abort,
+    alloc: &Global,
+    text: &str,
+    count: u32,
+    with: Option<u32>,
+    parts: &[&str],
+) {
     let with = match with {
         Some(other) => Some(u64::from(other)),
         None => None,
@@ -34,88 +39,79 @@ fn block_text(alloc: &Global, text: &str, count: u32, with: Option<u32>) -> Resu
         count: u64::from(count),
         with,
     };
-    written(alloc, request, text.as_bytes())
+    assert_answer(rt, alloc, request, "in", text.as_bytes(), parts);
 }
 
-#[test]
-fn countdown_at_each_count(rt: HostRuntime) -> Result<(), Fail> {
-    let alloc = rt.alloc();
-    let table = [
-        (0, None, "context 0 count 0 running pc 0000000000010000\n"),
-        (
-            4,
-            None,
-            "context 0 count 4 running pc 0000000000010008\nx5 0000000000000008\n",
-        ),
-        (
-            7,
-            Some(4),
-            "context 0 count 7 running pc 0000000000010004\nx5 0000000000000007\n",
-        ),
-        (
-            4,
-            Some(7),
-            "context 0 count 7 running pc 0000000000010004\nx5 0000000000000007\n",
-        ),
-        (
-            0,
-            Some(0),
-            "context 0 count 0 running pc 0000000000010000\n",
-        ),
-        (20, None, "context 0 count 20 running pc 0000000000010008\n"),
-        (21, None, "context 0 count 21 stop 8 pc 000000000001000c\n"),
-        (30, None, "context 0 count 21 stop 8 pc 000000000001000c\n"),
-        (
-            3,
-            Some(u32::MAX),
-            "context 0 count 21 stop 8 pc 000000000001000c\n",
-        ),
-    ];
-    for (count, with, lines) in table {
-        let wanted = format!(in alloc; "{lines}{COUNTDOWN_MEMORY}")?;
-        for program in [COUNTDOWN, COUNTDOWN_BY_NAMES] {
-            let text = block_text(&alloc, program, count, with)?;
-            assert_eq!(rt; text.as_str(), wanted.as_str(), "at {count}");
-        }
-    }
-    Ok(())
-}
+/// Counts of the countdown, and the lines of its block above that of its memory.
+const COUNTDOWN_BLOCKS: &[(u32, Option<u32>, &str)] = &[
+    (0, None, "context 0 count 0 running pc 0000000000010000\n"),
+    (
+        4,
+        None,
+        "context 0 count 4 running pc 0000000000010008\nx5 0000000000000008\n",
+    ),
+    (
+        7,
+        Some(4),
+        "context 0 count 7 running pc 0000000000010004\nx5 0000000000000007\n",
+    ),
+    (
+        4,
+        Some(7),
+        "context 0 count 7 running pc 0000000000010004\nx5 0000000000000007\n",
+    ),
+    (
+        0,
+        Some(0),
+        "context 0 count 0 running pc 0000000000010000\n",
+    ),
+    (20, None, "context 0 count 20 running pc 0000000000010008\n"),
+    (21, None, "context 0 count 21 stop 8 pc 000000000001000c\n"),
+    (30, None, "context 0 count 21 stop 8 pc 000000000001000c\n"),
+    (
+        3,
+        Some(u32::MAX),
+        "context 0 count 21 stop 8 pc 000000000001000c\n",
+    ),
+];
 
 #[test]
-fn stops_at_the_start_and_after_it(rt: HostRuntime) -> Result<(), Fail> {
+fn countdown_at_each_count(rt: HostRuntime) {
     let alloc = rt.alloc();
-    let table = [
-        (
-            ".word 0\n",
-            "context 0 count 0 stop 2 pc 0000000000010000\n",
-            ZERO_MEMORY,
-        ),
-        (
-            ".word 0x00000013\n",
-            "context 0 count 1 stop 2 pc 0000000000010004\n",
-            NOP_MEMORY,
-        ),
-        (
-            "",
-            "context 0 count 0 stop 1 pc 0000000000010000\n",
-            EMPTY_MEMORY,
-        ),
-        (
-            "# nothing\r\n\n \t\n",
-            "context 0 count 0 stop 1 pc 0000000000010000\n",
-            EMPTY_MEMORY,
-        ),
-    ];
-    for (text, line, memory) in table {
-        let block = block_text(&alloc, text, 5, None)?;
-        let wanted = format!(in alloc; "{line}{memory}")?;
-        assert_eq!(rt; block.as_str(), wanted.as_str());
+    for (count, with, lines) in COUNTDOWN_BLOCKS {
+        let parts = [*lines, COUNTDOWN_MEMORY];
+        assert_block(&rt, &alloc, COUNTDOWN, *count, *with, &parts);
+        assert_block(&rt, &alloc, COUNTDOWN_BY_NAMES, *count, *with, &parts);
     }
-    Ok(())
 }
 
 /// Programs, how many instructions each is to go on, and its block.
-const EXAMPLES: [(&str, u32, &str); 11] = [
+const EXAMPLES: &[(&str, u32, &str)] = &[
+    // a stop at the start, and after it
+    (
+        ".word 0\n",
+        5,
+        "context 0 count 0 stop 2 pc 0000000000010000\n\
+         memory 9e7fb7e1c258c4770669e037e740b672c4a3be5f189e1f5ce5a2b318379b89e8\n",
+    ),
+    (
+        ".word 0x00000013\n",
+        5,
+        "context 0 count 1 stop 2 pc 0000000000010004\n\
+         memory 6ed146e46955d2b2354b3a3c957f615ac0a0db545a53844b456d1bcb3ccd3a1f\n",
+    ),
+    (
+        "",
+        5,
+        "context 0 count 0 stop 1 pc 0000000000010000\n\
+         memory e3b0c44298fc1c149afbf4c8996fb92427ae41e4649b934ca495991b7852b855\n",
+    ),
+    (
+        "# nothing\r\n\n \t\n",
+        5,
+        "context 0 count 0 stop 1 pc 0000000000010000\n\
+         memory e3b0c44298fc1c149afbf4c8996fb92427ae41e4649b934ca495991b7852b855\n",
+    ),
     (
         "addi x0, x0, 5\nlui x5, 0x80000\necall",
         100,
@@ -210,49 +206,22 @@ const EXAMPLES: [(&str, u32, &str); 11] = [
 ];
 
 #[test]
-fn examples_in_names(rt: HostRuntime) -> Result<(), Fail> {
+fn blocks_of_examples(rt: HostRuntime) {
     let alloc = rt.alloc();
     for (text, count, block) in EXAMPLES {
-        let written = block_text(&alloc, text, count, None)?;
-        assert_eq!(rt; written.as_str(), block);
+        assert_block(&rt, &alloc, text, *count, None, &[*block]);
     }
-    Ok(())
 }
 
+const NOP: &str = ".word 0x00000013\n";
+
 #[test]
-fn full_text_and_one_line_more(rt: HostRuntime) -> Result<(), Fail> {
+fn full_text_and_one_line_more(rt: HostRuntime) {
     let alloc = rt.alloc();
-    let line = ".word 0x00000013\n";
-    let mut text = String::new(alloc);
-    for _ in 0..65536 {
-        text.push_str(line)?;
-    }
-    let block = block_text(&alloc, text.as_str(), 70000, None)?;
-    let wanted = "context 0 count 65536 stop 1 pc 0000000000050000\n\
+    let block = "context 0 count 65536 stop 1 pc 0000000000050000\n\
         memory 862de30e178159066a6afc20d51fb9cb01af03470cc4a2937de2cda63bd48f84\n";
-    assert_eq!(rt; block.as_str(), wanted);
-    text.push_str(line)?;
-    let bytes = text.as_str().as_bytes();
-    let refused = refusal_line(&rt, &alloc, FOUR_WITH_SEVEN, bytes, "file")?;
-    assert_eq!(rt; refused.as_str(), "refused A7 line 65537");
-    Ok(())
-}
-
-const FOUR_WITH_SEVEN: Request<'_> = Request::Step {
-    file: "in",
-    count: 4,
-    with: Some(7),
-};
-
-#[test]
-fn reader_that_fails_at_each_call(rt: HostRuntime) -> Result<(), Fail> {
-    let alloc = rt.alloc();
-    over_failing_readers(&rt, &alloc, FOUR_WITH_SEVEN, COUNTDOWN.as_bytes())
-}
-
-#[test]
-fn writer_that_fails_at_each_call(rt: HostRuntime) -> Result<(), Fail> {
-    let alloc = rt.alloc();
-    // 142 bytes, 20 a call
-    over_failing_writers(&rt, &alloc, FOUR_WITH_SEVEN, COUNTDOWN.as_bytes(), 9)
+    for (lines, wanted) in [(65536, block), (65537, "refused A7 line 65537")] {
+        let text = repeated(&rt, alloc, NOP, lines);
+        assert_block(&rt, &alloc, text.as_str(), 70000, None, &[wanted]);
+    }
 }

@@ -3,82 +3,79 @@
 use lab_commands::device::Watched;
 use lab_commands::run::{Failure, Refusal, explain, status, tell, words};
 use std::alloc::Global;
-use std::process::ExitCode;
+use std::process::{Abort, ExitCode};
 use std::str;
-use std::test::Fail;
 
-/// What goes to standard error at an outcome.
-fn told(alloc: &Global, outcome: &Result<(), Failure<&Global>>) -> Result<String, Fail> {
+/// Standard error gets this text, or one that begins so, and the status is this.
+fn assert_ends(
+    rt: &impl Abort,
+    alloc: &Global,
+    outcome: Result<(), Failure<&Global>>,
+    text: Text,
+    code: u8,
+) {
     let mut errors = Vec::new(*alloc);
-    tell(outcome, &mut errors)?;
-    Ok(str::from_utf8(&errors)?.to_string(*alloc)?)
+    let told = tell(&outcome, &mut errors).is_ok();
+    let ends = told && status(&outcome) == ExitCode::from(code);
+    assert!(rt; ends && text.is(&errors));
+}
+
+/// What is written.
+#[derive(Clone, Copy)]
+enum Text {
+    /// This.
+    Whole(&'static str),
+    /// What begins with this.
+    Beginning(&'static str),
+}
+
+impl Text {
+    fn is(self, bytes: &[u8]) -> bool {
+        match self {
+            Text::Whole(text) => bytes == text.as_bytes(),
+            Text::Beginning(text) => bytes.starts_with(text.as_bytes()),
+        }
+    }
+}
+
+/// What is written to standard output and to standard error, and the status, where the words make no request.
+fn assert_explained(
+    rt: &impl Abort,
+    alloc: &Global,
+    given: &[&str],
+    output: Text,
+    errors: Text,
+    code: u8,
+) {
+    let error = words(*alloc, given).err().expect(rt, "a request");
+    let name = String::from_str(alloc, "-").expect(rt, "memory");
+    let mut sink = Watched::new(Vec::new(alloc), name);
+    let outcome = explain(alloc, error, &mut sink);
+    assert!(rt; output.is(&sink.into_inner()));
+    assert_ends(rt, alloc, outcome, errors, code);
 }
 
 #[test]
-fn done_says_nothing(rt: HostRuntime) -> Result<(), Fail> {
+fn endings_of_outcomes(rt: HostRuntime) {
     let alloc = rt.alloc();
-    let outcome = Ok(());
-    assert_eq!(rt; told(&alloc, &outcome)?.as_str(), "");
-    assert!(rt; status(&outcome) == ExitCode::SUCCESS);
-    Ok(())
-}
-
-#[test]
-fn refused_is_one_line(rt: HostRuntime) -> Result<(), Fail> {
-    let alloc = rt.alloc();
-    let name = String::from_str(&alloc, "a.s")?;
-    let outcome = Err(Failure::Refused(Refusal::Unread(name)));
-    assert_eq!(rt; told(&alloc, &outcome)?.as_str(), "refused S1 a.s\n");
-    assert!(rt; status(&outcome) == ExitCode::from(1));
-    Ok(())
-}
-
-#[test]
-fn word_that_is_no_text(rt: HostRuntime) -> Result<(), Fail> {
-    let alloc = rt.alloc();
-    let outcome = Err(Failure::NotUnicode);
+    assert_ends(&rt, &alloc, Ok(()), Text::Whole(""), 0);
+    let name = String::from_str(&alloc, "a.s").expect(&rt, "memory");
+    let refused = Err(Failure::Refused(Refusal::Unread(name)));
+    assert_ends(&rt, &alloc, refused, Text::Whole("refused S1 a.s\n"), 1);
     let line = "error: invalid UTF-8 was detected in one or more arguments\n";
-    assert_eq!(rt; told(&alloc, &outcome)?.as_str(), line);
-    assert!(rt; status(&outcome) == ExitCode::from(2));
-    Ok(())
+    assert_ends(&rt, &alloc, Err(Failure::NotUnicode), Text::Whole(line), 2);
 }
 
-/// What the words end with where they make no request, and what they write to standard output.
-fn explained<'a>(
-    alloc: &'a Global,
-    words_given: &[&str],
-) -> Result<(Result<(), Failure<&'a Global>>, String), Fail> {
-    let error = words(*alloc, words_given).err().ok_or("a request")?;
-    let mut output = Watched::new(Vec::new(alloc), String::from_str(alloc, "-")?);
-    let outcome = explain(alloc, error, &mut output);
-    let written = str::from_utf8(&output.into_inner())?.to_string(*alloc)?;
-    Ok((outcome, written))
-}
+const ABOUT: &str =
+    "Simulates a simultaneous multithreading out-of-order RV64I core, cycle by cycle\n";
 
 #[test]
-fn wrong_words_are_explained(rt: HostRuntime) -> Result<(), Fail> {
+fn words_are_explained(rt: HostRuntime) {
     let alloc = rt.alloc();
-    let (outcome, written) = explained(&alloc, &["halt"])?;
-    assert_eq!(rt; written.as_str(), "");
-    let text = told(&alloc, &outcome)?;
-    assert!(rt;
-        text.as_str()
-            .starts_with("error: unrecognized subcommand 'halt'\n")
-    );
-    assert!(rt; status(&outcome) == ExitCode::from(2));
-    Ok(())
-}
-
-#[test]
-fn help_is_written(rt: HostRuntime) -> Result<(), Fail> {
-    let alloc = rt.alloc();
-    let (outcome, written) = explained(&alloc, &["--help"])?;
-    let about = "Simulates a simultaneous multithreading out-of-order RV64I core, cycle by cycle\n";
-    assert!(rt; written.as_str().starts_with(about));
-    assert_eq!(rt; told(&alloc, &outcome)?.as_str(), "");
-    assert!(rt; status(&outcome) == ExitCode::SUCCESS);
-    let (outcome, written) = explained(&alloc, &["--version"])?;
-    assert_eq!(rt; written.as_str(), "smt-lab 0.1.0\n");
-    assert!(rt; status(&outcome) == ExitCode::SUCCESS);
-    Ok(())
+    let none = Text::Whole("");
+    let unknown = Text::Beginning("error: unrecognized subcommand 'halt'\n");
+    assert_explained(&rt, &alloc, &["halt"], none, unknown, 2);
+    assert_explained(&rt, &alloc, &["--help"], Text::Beginning(ABOUT), none, 0);
+    let version = Text::Whole("smt-lab 0.1.0\n");
+    assert_explained(&rt, &alloc, &["--version"], version, none, 0);
 }

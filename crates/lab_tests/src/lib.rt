@@ -12,8 +12,6 @@ mod listings;
 #[cfg(test)]
 mod memory;
 #[cfg(test)]
-mod plans;
-#[cfg(test)]
 mod refusals;
 #[cfg(test)]
 mod reports;

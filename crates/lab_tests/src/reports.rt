@@ -1,12 +1,12 @@
 //! The reports that `run` writes for worked plans. The digests were taken by another program, over the
 //! address and the bytes of each page.
 
-use crate::devices::{over_failing_readers, over_failing_writers, written};
+use crate::devices::{answer, assert_answer};
 use lab_commands::run::Request;
 use std::alloc::Global;
-use std::test::Fail;
+use std::process::Abort;
 
-const RUN: Request<'_> = Request::Run { plan: "in" };
+pub const RUN: Request<'_> = Request::Run { plan: "in" };
 
 /// A limit that no example meets, and a target past its end.
 const AMPLE: &str = "limit = 1000\ntargets = [100]\n";
@@ -15,151 +15,187 @@ const AMPLE_AT_ONCE: &str = "limit = 1000\ntargets = [100]\nprofile = { front_de
 
 const COUNTDOWN: &str = ".word 0x00A00293\n.word 0xFFF28293\n.word 0xFE029EE3\n.word 0x00000073\n";
 
-/// What `run` writes for a plan.
-fn report_text(alloc: &Global, plan: &str) -> Result<String, Fail> {
-    written(alloc, RUN, plan.as_bytes())
-}
-
 /// A plan of one program at context 0, and jobs.
-fn plan_of(alloc: &Global, program: &str, jobs: &[&str]) -> Result<String, Fail> {
-    let mut plan = format!(in *alloc;
+fn plan_of(rt: &impl Abort, alloc: Global, program: &str, jobs: &[&str]) -> String {
+    let mut plan = String::new(alloc);
+    write!(
+        plan,
         "contexts = ['only']\n[programs]\nonly = '''\n{program}'''\n"
-    )?;
+    )
+    .expect(rt, "memory");
     for job in jobs {
-        write!(plan, "[[jobs]]\n{job}")?;
+        write!(plan, "[[jobs]]\n{job}").expect(rt, "memory");
     }
-    Ok(plan)
+    plan
 }
 
-/// A report without its jobs' lines, where context 0 alone has a program.
-fn blocks_after(alloc: &Global, first: &str) -> Result<String, Fail> {
-    let mut text = format!(in *alloc; "smt-lab report 1\n{first}")?;
-    for context in 1..8usize {
-        write!(
-            text,
-            "context {context} count 0 stop 1 pc 0000000000010000\n{EMPTY_MEMORY}"
-        )?;
-    }
-    Ok(text)
+const FIRST_LINE: &str = "smt-lab report 1\n";
+
+/// The blocks of contexts 1 to 7, which have no program.
+const OTHER_BLOCKS: &str = "context 1 count 0 stop 1 pc 0000000000010000\n\
+    memory e3b0c44298fc1c149afbf4c8996fb92427ae41e4649b934ca495991b7852b855\n\
+    context 2 count 0 stop 1 pc 0000000000010000\n\
+    memory e3b0c44298fc1c149afbf4c8996fb92427ae41e4649b934ca495991b7852b855\n\
+    context 3 count 0 stop 1 pc 0000000000010000\n\
+    memory e3b0c44298fc1c149afbf4c8996fb92427ae41e4649b934ca495991b7852b855\n\
+    context 4 count 0 stop 1 pc 0000000000010000\n\
+    memory e3b0c44298fc1c149afbf4c8996fb92427ae41e4649b934ca495991b7852b855\n\
+    context 5 count 0 stop 1 pc 0000000000010000\n\
+    memory e3b0c44298fc1c149afbf4c8996fb92427ae41e4649b934ca495991b7852b855\n\
+    context 6 count 0 stop 1 pc 0000000000010000\n\
+    memory e3b0c44298fc1c149afbf4c8996fb92427ae41e4649b934ca495991b7852b855\n\
+    context 7 count 0 stop 1 pc 0000000000010000\n\
+    memory e3b0c44298fc1c149afbf4c8996fb92427ae41e4649b934ca495991b7852b855\n";
+
+/// The lines of a report's jobs.
+enum Lines {
+    /// All of them.
+    All(&'static str),
+    /// How they end.
+    Last(&'static str),
 }
 
-const EMPTY_MEMORY: &str =
-    "memory e3b0c44298fc1c149afbf4c8996fb92427ae41e4649b934ca495991b7852b855\n";
+/// Whether a text is the report that has this block of context 0, where it alone has a program, and these
+/// lines.
+fn is_report(text: &str, block: &str, lines: &Lines) -> bool {
+    let Some(blocks) = text.strip_prefix(FIRST_LINE) else {
+        return false;
+    };
+    let Some(others) = blocks.strip_prefix(block) else {
+        return false;
+    };
+    match (others.strip_prefix(OTHER_BLOCKS), lines) {
+        (Some(found), Lines::All(all)) => found == *all,
+        (Some(found), Lines::Last(last)) => found.ends_with(*last),
+        (None, _) => false,
+    }
+}
+
+/// `run` writes such a report for a program at context 0 and these jobs.
+fn assert_report(
+    rt: &impl Abort,
+    alloc: &Global,
+    program: &str,
+    jobs: &[&str],
+    block: &str,
+    lines: &Lines,
+) {
+    let plan = plan_of(rt, *alloc, program, jobs);
+    let text = answer(rt, alloc, RUN, "in", plan.as_str().as_bytes());
+    assert!(rt; is_report(text.as_str(), block, lines), "{text}");
+}
 
 #[test]
-fn empty_plan(rt: HostRuntime) -> Result<(), Fail> {
-    let alloc = rt.alloc();
-    let first = format!(in alloc; "context 0 count 0 stop 1 pc 0000000000010000\n{EMPTY_MEMORY}")?;
-    let wanted = blocks_after(&alloc, first.as_str())?;
-    assert_eq!(rt; report_text(&alloc, "")?.as_str(), wanted.as_str());
-    Ok(())
+fn empty_plan(rt: HostRuntime) {
+    let first = "context 0 count 0 stop 1 pc 0000000000010000\n\
+        memory e3b0c44298fc1c149afbf4c8996fb92427ae41e4649b934ca495991b7852b855\n";
+    let parts = [FIRST_LINE, first, OTHER_BLOCKS];
+    assert_answer(&rt, &rt.alloc(), RUN, "in", b"", &parts);
 }
 
-/// Programs, the job of each, the block of context 0, and the job's lines.
-const EXAMPLES: [(&str, &str, &str, &str); 8] = [
+/// Programs, the jobs of each, the block of context 0, and the jobs' lines.
+const EXAMPLES: &[(&str, &[&str], &str, Lines)] = &[
     (
         "ecall\n",
-        AMPLE_AT_ONCE,
+        &[AMPLE_AT_ONCE],
         "context 0 count 0 stop 8 pc 0000000000010000\n\
          memory e41f7967b2a855a3ebd0f9b609fd6a02e4a4c078758a614d669b8b23d14119ee\n",
-        "job 0 opening reached cycles 3 fetched 1 renamed 1 issued 0 retired 0 squashed 1 ipc 0\n\
+        Lines::All(
+            "job 0 opening reached cycles 3 fetched 1 renamed 1 issued 0 retired 0 squashed 1 ipc 0\n\
          marks 0 0 0 0 0 0 0 0\n",
+        ),
     ),
     (
         "nop\necall\n",
-        AMPLE_AT_ONCE,
+        &[AMPLE_AT_ONCE],
         "context 0 count 1 stop 8 pc 0000000000010004\n\
          memory 4163d3f48cd4ce94acdf68bceffccc4e3eb3d9351548a3f5ac3325779ae743e2\n",
-        "job 0 opening reached cycles 5 fetched 2 renamed 2 issued 1 retired 1 squashed 1 ipc 200\n\
+        Lines::All(
+            "job 0 opening reached cycles 5 fetched 2 renamed 2 issued 1 retired 1 squashed 1 ipc 200\n\
          marks 1 0 0 0 0 0 0 0\n",
+        ),
     ),
     (
         COUNTDOWN,
-        AMPLE,
+        &[AMPLE],
         "context 0 count 21 stop 8 pc 000000000001000c\n\
          memory 02f5d09ff1621d14855098874649f25006641c873b3f01d89c6bef590e7890ad\n",
-        "job 0 opening reached cycles 27 fetched 32 renamed 28 issued 22 retired 21 squashed 11 ipc 777\n\
+        Lines::All(
+            "job 0 opening reached cycles 27 fetched 32 renamed 28 issued 22 retired 21 squashed 11 ipc 777\n\
          marks 21 0 0 0 0 0 0 0\n",
+        ),
     ),
     (
         "addi x6, x0, 7\nlui x5, 0x100\nbeq x0, x0, out\nsd x6, 0(x5)\nld x7, 0(x0)\nout: ecall\n\
          .data\n.dword 1\n",
-        AMPLE,
+        &[AMPLE],
         "context 0 count 3 stop 8 pc 0000000000010014\n\
          x5 0000000000100000\n\
          x6 0000000000000007\n\
          memory ad75b1c4e1ca970156b9b110603e0c0124c19f64881fe724db9858ce7defe25e\n",
-        "job 0 opening reached cycles 8 fetched 7 renamed 7 issued 4 retired 3 squashed 4 ipc 375\n\
+        Lines::All(
+            "job 0 opening reached cycles 8 fetched 7 renamed 7 issued 4 retired 3 squashed 4 ipc 375\n\
          marks 3 0 0 0 0 0 0 0\n",
+        ),
     ),
     (
         "lui x5, 0x100\naddi x6, x0, 255\nsb x6, 0(x5)\nld x7, 0(x5)\necall\n\
          .data\n.dword 0x1122334455667788\n",
-        AMPLE,
+        &[AMPLE],
         "context 0 count 4 stop 8 pc 0000000000010010\n\
          x5 0000000000100000\n\
          x6 00000000000000ff\n\
          x7 11223344556677ff\n\
          memory a34962dea449858d845f08d490ebbde05d3ef91708cb994f918ab1e337ac8f11\n",
-        "job 0 opening reached cycles 11 fetched 7 renamed 7 issued 5 retired 4 squashed 3 ipc 363\n\
+        Lines::All(
+            "job 0 opening reached cycles 11 fetched 7 renamed 7 issued 5 retired 4 squashed 3 ipc 363\n\
          marks 4 0 0 0 0 0 0 0\n",
+        ),
     ),
     (
         "lui x5, 0x100\naddi x6, x0, 7\nld x7, 0(x5)\nsd x6, 0(x7)\nld x8, 8(x5)\necall\n\
          .data\n.dword 0x100008\n.dword 1\n",
-        AMPLE,
+        &[AMPLE],
         "context 0 count 5 stop 8 pc 0000000000010014\n\
          x5 0000000000100000\n\
          x6 0000000000000007\n\
          x7 0000000000100008\n\
          x8 0000000000000007\n\
          memory fe61a5355ba49f121e54941f88e345756a82f8cfb9ffb611ceeb48bb6659428f\n",
-        "job 0 opening reached cycles 31 fetched 8 renamed 8 issued 6 retired 5 squashed 3 ipc 161\n\
+        Lines::All(
+            "job 0 opening reached cycles 31 fetched 8 renamed 8 issued 6 retired 5 squashed 3 ipc 161\n\
          marks 5 0 0 0 0 0 0 0\n",
+        ),
     ),
     // no cycle at all, with a context that runs and with none
     (
         "nop\necall\n",
-        "limit = 0\ntargets = [100]\n",
+        &["limit = 0\ntargets = [100]\n"],
         "context 0 count 0 running pc 0000000000010000\n\
          memory 4163d3f48cd4ce94acdf68bceffccc4e3eb3d9351548a3f5ac3325779ae743e2\n",
-        "job 0 opening limit cycles 0 fetched 0 renamed 0 issued 0 retired 0 squashed 0 ipc 0\n\
+        Lines::All(
+            "job 0 opening limit cycles 0 fetched 0 renamed 0 issued 0 retired 0 squashed 0 ipc 0\n\
          marks 0 0 0 0 0 0 0 0\n",
+        ),
     ),
     (
         "nop\necall\n",
-        "limit = 0\n",
+        &["limit = 0\n"],
         "context 0 count 0 running pc 0000000000010000\n\
          memory 4163d3f48cd4ce94acdf68bceffccc4e3eb3d9351548a3f5ac3325779ae743e2\n",
-        "job 0 opening reached cycles 0 fetched 0 renamed 0 issued 0 retired 0 squashed 0 ipc 0\n\
+        Lines::All(
+            "job 0 opening reached cycles 0 fetched 0 renamed 0 issued 0 retired 0 squashed 0 ipc 0\n\
          marks 0 0 0 0 0 0 0 0\n",
+        ),
     ),
-];
-
-#[test]
-fn one_job_each(rt: HostRuntime) -> Result<(), Fail> {
-    let alloc = rt.alloc();
-    for (program, job, block, lines) in EXAMPLES {
-        let plan = plan_of(&alloc, program, &[job])?;
-        let blocks = blocks_after(&alloc, block)?;
-        let wanted = format!(in alloc; "{blocks}{lines}")?;
-        assert_eq!(rt;
-            report_text(&alloc, plan.as_str())?.as_str(),
-            wanted.as_str()
-        );
-    }
-    Ok(())
-}
-
-/// Programs, the jobs of each, the block of context 0, and the end of the report.
-const FIRST_AND_LAST: [(&str, &[&str], &str, &str); 4] = [
+    // what the lines begin with is left open
     (
         "lui x5, 0x10\njalr x1, 2(x5)\n",
         &[AMPLE],
         "context 0 count 1 stop 0 pc 0000000000010004\n\
          x5 0000000000010000\n\
          memory e1902c3e2dcc900b0bb07d35e90545ef622bd4504dd7aba2d6e9db202050eeac\n",
-        "marks 1 0 0 0 0 0 0 0\n",
+        Lines::Last("marks 1 0 0 0 0 0 0 0\n"),
     ),
     (
         "lui x5, 0x10\njalr x1, 1(x5)\n",
@@ -168,7 +204,7 @@ const FIRST_AND_LAST: [(&str, &[&str], &str, &str); 4] = [
          x1 0000000000010008\n\
          x5 0000000000010000\n\
          memory 10d7177d8f3c3a9ef5ba05b893ba0de7e466b136d18268bbf2ea4c3fb66e5cd2\n",
-        "marks 2 0 0 0 0 0 0 0\n",
+        Lines::Last("marks 2 0 0 0 0 0 0 0\n"),
     ),
     (
         COUNTDOWN,
@@ -179,7 +215,7 @@ const FIRST_AND_LAST: [(&str, &[&str], &str, &str); 4] = [
         "context 0 count 5 running pc 0000000000010004\n\
          x5 0000000000000008\n\
          memory 02f5d09ff1621d14855098874649f25006641c873b3f01d89c6bef590e7890ad\n",
-        "\nmarks 5 0 0 0 0 0 0 0\njob 1 furthest moved\n",
+        Lines::Last("\nmarks 5 0 0 0 0 0 0 0\njob 1 furthest moved\n"),
     ),
     // a job that goes on from where the first one came, and one that starts at the opening all the same
     (
@@ -192,54 +228,46 @@ const FIRST_AND_LAST: [(&str, &[&str], &str, &str); 4] = [
         "context 0 count 9 running pc 0000000000010004\n\
          x5 0000000000000006\n\
          memory 02f5d09ff1621d14855098874649f25006641c873b3f01d89c6bef590e7890ad\n",
-        "\njob 1 furthest moved\n\
+        Lines::Last(
+            "\njob 1 furthest moved\n\
          job 2 opening limit cycles 0 fetched 0 renamed 0 issued 0 retired 0 squashed 0 ipc 0\n\
          marks 0 0 0 0 0 0 0 0\n",
+        ),
     ),
 ];
 
 #[test]
-fn blocks_and_last_lines(rt: HostRuntime) -> Result<(), Fail> {
+fn reports_of_examples(rt: HostRuntime) {
     let alloc = rt.alloc();
-    for (program, jobs, block, last) in FIRST_AND_LAST {
-        let plan = plan_of(&alloc, program, jobs)?;
-        let text = report_text(&alloc, plan.as_str())?;
-        let blocks = blocks_after(&alloc, block)?;
-        assert!(rt; text.as_str().starts_with(blocks.as_str()));
-        assert!(rt; text.as_str().ends_with(last));
+    for (program, jobs, block, lines) in EXAMPLES {
+        assert_report(&rt, &alloc, program, jobs, block, lines);
     }
-    Ok(())
 }
 
-/// The countdown under another fetch policy.
-fn countdown_under(alloc: &Global, policy: &str) -> Result<String, Fail> {
-    let job = format!(in *alloc; "{AMPLE}profile = {{ fetch = '{policy}' }}\n")?;
-    let plan = plan_of(alloc, COUNTDOWN, &[job.as_str()])?;
-    report_text(alloc, plan.as_str())
-}
+/// The block of the countdown at its end.
+const COUNTDOWN_BLOCK: &str = "context 0 count 21 stop 8 pc 000000000001000c\n\
+    memory 02f5d09ff1621d14855098874649f25006641c873b3f01d89c6bef590e7890ad\n";
+
+/// A job under each fetch policy.
+const UNDER_POLICIES: &[&str] = &[
+    "limit = 1000\ntargets = [100]\nprofile = { fetch = 'RR' }\n",
+    "limit = 1000\ntargets = [100]\nprofile = { fetch = 'ICOUNT' }\n",
+    "limit = 1000\ntargets = [100]\nprofile = { fetch = 'BRCOUNT' }\n",
+    "limit = 1000\ntargets = [100]\nprofile = { fetch = 'MISSCOUNT' }\n",
+    "limit = 1000\ntargets = [100]\nprofile = { fetch = 'IQPOSN' }\n",
+];
 
 #[test]
-fn countdown_under_each_policy(rt: HostRuntime) -> Result<(), Fail> {
+fn countdown_under_each_policy(rt: HostRuntime) {
     let alloc = rt.alloc();
-    let block = "context 0 count 21 stop 8 pc 000000000001000c\n\
-         memory 02f5d09ff1621d14855098874649f25006641c873b3f01d89c6bef590e7890ad\n";
-    let blocks = blocks_after(&alloc, block)?;
-    for policy in ["RR", "ICOUNT", "BRCOUNT", "MISSCOUNT", "IQPOSN"] {
-        let text = countdown_under(&alloc, policy)?;
-        assert!(rt; text.as_str().starts_with(blocks.as_str()), "{policy}");
+    for job in UNDER_POLICIES {
+        assert_report(
+            &rt,
+            &alloc,
+            COUNTDOWN,
+            &[*job],
+            COUNTDOWN_BLOCK,
+            &Lines::Last(""),
+        );
     }
-    Ok(())
-}
-
-#[test]
-fn reader_that_fails_at_each_call(rt: HostRuntime) -> Result<(), Fail> {
-    let alloc = rt.alloc();
-    over_failing_readers(&rt, &alloc, RUN, b"contexts = ['']\n")
-}
-
-#[test]
-fn writer_that_fails_at_each_call(rt: HostRuntime) -> Result<(), Fail> {
-    let alloc = rt.alloc();
-    // 17 bytes and eight blocks of 118, 20 a call
-    over_failing_writers(&rt, &alloc, RUN, b"", 49)
 }
