@@ -7,6 +7,7 @@ use std::marker::Model;
 /// The number of a context, from 0 to 7. A contract sees it as that number.
 #[derive(Clone, Copy, Debug, Default, PartialEq, Eq, Hash, PartialOrd, Ord)]
 pub struct Ctx {
+    // As wide as an index: what holds it beside a word has no padding then, which would be cleared with each copy.
     number: usize,
 }
 
