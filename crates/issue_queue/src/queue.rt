@@ -169,6 +169,13 @@ impl Queue {
         ensures selected { IsSelected (λ e. O.key_of order.now (view_of e)) width self.old.entries self.new.entries result.items }
     {
         let ready = self.places.ready();
+        let mut selected = ArrayVec::new();
+        if order.is_by_stamp() && ready.count_ones() as usize <= width {
+            let above = self.arrivals.above;
+            selecting::list_all(&mut selected, &self.places.slots, ready, above);
+            self.places.free_supplied(ready);
+            return selected;
+        }
         let mut best = ArrayVec::new();
         selecting::choose(
             &mut best,
@@ -178,7 +185,6 @@ impl Queue {
             width,
             self.arrivals.above,
         );
-        let mut selected = ArrayVec::new();
         self.places.take(best.as_slice(), &mut selected);
         selected
     }
