@@ -9,7 +9,7 @@ use Rattle.issue_queue.specs.Views.{name_of, view_of}
 use Rattle.issue_queue.proofs.Arrived.{lists_taken, kept_less, entries_less}
 use Rattle.issue_queue.proofs.ByStamp.{by_stamp, kept_rest, all_selected}
 use Rattle.issue_queue.proofs.Chosen.{IsThere, all_there, fewer_taken, kept_chosen, best_selected}
-use Rattle.issue_queue.proofs.queue.Queue.select.Goals as goal
+use Rattle.issue_queue.proofs.queue.Queue.select_into.Goals as goal
 
 pub take-requires-clause-supplied : goal.take-requires-clause-supplied
 take-requires-clause-supplied g c =
