@@ -92,7 +92,7 @@ impl<A: Allocator + Copy> Machine<A> {
             origins,
             flow,
             tracks,
-            selected: Selection::new(ArrayVec::new()),
+            selected: Selection::new(),
             holds: false,
             cycle: 0,
             stamp: 0,
@@ -325,7 +325,7 @@ impl<A: Allocator> Machine<A> {
             let held = events::hold_loads(&mut self.flow, track, context);
             self.holds = self.holds || held;
         }
-        self.selected = Selection::new(self.flow.select(order, width));
+        self.selected.select(&mut self.flow, order, width);
     }
 
     /// How many entries are selected that have not issued yet.

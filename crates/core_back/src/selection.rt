@@ -1,9 +1,15 @@
 //! What was selected and has not issued yet.
 
-ghost use Rattle.std.specs.Prelude.{◌≡◌, ◌<◌, length, drop, slice_index_or};
+ghost use Rattle.std.specs.Prelude.{◌≡◌, ◌<◌, ◌≤◌, [], length, drop, slice_index_or};
+ghost use Rattle.issue_queue.specs.IsSelected.{IsSelected};
+ghost use Rattle.issue_queue.specs.Views.{view_of};
+ghost use Rattle.data_flow.specs.Flow.{queued};
 
 use arrayvec::ArrayVec;
 use core_view::EntryId;
+use data_flow::DataFlow;
+use issue_queue::Order;
+use std::alloc::Allocator;
 use std::marker::Model;
 
 /// The entries that were selected and have not issued yet, in order.
@@ -26,12 +32,31 @@ impl Model for Selection {
 }
 
 impl Selection {
-    /// These entries, of which none has issued.
-    #[inline(always)]
-    pub(crate) fn new(entries: ArrayVec<EntryId, 8>) -> Selection
-        ensures { result ≡ entries.items }
+    /// No entry.
+    pub(crate) fn new() -> Selection
+        ensures { result ≡ [] }
     {
-        Selection { entries, issued: 0 }
+        Selection {
+            entries: ArrayVec::new(),
+            issued: 0,
+        }
+    }
+
+    /// Selects the first ready entries by an order, at most so many, in place of these.
+    #[inline(always)]
+    pub(crate) fn select<A: Allocator, O: Order>(
+        &mut self,
+        flow: &mut DataFlow<A>,
+        order: &O,
+        width: usize,
+    )
+        requires { width ≤ 8 }
+        ensures lanes { flow.new ≡ record flow.old { waiters = flow.new.waiters } }
+        ensures selected { IsSelected (λ e. O.key_of order.now (view_of e)) width (queued flow.old) (queued flow.new) self.new }
+    {
+        self.entries = ArrayVec::new();
+        self.issued = 0;
+        flow.select(order, width, &mut self.entries);
     }
 
     /// How many have not issued.

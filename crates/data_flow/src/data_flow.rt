@@ -236,13 +236,14 @@ impl<A: Allocator> DataFlow<A> {
     }
 
     /// Removes the first instructions by an order that have the values of their sources, at most so many, from those
-    /// that wait, and gives their names in that order.
-    pub fn select<O: Order>(&mut self, order: &O, width: usize) -> ArrayVec<EntryId, 8>
-        requires { width ≤ 8 }
+    /// that wait, and lists their names in that order.
+    pub fn select<O: Order>(&mut self, order: &O, width: usize, names: &mut ArrayVec<EntryId, 8>)
+        requires width { width ≤ 8 }
+        requires empty { names.old.items ≡ [] }
         ensures lanes { self.new ≡ record self.old { waiters = self.new.waiters } }
-        ensures selected { IsSelected (λ e. O.key_of order.now (view_of e)) width (queued self.old) (queued self.new) result.items }
+        ensures selected { IsSelected (λ e. O.key_of order.now (view_of e)) width (queued self.old) (queued self.new) names.new.items }
     {
-        self.queue.select(order, width)
+        self.queue.select_into(order, width, names);
     }
 
     /// Tells whether an older guessed instruction of its context has not completed, of one that waits.

@@ -7,4 +7,5 @@ pub mod Kept
 pub mod Arrived
 pub mod Best
 pub mod Chosen
+pub mod ByStamp
 pub mod Oldest

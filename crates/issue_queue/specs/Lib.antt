@@ -7,3 +7,4 @@ pub mod Candidates
 pub mod Stamps
 pub mod Arrivals
 pub mod Board
+pub mod ByStamp

@@ -286,7 +286,7 @@ impl Places {
     }
 
     /// Frees the places of a word, whose entries wait for nothing.
-    fn free_supplied(&mut self, word: u64)
+    pub(crate) fn free_supplied(&mut self, word: u64)
         requires step { InStep self.old }
         requires supplied { (p : ℕ) → has word p ≡ true → is_supplied (slot self.old.slots p) ≡ true }
         ensures step { InStep self.new }

@@ -168,19 +168,34 @@ impl Queue {
         ensures capacity { self.new.capacity ≡ self.old.capacity }
         ensures selected { IsSelected (λ e. O.key_of order.now (view_of e)) width self.old.entries self.new.entries result.items }
     {
+        let mut names = ArrayVec::new();
+        self.select_into(order, width, &mut names);
+        names
+    }
+
+    /// The same, with the names put into a list that is passed.
+    #[inline(always)]
+    pub fn select_into<O: Order>(
+        &mut self,
+        order: &O,
+        width: usize,
+        names: &mut ArrayVec<EntryId, 8>,
+    )
+        requires width { width ≤ 8 }
+        requires empty { names.old.items ≡ [] }
+        ensures capacity { self.new.capacity ≡ self.old.capacity }
+        ensures selected { IsSelected (λ e. O.key_of order.now (view_of e)) width self.old.entries self.new.entries names.new.items }
+    {
         let ready = self.places.ready();
+        let above = self.arrivals.above;
+        if order.is_by_stamp() && ready.count_ones() as usize <= width {
+            selecting::list_all(names, &self.places.slots, ready, above);
+            self.places.free_supplied(ready);
+            return;
+        }
         let mut best = ArrayVec::new();
-        selecting::choose(
-            &mut best,
-            &self.places.slots,
-            ready,
-            order,
-            width,
-            self.arrivals.above,
-        );
-        let mut selected = ArrayVec::new();
-        self.places.take(best.as_slice(), &mut selected);
-        selected
+        selecting::choose(&mut best, &self.places.slots, ready, order, width, above);
+        self.places.take(best.as_slice(), names);
     }
 
     /// Drops the entries of a context that have at least this stamp.

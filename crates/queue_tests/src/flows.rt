@@ -4,6 +4,7 @@ ghost use Rattle.data_flow.specs.Flow.{lane, node_at, with_lane, without_oldest}
 ghost use Rattle.queue_tests.specs.Worked.{named, with_x1, of_three, finished};
 
 use crate::selected::has_stamps;
+use arrayvec::ArrayVec;
 use data_flow::{DataFlow, Operands};
 use issue_queue::{OldestFirst, Order, SpecLast};
 use join_law::Ctx;
@@ -53,7 +54,8 @@ fn of_three(alloc: Global) -> Result<DataFlow, AllocError>
 fn assert_selected<O: Order>(rt: &impl Abort, flow: &mut DataFlow, order: &O, stamps: &[u64])
     ensures { flow.new ≡ record flow.old { waiters = flow.new.waiters } }
 {
-    let selected = flow.select(order, 8);
+    let mut selected = ArrayVec::new();
+    flow.select(order, 8, &mut selected);
     assert!(rt; has_stamps(selected.as_slice(), stamps));
 }
 

@@ -13,10 +13,10 @@ use Rattle.core_back.proofs.machine.Machine.new.Goals as goal
 
 pub invariant_of-result : goal.invariant_of-result
 invariant_of-result g c =
-    let empty : c.new-2.result ≡ [] = c.new-2.ensures ∙ c.new.ensures in
+    let empty : c.new.result ≡ [] = c.new.ensures in
     let origin : arc_value c.in_ok-origins.origins.c0 ≡ c.args.marks.now.c0.origin = c.in_ok-origins.ensures 0 (omega arith) in
     record {
-      cores = λ d lt. first_core c.args.profile.now (arc_value c.in_ok-origins.origins.c0) d (slice_index c.args.targets.now d) (place_of c.args.marks.now d) c.in_ok-flow.flow c.new-2.result (get_or c.in_ok-tracks.tracks.items d no_track)
+      cores = λ d lt. first_core c.args.profile.now (arc_value c.in_ok-origins.origins.c0) d (slice_index c.args.targets.now d) (place_of c.args.marks.now d) c.in_ok-flow.flow c.new.result (get_or c.in_ok-tracks.tracks.items d no_track)
           (mark_of_first (arc_value c.in_ok-origins.origins.c0) c.args.marks.now d c.requires.aligned origin lt) (c.requires.targets d lt) c.in_ok-flow.ensures.waiters empty (c.in_ok-flow.ensures.set d lt) (c.in_ok-tracks.ensures.each d lt);
       origins = λ d lt. origin_of_first (arc_value c.in_ok-origins.origins.c0) (arc_value (place_of c.in_ok-origins.origins d)) c.args.marks.now d c.requires.aligned origin lt (c.in_ok-origins.ensures d lt);
       tracks = c.in_ok-tracks.ensures.count;

@@ -2,7 +2,6 @@ use Rattle.std.proofs.Common.{ℕ, ◌<◌, get_or, ◌||◌, sym, ap, subst, ar
 use Rattle.core_context.proofs.Laws.{core_answered}
 use Rattle.core_context.specs.Issuable.{HoldsNone}
 use Rattle.core_back.specs.Machine.{no_track}
-use Rattle.core_back.specs.Selected.{IsChosen}
 use Rattle.core_back.proofs.MachineIssues.{numbered, held_to_none, held_to_first, context_next, held_nodes, held_to_next, selected_machine, selected_shown, selected_choice}
 use Rattle.core_back.proofs.machine.Machine.select.Goals as goal
 use Rattle.core_back.proofs.machine.Machine.select.Goals.{then-self, else-self}
@@ -55,13 +54,12 @@ loop-index-preserved g c =
 
 pub invariant_of-self : goal.invariant_of-self
 invariant_of-self g c =
-    selected_machine c.loop-index.invariant.machine c.loop-index.self-inside _ c.args.self.now c.loop-index.index c.loop-index.invariant.shows c.loop-index.invariant.ok c.requires.idle c.loop-index.invariant.so_far (omega (arith, c.loop-index-test.false)) c.select.ensures.lanes c.select.ensures.selected refl refl c.new-self-inside.ensures refl refl refl refl refl
+    selected_machine c.loop-index.invariant.machine c.loop-index.self-inside _ c.args.self.now c.loop-index.index c.loop-index.invariant.shows c.loop-index.invariant.ok c.requires.idle c.loop-index.invariant.so_far (omega (arith, c.loop-index-test.false)) c.select.ensures.lanes c.select.ensures.selected refl refl refl refl refl refl refl refl
 
 pub returns-clause-selected : goal.returns-clause-selected
-returns-clause-selected g c = selected_shown c.loop-index.invariant.machine c.loop-index.self-inside c.args.self.now c.loop-index.index c.new-self-inside.result c.loop-index.invariant.shows c.loop-index.invariant.so_far
+returns-clause-selected g c = selected_shown c.loop-index.invariant.machine c.loop-index.self-inside c.args.self.now c.loop-index.index c.select.new.self c.loop-index.invariant.shows c.loop-index.invariant.so_far
 
 pub returns-clause-choice : goal.returns-clause-choice
 returns-clause-choice g c =
-    subst (IsChosen (g.O.Order.key_of c.args.order.now) c.args.width c.args.self.now.view) (sym c.new-self-inside.ensures)
-    (selected_choice c.loop-index.invariant.machine c.loop-index.self-inside c.select.new.self c.args.self.now c.loop-index.index (g.O.Order.key_of c.args.order.now) c.args.width c.select.result.items
-    c.loop-index.invariant.shows c.loop-index.invariant.ok c.requires.idle c.loop-index.invariant.so_far (omega (arith, c.loop-index-test.false)) c.select.ensures.selected)
+    selected_choice c.loop-index.invariant.machine c.loop-index.self-inside c.select.new.flow c.args.self.now c.loop-index.index (g.O.Order.key_of c.args.order.now) c.args.width c.select.new.self
+    c.loop-index.invariant.shows c.loop-index.invariant.ok c.requires.idle c.loop-index.invariant.so_far (omega (arith, c.loop-index-test.false)) c.select.ensures.selected

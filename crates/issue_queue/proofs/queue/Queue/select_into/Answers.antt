@@ -1,4 +1,4 @@
-use Rattle.std.proofs.Common.{◌≡◌, map, ℕ, not, List, get_or, rules}
+use Rattle.std.proofs.Common.{◌≡◌, map, ℕ, not, List, get_or, rules, arith}
 use Rattle.word_mask.proofs.Laws.{has_below}
 use Rattle.issue_queue.specs.declared.places.Places.{Places}
 use Rattle.issue_queue.specs.declared.selecting.Candidate.{Candidate}
@@ -7,8 +7,9 @@ use Rattle.std.proofs.lemmas.Bool.{and_parts}
 use Rattle.issue_queue.specs.Entry.{Entry, is_supplied}
 use Rattle.issue_queue.specs.Views.{name_of, view_of}
 use Rattle.issue_queue.proofs.Arrived.{lists_taken, kept_less, entries_less}
+use Rattle.issue_queue.proofs.ByStamp.{by_stamp, kept_rest, all_selected}
 use Rattle.issue_queue.proofs.Chosen.{IsThere, all_there, fewer_taken, kept_chosen, best_selected}
-use Rattle.issue_queue.proofs.queue.Queue.select.Goals as goal
+use Rattle.issue_queue.proofs.queue.Queue.select_into.Goals as goal
 
 pub take-requires-clause-supplied : goal.take-requires-clause-supplied
 take-requires-clause-supplied g c =
@@ -22,6 +23,19 @@ take-requires-clause-supplied g c =
 
 pub invariant_of-self : goal.invariant_of-self
 invariant_of-self g c =
+    let q = c.self.inside in
+    kept_rest (λ e. g.O.Order.key_of c.args.order.now (view_of e)) (by_stamp (g.O.Order.key_of c.args.order.now) (c.is_by_stamp.ensures c.if-is_by_stamp.true)) c.args.width q.capacity q.places c.free_supplied.new.self q.arrivals
+    c.ready-ready.result c.list_all.new.names.items c.self.invariant c.ready-ready.ensures (omega (arith, c.if-ready-width.true)) c.list_all.ensures c.free_supplied.ensures.slots c.free_supplied.ensures.valid c.free_supplied.ensures.step
+
+pub returns-then-ready-width-clause-selected : goal.returns-then-ready-width-clause-selected
+returns-then-ready-width-clause-selected g c =
+    let q = c.self.inside in
+    rw (← c.self.view_is)
+    (all_selected (λ e. g.O.Order.key_of c.args.order.now (view_of e)) (by_stamp (g.O.Order.key_of c.args.order.now) (c.is_by_stamp.ensures c.if-is_by_stamp.true)) c.args.width q.capacity q.places c.free_supplied.new.self q.arrivals
+    c.ready-ready.result c.list_all.new.names.items c.self.invariant c.ready-ready.ensures (omega (arith, c.if-ready-width.true)) c.list_all.ensures c.free_supplied.ensures.slots c.free_supplied.ensures.valid)
+
+pub invariant_of-self-2 : goal.invariant_of-self-2
+invariant_of-self-2 g c =
     let key : Entry → ℕ = λ e. g.O.Order.key_of c.args.order.now (view_of e) in
     let q = c.self.inside in
     let d : Places = c.take.new.self in
