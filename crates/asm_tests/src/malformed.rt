@@ -5,8 +5,8 @@ ghost use Rattle.std.specs.Prelude.{◌<◌};
 
 use rv64_asm::{AsmFault, Assembly, assemble};
 use std::alloc::Global;
+use std::process::Abort;
 use std::str;
-use std::test::Fail;
 
 /// The words and the operands of lines of every form.
 const LINES: [(&str, &str); 40] = [
@@ -79,21 +79,19 @@ impl Xorshift {
 }
 
 /// Adds a line: the word of one of the lines, with its operands or those of another.
-fn push_line(text: &mut Vec<u8>, numbers: &mut Xorshift) -> Result<(), Fail> {
+fn push_line(rt: &impl Abort, text: &mut Vec<u8>, numbers: &mut Xorshift) {
     let word = numbers.below(LINES.len());
     let other = numbers.below(LINES.len());
     let operands = if numbers.below(8) == 0 { other } else { word };
-    text.extend_from_slice(LINES[word].0.as_bytes())?;
-    text.push(b' ')?;
-    text.extend_from_slice(LINES[operands].1.as_bytes())?;
-    text.push(b'\n')?;
-    Ok(())
+    for part in [LINES[word].0, " ", LINES[operands].1, "\n"] {
+        text.extend_from_slice(part.as_bytes()).expect(rt, "memory");
+    }
 }
 
 /// Deletes, doubles, exchanges or changes a byte, or cuts the text off before it.
-fn change(text: &mut Vec<u8>, numbers: &mut Xorshift) -> Result<(), Fail> {
+fn change(rt: &impl Abort, text: &mut Vec<u8>, numbers: &mut Xorshift) {
     if text.is_empty() {
-        return Ok(());
+        return;
     }
     let place = numbers.below(text.len());
     let other = numbers.below(text.len());
@@ -101,24 +99,23 @@ fn change(text: &mut Vec<u8>, numbers: &mut Xorshift) -> Result<(), Fail> {
         0 | 1 => {
             text.remove(place);
         }
-        2 | 3 => text.insert(place, text[place])?,
+        2 | 3 => text.insert(place, text[place]).expect(rt, "memory"),
         4 => text.swap(place, other),
         5 | 6 => text[place] = BYTES[numbers.below(BYTES.len())],
         _ => text.truncate(place),
     }
-    Ok(())
 }
 
 /// A text of one to eight lines, with none to three changes.
-fn next_text(alloc: Global, numbers: &mut Xorshift) -> Result<Vec<u8>, Fail> {
+fn next_text(rt: &impl Abort, alloc: Global, numbers: &mut Xorshift) -> Vec<u8> {
     let mut text = Vec::new(alloc);
     for _ in 0..numbers.below(8) + 1 {
-        push_line(&mut text, numbers)?;
+        push_line(rt, &mut text, numbers);
     }
     for _ in 0..numbers.below(4) {
-        change(&mut text, numbers)?;
+        change(rt, &mut text, numbers);
     }
-    Ok(text)
+    text
 }
 
 /// Whether two assemblies are equal.
@@ -128,53 +125,48 @@ fn are_same(left: &Assembly, right: &Assembly) -> bool {
         && left.labels.iter().eq(right.labels.iter())
 }
 
-/// Assembles an accepted text again, to the same.
-fn accept_again(alloc: Global, text: &str, first: &Assembly) -> Result<(), Fail> {
-    let again = assemble(alloc, text)?;
-    if !are_same(first, &again) {
-        return Err(Fail::from("another assembly"));
+/// Whether a text that is assembled to this is assembled again to the same.
+fn is_accepted_again(alloc: Global, text: &str, first: &Assembly) -> bool {
+    match assemble(alloc, text) {
+        Ok(again) => are_same(first, &again),
+        Err(_) => false,
     }
-    Ok(())
 }
 
-/// Refuses a refused text again, by the same fault of one of its lines.
-fn refuse_again(alloc: Global, text: &str, first: AsmFault) -> Result<(), Fail> {
-    match first {
-        AsmFault::At { line, .. } if 1 <= line && line <= text.lines().count() => {}
-        _ => return Err(Fail::from("a fault of no line")),
-    }
-    if assemble(alloc, text).err() != Some(first) {
-        return Err(Fail::from("another fault"));
-    }
-    Ok(())
+/// Whether a text that is refused by this fault is refused again by it, and it is of one of its lines.
+fn is_refused_again(alloc: Global, text: &str, first: AsmFault) -> bool {
+    let AsmFault::At { line, .. } = first else {
+        return false;
+    };
+    1 <= line && line <= text.lines().count() && assemble(alloc, text).err() == Some(first)
 }
 
 /// Whether a text is accepted, both times.
-fn is_accepted(alloc: Global, text: &str) -> Result<bool, Fail> {
+fn is_accepted(rt: &impl Abort, alloc: Global, text: &str) -> bool {
     match assemble(alloc, text) {
         Ok(assembly) => {
-            accept_again(alloc, text, &assembly)?;
-            Ok(true)
+            assert!(rt; is_accepted_again(alloc, text, &assembly), "{text:?}");
+            true
         }
         Err(fault) => {
-            refuse_again(alloc, text, fault)?;
-            Ok(false)
+            assert!(rt; is_refused_again(alloc, text, fault), "{text:?}");
+            false
         }
     }
 }
 
 #[test]
-fn changed_texts(rt: HostRuntime) -> Result<(), Fail> {
+fn changed_texts(rt: HostRuntime) {
     let mut numbers = Xorshift {
         state: 0x9E37_79B9_7F4A_7C15,
     };
     let mut accepted = 0u32;
     for _ in 0..1000 {
-        let text = next_text(rt.alloc(), &mut numbers)?;
-        if is_accepted(rt.alloc(), str::from_utf8(&text)?)? {
+        let bytes = next_text(&rt, rt.alloc(), &mut numbers);
+        let text = str::from_utf8(&bytes).expect(&rt, "a text");
+        if is_accepted(&rt, rt.alloc(), text) {
             accepted = accepted.wrapping_add(1);
         }
     }
     assert!(rt; 100 < accepted && accepted < 900, "{accepted}");
-    Ok(())
 }

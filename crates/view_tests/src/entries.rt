@@ -1,5 +1,5 @@
 //! Operations, outcomes and entries of programs whose figures are known.
-ghost use Rattle.std.specs.Prelude.{◌≡◌, ◌≤◌, length};
+ghost use Rattle.std.specs.Prelude.{◌≡◌};
 
 use core_view::{
     Access, Bytes, CycleNote, Decoded, Entry, Execution, Operation, OperationKind, Outcome, Span,
@@ -7,10 +7,9 @@ use core_view::{
 };
 use hart_step::{Effect, Environment, Stop, execute};
 use paged_memory::{Fault, Memory, Width};
-use rv64_decode::{LoadKind, Register, StoreWidth, decode};
+use rv64_decode::{LoadKind, StoreWidth, decode};
 use std::alloc::Global;
 use std::process::Abort;
-use std::test::Fail;
 
 const ADDI_X5_10: u32 = 0x00A0_0293;
 
@@ -20,11 +19,29 @@ const BNE_X5_BACK: u32 = 0xFE02_9EE3;
 
 const ECALL: u32 = 0x0000_0073;
 
-fn memory_of(alloc: Global, words: &[u32]) -> Result<Memory, Fail>
-    requires { length words.now ≤ 65536 }
-{
+/// lw x10, 0(x11)
+const LW: u32 = 0x0005_A503;
+
+/// sw x10, 4(x11)
+const SW: u32 = 0x00A5_A223;
+
+/// ld x7, 0(x5)
+const LD: u32 = 0x0002_B383;
+
+/// sd x6, 0(x5)
+const SD: u32 = 0x0062_B023;
+
+/// jal x0, 8
+const JAL: u32 = 0x0080_006F;
+
+/// jalr x0, 0(x1)
+const JALR: u32 = 0x0000_8067;
+
+/// A memory of these words and of one doubleword.
+fn memory_of(rt: &impl Abort, alloc: Global, words: &[u32]) -> Memory {
+    assert!(rt; words.len() <= 65536);
     let data = 0x1122_3344_5566_7788u64.to_le_bytes();
-    Ok(Memory::new(alloc, words, &data)?)
+    Memory::new(alloc, words, &data).expect(rt, "memory")
 }
 
 fn performs(word: u32) -> Operation {
@@ -34,22 +51,158 @@ fn performs(word: u32) -> Operation {
     }
 }
 
-fn stops(why: Stop) -> Operation {
-    Operation::Stops { why }
-}
-
-/// The operation at each pc is the one that the table says.
-fn assert_operations(rt: &impl Abort, memory: &Memory, table: &[(u64, Operation)]) {
-    for &(pc, want) in table {
-        assert!(rt; pc % 4 == 0);
-        assert_eq!(rt; Operation::at(memory, pc), want, "at {pc}");
+/// The operation that performs a word, or stops.
+fn operation(it: Result<u32, Stop>) -> Operation {
+    match it {
+        Ok(word) => performs(word),
+        Err(why) => Operation::Stops { why },
     }
 }
 
-/// The outcome of an instruction that asks nothing of memory.
-fn outcome(word: u32, pc: u64, a: u64, b: u64) -> Result<Outcome, Fail> {
-    let insn = decode(word).ok_or("an instruction")?;
-    Ok(Outcome::of_effect(pc, execute(&insn, pc, a, b), Ok(0)))
+const COUNTDOWN: &[u32] = &[ADDI_X5_10, ADDI_X5_LESS_1, BNE_X5_BACK, ECALL];
+
+/// ebreak; jal x0, 2
+const STOPS: &[u32] = &[0x0010_0073, 0x0020_006F];
+
+/// Texts, and what stands at a pc of each.
+const STANDS: &[(&[u32], u64, Result<u32, Stop>)] = &[
+    (COUNTDOWN, 0x10000, Ok(ADDI_X5_10)),
+    (COUNTDOWN, 0x10008, Ok(BNE_X5_BACK)),
+    (COUNTDOWN, 0x1000C, Err(Stop::Ecall)),
+    (COUNTDOWN, 0x10010, Err(Stop::Illegal)),
+    (COUNTDOWN, 0x11000, Err(Stop::FetchAccess)),
+    (COUNTDOWN, 0x100000, Err(Stop::FetchAccess)),
+    (STOPS, 0x10000, Err(Stop::Ebreak)),
+    (STOPS, 0x10004, Err(Stop::TargetMisaligned)),
+];
+
+/// What stands at a pc of a text.
+fn operation_at(rt: &impl Abort, alloc: Global, words: &[u32], pc: u64) -> Operation {
+    assert!(rt; pc % 4 == 0);
+    Operation::at(&memory_of(rt, alloc, words), pc)
+}
+
+#[test]
+fn operations_of_texts(rt: HostRuntime) {
+    for (words, pc, wanted) in STANDS {
+        let found = operation_at(&rt, rt.alloc(), *words, *pc);
+        assert_eq!(rt; found, operation(*wanted), "at {pc}");
+    }
+}
+
+/// Words and their kinds: the last is no instruction.
+const KINDS: &[(u32, OperationKind)] = &[
+    (ADDI_X5_10, OperationKind::Plain),
+    (BNE_X5_BACK, OperationKind::Guessed),
+    (LW, OperationKind::Load),
+    (SW, OperationKind::Store),
+    (JAL, OperationKind::Jump),
+    (JALR, OperationKind::Guessed),
+    (0, OperationKind::Stop),
+];
+
+#[test]
+fn what_a_decoded_operation_tells(rt: HostRuntime) {
+    for (word, kind) in KINDS {
+        assert_eq!(rt; Decoded::new(performs(*word)).kind(), *kind);
+    }
+    let it = Decoded::new(performs(SW));
+    let others = [
+        it.is_load(),
+        it.is_guessed(),
+        it.may_turn(),
+        it.stops_at_fetch(),
+    ];
+    assert!(rt; it.is_store() && others == [false; 4]);
+    let [first, second] = [it.first_source(), it.second_source()];
+    assert_eq!(rt;
+        [first.index(), second.index(), it.destination().index()],
+        [11, 10, 0]
+    );
+    assert_eq!(rt; *it.operation(), performs(SW));
+}
+
+/// What an operation tells by itself.
+struct Told {
+    it: Result<u32, Stop>,
+    pc: u64,
+    unguessed_next: u64,
+    stops_at_fetch: bool,
+    is_guessed: bool,
+    is_load: bool,
+    is_store: bool,
+    /// Its sources and its destination.
+    registers: [u8; 3],
+}
+
+/// A plain operation at 0x10000.
+const PLAIN: Told = Told {
+    it: Ok(0x0000_0013),
+    pc: 0x10000,
+    unguessed_next: 0x10004,
+    stops_at_fetch: false,
+    is_guessed: false,
+    is_load: false,
+    is_store: false,
+    registers: [0, 0, 0],
+};
+
+const OPERATIONS: &[Told] = &[
+    PLAIN,
+    Told {
+        it: Err(Stop::TargetMisaligned),
+        pc: 0x10004,
+        unguessed_next: 0x10008,
+        stops_at_fetch: true,
+        ..PLAIN
+    },
+    Told {
+        it: Ok(JAL),
+        pc: 0x10008,
+        unguessed_next: 0x10010,
+        ..PLAIN
+    },
+    Told {
+        it: Ok(LD),
+        is_load: true,
+        registers: [5, 0, 7],
+        ..PLAIN
+    },
+    Told {
+        it: Ok(SD),
+        is_store: true,
+        registers: [5, 6, 0],
+        ..PLAIN
+    },
+    Told {
+        it: Ok(BNE_X5_BACK),
+        is_guessed: true,
+        registers: [5, 0, 0],
+        ..PLAIN
+    },
+];
+
+impl Told {
+    /// Whether the operation tells this.
+    fn holds(&self) -> bool {
+        let it = operation(self.it);
+        let registers = [it.first_source(), it.second_source(), it.destination()];
+        it.unguessed_next(self.pc) == self.unguessed_next
+            && it.stops_at_fetch() == self.stops_at_fetch
+            && it.is_guessed() == self.is_guessed
+            && it.is_load() == self.is_load
+            && it.is_store() == self.is_store
+            && registers[0].index() == self.registers[0]
+            && registers[1].index() == self.registers[1]
+            && registers[2].index() == self.registers[2]
+    }
+}
+
+#[test]
+fn what_an_operation_tells(rt: HostRuntime) {
+    for told in OPERATIONS {
+        assert!(rt; told.holds(), "at {}", told.pc);
+    }
 }
 
 fn value_and_next(value: u64, next: u64) -> Step {
@@ -66,6 +219,34 @@ fn goes(value: u64, next: u64) -> Outcome {
     }
 }
 
+/// Words, the pc of each and its first source, and its value and where it goes on, or why it stops.
+const OUTCOMES: &[(u32, u64, u64, Result<(u64, u64), Stop>)] = &[
+    (ADDI_X5_10, 0x10000, 0, Ok((10, 0x10004))),
+    // with x5 9 the branch is taken; with 0 it isn't
+    (BNE_X5_BACK, 0x10008, 9, Ok((0, 0x10004))),
+    (BNE_X5_BACK, 0x10008, 0, Ok((0, 0x1000C))),
+    // jalr x1, 2(x5); jalr x1, 1(x5)
+    (0x0022_80E7, 0x10004, 0x10000, Err(Stop::TargetMisaligned)),
+    (0x0012_80E7, 0x10004, 0x10000, Ok((0x10008, 0x10000))),
+];
+
+/// The outcome of an instruction that asks nothing of memory.
+fn outcome(word: u32, pc: u64, source: u64) -> Option<Outcome> {
+    let effect = execute(&decode(word)?, pc, source, 0);
+    Some(Outcome::of_effect(pc, effect, Ok(0)))
+}
+
+#[test]
+fn outcomes(rt: HostRuntime) {
+    for (word, pc, source, wanted) in OUTCOMES {
+        let wanted = match *wanted {
+            Ok((value, next)) => goes(value, next),
+            Err(why) => Outcome::Stops { why },
+        };
+        assert_eq!(rt; outcome(*word, *pc, *source), Some(wanted), "{word:#x}");
+    }
+}
+
 fn due_in(due: u64, outcome: Outcome) -> Execution {
     Execution {
         due,
@@ -74,183 +255,45 @@ fn due_in(due: u64, outcome: Outcome) -> Execution {
     }
 }
 
+/// The first instruction of the countdown is fetched in cycle 0, renamed and issued in cycle 2, and done in 3.
 #[test]
-fn countdown_text(rt: HostRuntime) -> Result<(), Fail> {
-    let words = [ADDI_X5_10, ADDI_X5_LESS_1, BNE_X5_BACK, ECALL];
-    let memory = memory_of(rt.alloc(), &words)?;
-    let table = [
-        (0x10000, performs(ADDI_X5_10)),
-        (0x10008, performs(BNE_X5_BACK)),
-        (0x1000C, stops(Stop::Ecall)),
-        (0x10010, stops(Stop::Illegal)),
-        (0x11000, stops(Stop::FetchAccess)),
-        (0x100000, stops(Stop::FetchAccess)),
-    ];
-    assert_operations(&rt, &memory, &table);
-    Ok(())
-}
-
-/// The kind of an instruction, or of what stands where there is none.
-fn kind(word: u32) -> OperationKind {
-    Decoded::new(performs(word)).kind()
-}
-
-#[test]
-fn what_a_decoded_operation_tells(rt: HostRuntime) -> Result<(), Fail> {
-    // addi x5, x0, 10; bne x5, x0, -4; lw x10, 0(x11); sw x10, 4(x11); jal x0, 8; jalr x0, 0(x1); no instruction
-    assert_eq!(rt; kind(ADDI_X5_10), OperationKind::Plain);
-    assert_eq!(rt; kind(BNE_X5_BACK), OperationKind::Guessed);
-    assert_eq!(rt; kind(0x0005_A503), OperationKind::Load);
-    assert_eq!(rt; kind(0x00A5_A223), OperationKind::Store);
-    assert_eq!(rt; kind(0x0080_006F), OperationKind::Jump);
-    assert_eq!(rt; kind(0x0000_8067), OperationKind::Guessed);
-    assert_eq!(rt; kind(0), OperationKind::Stop);
-    let store = Decoded::new(performs(0x00A5_A223));
-    assert!(rt; store.is_store() && !store.is_load() && !store.is_guessed());
-    assert!(rt; !store.may_turn() && !store.stops_at_fetch());
-    assert_eq!(rt; store.first_source().index(), 11);
-    assert_eq!(rt; store.second_source().index(), 10);
-    assert_eq!(rt; store.destination().index(), 0);
-    assert_eq!(rt; *store.operation(), performs(0x00A5_A223));
-    Ok(())
-}
-
-#[test]
-fn stops_at_fetch(rt: HostRuntime) -> Result<(), Fail> {
-    // ebreak; jal x0, 2
-    let memory = memory_of(rt.alloc(), &[0x0010_0073, 0x0020_006F])?;
-    let table = [
-        (0x10000, stops(Stop::Ebreak)),
-        (0x10004, stops(Stop::TargetMisaligned)),
-    ];
-    assert_operations(&rt, &memory, &table);
-    Ok(())
-}
-
-#[test]
-fn after_a_stop_at_fetch(rt: HostRuntime) {
-    let misaligned = stops(Stop::TargetMisaligned);
-    assert!(rt; misaligned.stops_at_fetch());
-    assert_eq!(rt; misaligned.unguessed_next(0x10004), 0x10008);
-}
-
-#[test]
-fn jump(rt: HostRuntime) {
-    // jal x0, 8
-    let jump = performs(0x0080_006F);
-    assert!(rt; !jump.stops_at_fetch());
-    assert!(rt; !jump.is_guessed());
-    assert_eq!(rt; jump.unguessed_next(0x10008), 0x10010);
-}
-
-#[test]
-fn kinds(rt: HostRuntime) {
-    // ld x7, 0(x5); sd x6, 0(x5)
-    let load = performs(0x0002_B383);
-    let store = performs(0x0062_B023);
-    assert!(rt; load.is_load());
-    assert!(rt; !load.is_store());
-    assert!(rt; store.is_store());
-    assert!(rt; performs(BNE_X5_BACK).is_guessed());
-}
-
-#[test]
-fn registers(rt: HostRuntime) {
-    // ld x7, 0(x5); sd x6, 0(x5)
-    let load = performs(0x0002_B383);
-    let store = performs(0x0062_B023);
-    assert_eq!(rt; load.destination(), Register::new(7));
-    assert_eq!(rt; store.destination(), Register::new(0));
-    assert_eq!(rt; store.first_source(), Register::new(5));
-    assert_eq!(rt; store.second_source(), Register::new(6));
-}
-
-#[test]
-fn outcomes_of_countdown(rt: HostRuntime) -> Result<(), Fail> {
-    // with x5 9 the branch is taken; with 0 it isn't
-    assert_eq!(rt; outcome(ADDI_X5_10, 0x10000, 0, 0)?, goes(10, 0x10004));
-    assert_eq!(rt; outcome(BNE_X5_BACK, 0x10008, 9, 0)?, goes(0, 0x10004));
-    assert_eq!(rt; outcome(BNE_X5_BACK, 0x10008, 0, 0)?, goes(0, 0x1000C));
-    Ok(())
-}
-
-/// The first instruction of the countdown, fetched in cycle 0.
-fn first_fetched() -> Entry {
-    Entry::new(0, 0, 0x10000, Decoded::new(performs(ADDI_X5_10)), 0x10004)
-}
-
-/// It is renamed and issued in cycle 2, and done in 3.
-fn first_execution() -> Execution {
-    due_in(3, goes(10, 0x10004))
-}
-
-#[test]
-fn first_is_renamed_and_issued(rt: HostRuntime) {
-    let fetched = first_fetched();
-    assert_eq!(rt; fetched.stage, Stage::Fetched);
+fn stages_of_the_first(rt: HostRuntime) {
+    let execution = due_in(3, goes(10, 0x10004));
+    let fetched = Entry::new(0, 0, 0x10000, Decoded::new(performs(ADDI_X5_10)), 0x10004);
     let renamed = fetched.renamed(2);
-    assert_eq!(rt; renamed.stage, Stage::Queued);
-    let issued = renamed.issued(first_execution());
+    let issued = renamed.issued(execution);
+    let done = issued.completed(execution);
     assert_eq!(rt;
-        issued.stage,
-        Stage::Issued {
-            execution: first_execution()
-        }
+        [fetched.stage, renamed.stage, issued.stage],
+        [Stage::Fetched, Stage::Queued, Stage::Issued { execution }]
     );
-    assert!(rt; !issued.stage.is_done());
-    assert_eq!(rt; issued.stage.result(), None);
+    assert_eq!(rt;
+        [issued.stage.due(2), issued.stage.due(3)],
+        [None, Some(execution)]
+    );
+    assert_eq!(rt;
+        [issued.stage.result(), done.stage.result()],
+        [None, Some(10)]
+    );
+    assert!(rt; !issued.stage.is_done() && done.stage.is_done() && done.followed == 0x10004);
 }
 
 #[test]
-fn first_is_due_and_done(rt: HostRuntime) {
-    let issued = first_fetched().renamed(2).issued(first_execution());
-    assert_eq!(rt; issued.stage.due(2), None);
-    assert_eq!(rt; issued.stage.due(3), Some(first_execution()));
-    let done = issued.completed(first_execution());
-    assert!(rt; done.stage.is_done());
-    assert_eq!(rt; done.stage.result(), Some(10));
-    assert_eq!(rt; done.followed, 0x10004);
-}
-
-#[test]
-fn branch_of_countdown(rt: HostRuntime) {
+fn branch_and_end_of_countdown(rt: HostRuntime) {
     let branch = Decoded::new(performs(BNE_X5_BACK));
     let entry = Entry::new(2, 0, 0x10008, branch, 0x1000C);
-    assert!(rt; entry.is_mispredicted(&value_and_next(0, 0x10004)));
-    assert!(rt; !entry.is_mispredicted(&value_and_next(0, 0x1000C)));
-    let done = entry.completed(due_in(5, goes(0, 0x10004)));
-    assert_eq!(rt; done.followed, 0x10004);
-}
-
-#[test]
-fn end_of_countdown(rt: HostRuntime) {
+    let back = entry.is_mispredicted(&value_and_next(0, 0x10004));
+    let on = entry.is_mispredicted(&value_and_next(0, 0x1000C));
+    assert_eq!(rt; [back, on], [true, false]);
+    let turned = entry.completed(due_in(5, goes(0, 0x10004)));
     let stop = Decoded::new(Operation::Stops { why: Stop::Ecall });
-    let entry = Entry::new(3, 0, 0x1000C, stop, 0x10010);
-    let done = entry.renamed(2);
+    let done = Entry::new(3, 0, 0x1000C, stop, 0x10010).renamed(2);
+    let execution = due_in(2, Outcome::Stops { why: Stop::Ecall });
     assert_eq!(rt;
-        done.stage,
-        Stage::Done {
-            execution: due_in(2, Outcome::Stops { why: Stop::Ecall })
-        }
+        (done.stage, done.stage.result()),
+        (Stage::Done { execution }, None)
     );
-    assert_eq!(rt; done.stage.result(), None);
-    assert_eq!(rt; done.followed, 0x10010);
-}
-
-#[test]
-fn misaligned_jalr(rt: HostRuntime) -> Result<(), Fail> {
-    // jalr x1, 2(x5); jalr x1, 1(x5), at 0x10004 with x5 0x10000
-    assert_eq!(rt;
-        outcome(0x0022_80E7, 0x10004, 0x10000, 0)?,
-        Outcome::Stops {
-            why: Stop::TargetMisaligned
-        }
-    );
-    assert_eq!(rt;
-        outcome(0x0012_80E7, 0x10004, 0x10000, 0)?,
-        goes(0x10008, 0x10000)
-    );
-    Ok(())
+    assert_eq!(rt; [turned.followed, done.followed], [0x10004, 0x10010]);
 }
 
 fn store_of(width: StoreWidth, address: u64, value: u64) -> Effect {
@@ -262,27 +305,28 @@ fn store_of(width: StoreWidth, address: u64, value: u64) -> Effect {
 }
 
 fn fault_at(memory: &Memory, address: u64) -> Option<Fault> {
-    access_fault(
-        Environment::One,
-        memory,
-        store_of(StoreWidth::Double, address, 0),
-    )
+    let store = store_of(StoreWidth::Double, address, 0);
+    access_fault(Environment::One, memory, store)
 }
 
 #[test]
-fn store_faults(rt: HostRuntime) -> Result<(), Fail> {
-    let memory = memory_of(rt.alloc(), &[ECALL])?;
-    assert_eq!(rt; fault_at(&memory, 0x10000), Some(Fault::StoreAccess));
-    assert_eq!(rt; fault_at(&memory, 0x100001), Some(Fault::StoreMisaligned));
-    assert_eq!(rt; fault_at(&memory, 0x100000), None);
+fn store_faults(rt: HostRuntime) {
+    let memory = memory_of(&rt, rt.alloc(), &[ECALL]);
+    let found = [
+        fault_at(&memory, 0x10000),
+        fault_at(&memory, 0x100001),
+        fault_at(&memory, 0x100000),
+    ];
+    assert_eq!(rt;
+        found,
+        [Some(Fault::StoreAccess), Some(Fault::StoreMisaligned), None]
+    );
     let text = store_of(StoreWidth::Double, 0x10000, 0);
+    let why = Stop::StoreAccess;
     assert_eq!(rt;
         Outcome::of_effect(0x10004, text, Err(Fault::StoreAccess)),
-        Outcome::Stops {
-            why: Stop::StoreAccess
-        }
+        Outcome::Stops { why }
     );
-    Ok(())
 }
 
 /// What a store of the byte 255 at the first data address writes.
@@ -299,79 +343,52 @@ fn one_byte() -> Bytes
 }
 
 #[test]
-fn byte_store(rt: HostRuntime) {
-    let effect = store_of(StoreWidth::Byte, 0x100000, 255);
-    let stores = Outcome::of_effect(0x10008, effect, Ok(0));
-    assert_eq!(rt; stores.bytes(), Some(one_byte()));
-    assert_eq!(rt; stores.span(), None);
-}
-
-#[test]
-fn byte_over_a_doubleword(rt: HostRuntime) -> Result<(), Fail> {
-    let mut memory = memory_of(rt.alloc(), &[ECALL])?;
+fn byte_over_a_doubleword(rt: HostRuntime) {
+    let mut memory = memory_of(&rt, rt.alloc(), &[ECALL]);
     write_access(
         Environment::One,
         &mut memory,
         Access::Writes { bytes: one_byte() },
     );
+    let loaded = memory.load(0x100000, Width::Double);
+    assert_eq!(rt; loaded, Ok(0x1122_3344_5566_77FF));
+}
+
+#[test]
+fn spans_and_bytes_of_accesses(rt: HostRuntime) {
+    let stored = Outcome::of_effect(0x10008, store_of(StoreWidth::Byte, 0x100000, 255), Ok(0));
+    // the sign-extended byte 0x80, the last of the first doubleword
+    let kind = LoadKind::Byte;
+    let address = 0x100007;
+    let loaded = Outcome::of_effect(0x10000, Effect::Loads { kind, address }, Ok(0x80));
+    let span = Span { address, size: 1 };
+    let execution = due_in(9, loaded);
+    let issued = Stage::Issued { execution };
+    let bytes = one_byte();
+    let writes = Access::Writes { bytes };
+    let reads = Access::Reads { span };
+    assert_eq!(rt; loaded.result(), Some(0xFFFF_FFFF_FFFF_FF80));
     assert_eq!(rt;
-        memory.load(0x100000, Width::Double),
-        Ok(0x1122_3344_5566_77FF)
+        [stored.bytes(), writes.bytes(), issued.bytes()],
+        [Some(bytes), Some(bytes), None]
     );
-    Ok(())
-}
-
-/// A load of the sign-extended byte 0x80.
-fn signed_byte() -> Outcome {
-    let effect = Effect::Loads {
-        kind: LoadKind::Byte,
-        address: 0x100007,
-    };
-    Outcome::of_effect(0x10000, effect, Ok(0x80))
-}
-
-fn last_of_first_doubleword() -> Span {
-    Span {
-        address: 0x100007,
-        size: 1,
-    }
+    assert_eq!(rt;
+        [loaded.span(), issued.span(), reads.span()],
+        [Some(span); 3]
+    );
+    assert_eq!(rt; [stored.span(), Access::Free.span()], [None; 2]);
 }
 
 #[test]
-fn signed_load(rt: HostRuntime) {
-    let loads = signed_byte();
-    assert_eq!(rt; loads.result(), Some(0xFFFF_FFFF_FFFF_FF80));
-    assert_eq!(rt; loads.span(), Some(last_of_first_doubleword()));
-    let issued = Stage::Issued {
-        execution: due_in(9, signed_byte()),
-    };
-    assert_eq!(rt; issued.span(), Some(last_of_first_doubleword()));
-    assert_eq!(rt; issued.bytes(), None);
-}
-
-#[test]
-fn accesses(rt: HostRuntime) {
-    let writes = Access::Writes { bytes: one_byte() };
-    assert_eq!(rt; writes.bytes(), Some(one_byte()));
-    let reads = Access::Reads {
-        span: last_of_first_doubleword(),
-    };
-    assert_eq!(rt; reads.span(), Some(last_of_first_doubleword()));
-    assert_eq!(rt; Access::Free.span(), None);
-}
-
-#[test]
-fn statuses(rt: HostRuntime) {
-    assert_eq!(rt; Status::at(3, 4), Status::Running);
-    assert_eq!(rt; Status::at(4, 4), Status::Parked);
-    assert!(rt; Status::at(0, 1).is_running());
-    assert!(rt; !Status::Stopped { why: Stop::Ecall }.is_running());
-}
-
-#[test]
-fn notes_begin_empty(rt: HostRuntime) {
+fn statuses_and_an_empty_note(rt: HostRuntime) {
+    let stopped = Status::Stopped { why: Stop::Ecall };
+    assert_eq!(rt;
+        [Status::at(3, 4), Status::at(4, 4)],
+        [Status::Running, Status::Parked]
+    );
+    assert!(rt; Status::at(0, 1).is_running() && !stopped.is_running());
     let note = CycleNote::new();
-    assert!(rt; note.fetched.is_empty() && note.renamed.is_empty());
-    assert!(rt; note.issued.is_empty() && note.retired.is_empty());
+    let entries = [note.fetched.len(), note.renamed.len(), note.retired.len()];
+    assert!(rt; entries == [0; 3] && note.issued.is_empty());
     assert_eq!(rt; (note.completed, note.cut), (0, 0));
 }

@@ -2,104 +2,109 @@
 //! addresses and from the bytes of a value, least first.
 
 use core_view::{Bytes, Span};
-use std::process::Abort;
-use std::test::Fail;
 
 /// The last address.
 const LAST: u64 = 0xFFFF_FFFF_FFFF_FFFF;
 
-fn span(address: u64, size: u8) -> Span {
+/// Where a span begins, and its size.
+type Ends = (u64, u8);
+
+fn span(ends: Ends) -> Span {
+    let (address, size) = ends;
     Span { address, size }
 }
 
-/// Each pair of spans shares a byte, or doesn't, as the table says, whichever is named first.
-fn shared(rt: &impl Abort, table: &[(Span, Span, bool)]) {
-    for &(one, other, want) in table {
-        assert_eq!(rt; one.shares(other), want, "{one:?} and {other:?}");
-        assert_eq!(rt; other.shares(one), want, "{other:?} and {one:?}");
+/// Spans, addresses, and whether they hold them.
+const HOLDS: &[(Ends, u64, bool)] = &[
+    ((0x10_0006, 2), 0x10_0005, false),
+    ((0x10_0006, 2), 0x10_0006, true),
+    ((0x10_0006, 2), 0x10_0007, true),
+    ((0x10_0006, 2), 0x10_0008, false),
+    ((LAST, 1), LAST, true),
+    ((LAST, 8), 0, false),
+];
+
+#[test]
+fn spans_hold_their_addresses(rt: HostRuntime) {
+    for (it, address, want) in HOLDS {
+        assert!(rt; span(*it).contains(*address) == *want, "{address:#x}");
     }
 }
 
-/// The first span of each pair has all bytes of the second, or not, as the table says.
-fn covered(rt: &impl Abort, table: &[(Span, Span, bool)]) {
-    for &(one, other, want) in table {
-        assert_eq!(rt; one.covers(other), want, "{one:?} over {other:?}");
+/// Spans, and whether they share a byte, whichever is named first.
+const SHARES: &[(Ends, Ends, bool)] = &[
+    ((0x10_0000, 8), (0x10_0000, 1), true),
+    ((0x10_0000, 8), (0x10_0007, 1), true),
+    ((0x10_0000, 8), (0x10_0008, 1), false),
+    ((0x10_0000, 4), (0x10_0004, 4), false),
+    ((0x10_0002, 2), (0x10_0000, 8), true),
+    ((LAST - 7, 8), (LAST, 1), true),
+    ((LAST - 7, 4), (LAST - 3, 4), false),
+    ((LAST, 8), (0, 8), false),
+];
+
+#[test]
+fn spans_share_a_first_or_last_byte(rt: HostRuntime) {
+    for (one, other, want) in SHARES {
+        let [one, other] = [span(*one), span(*other)];
+        assert_eq!(rt;
+            [one.shares(other), other.shares(one)],
+            [*want; 2],
+            "{one:?}"
+        );
     }
 }
 
-/// A load of each span takes the number that the table says from a store.
-fn taken(rt: &impl Abort, store: Bytes, table: &[(Span, u64)]) {
-    for &(load, want) in table {
-        assert_eq!(rt; store.part(load), want, "{load:?} of {store:?}");
+/// Spans, and whether the first has all bytes of the second.
+const COVERS: &[(Ends, Ends, bool)] = &[
+    ((0x10_0000, 8), (0x10_0000, 8), true),
+    ((0x10_0000, 8), (0x10_0006, 2), true),
+    ((0x10_0000, 8), (0x10_0007, 2), false),
+    ((0x10_0001, 1), (0x10_0000, 1), false),
+    ((0x10_0000, 1), (0x10_0000, 2), false),
+    ((LAST - 7, 8), (LAST, 1), true),
+    ((LAST, 1), (LAST - 7, 8), false),
+];
+
+#[test]
+fn spans_cover_what_lies_within(rt: HostRuntime) {
+    for (one, other, want) in COVERS {
+        assert!(rt; span(*one).covers(span(*other)) == *want, "{other:?}");
     }
 }
 
-#[test]
-fn spans_hold_their_addresses(rt: HostRuntime) -> Result<(), Fail> {
-    let half = span(0x10_0006, 2);
-    assert!(rt; !half.contains(0x10_0005));
-    assert!(rt; half.contains(0x10_0006));
-    assert!(rt; half.contains(0x10_0007));
-    assert!(rt; !half.contains(0x10_0008));
-    assert!(rt; span(LAST, 1).contains(LAST));
-    assert!(rt; !span(LAST, 8).contains(0));
-    Ok(())
-}
+/// Spans that are stored, the values, spans that are loaded, and what they take.
+const TAKES: &[(Ends, u64, Ends, u64)] = &[
+    (
+        (0x10_0000, 8),
+        0x8877_6655_4433_2211,
+        (0x10_0000, 8),
+        0x8877_6655_4433_2211,
+    ),
+    (
+        (0x10_0000, 8),
+        0x8877_6655_4433_2211,
+        (0x10_0004, 4),
+        0x8877_6655,
+    ),
+    (
+        (0x10_0000, 8),
+        0x8877_6655_4433_2211,
+        (0x10_0002, 2),
+        0x4433,
+    ),
+    ((0x10_0000, 8), 0x8877_6655_4433_2211, (0x10_0000, 1), 0x11),
+    ((0x10_0000, 8), 0x8877_6655_4433_2211, (0x10_0007, 1), 0x88),
+    ((LAST, 1), 0x1234, (LAST, 1), 0x34),
+];
 
 #[test]
-fn spans_share_a_first_or_last_byte(rt: HostRuntime) -> Result<(), Fail> {
-    let table = [
-        (span(0x10_0000, 8), span(0x10_0000, 1), true),
-        (span(0x10_0000, 8), span(0x10_0007, 1), true),
-        (span(0x10_0000, 8), span(0x10_0008, 1), false),
-        (span(0x10_0000, 4), span(0x10_0004, 4), false),
-        (span(0x10_0002, 2), span(0x10_0000, 8), true),
-        (span(LAST - 7, 8), span(LAST, 1), true),
-        (span(LAST - 7, 4), span(LAST - 3, 4), false),
-        (span(LAST, 8), span(0, 8), false),
-    ];
-    shared(&rt, &table);
-    Ok(())
-}
-
-#[test]
-fn spans_cover_what_lies_within(rt: HostRuntime) -> Result<(), Fail> {
-    let table = [
-        (span(0x10_0000, 8), span(0x10_0000, 8), true),
-        (span(0x10_0000, 8), span(0x10_0006, 2), true),
-        (span(0x10_0000, 8), span(0x10_0007, 2), false),
-        (span(0x10_0001, 1), span(0x10_0000, 1), false),
-        (span(0x10_0000, 1), span(0x10_0000, 2), false),
-        (span(LAST - 7, 8), span(LAST, 1), true),
-        (span(LAST, 1), span(LAST - 7, 8), false),
-    ];
-    covered(&rt, &table);
-    Ok(())
-}
-
-#[test]
-fn loads_take_their_part(rt: HostRuntime) -> Result<(), Fail> {
-    let double = Bytes {
-        span: span(0x10_0000, 8),
-        value: 0x8877_6655_4433_2211,
-    };
-    let table = [
-        (span(0x10_0000, 8), 0x8877_6655_4433_2211),
-        (span(0x10_0004, 4), 0x8877_6655),
-        (span(0x10_0002, 2), 0x4433),
-        (span(0x10_0000, 1), 0x11),
-        (span(0x10_0007, 1), 0x88),
-    ];
-    taken(&rt, double, &table);
-    Ok(())
-}
-
-#[test]
-fn a_byte_store_gives_its_lowest_byte(rt: HostRuntime) -> Result<(), Fail> {
-    let byte = Bytes {
-        span: span(LAST, 1),
-        value: 0x1234,
-    };
-    taken(&rt, byte, &[(span(LAST, 1), 0x34)]);
-    Ok(())
+fn loads_take_their_part(rt: HostRuntime) {
+    for (stored, value, loaded, want) in TAKES {
+        let store = Bytes {
+            span: span(*stored),
+            value: *value,
+        };
+        assert_eq!(rt; store.part(span(*loaded)), *want, "{loaded:?}");
+    }
 }
