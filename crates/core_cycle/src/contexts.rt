@@ -9,6 +9,7 @@ ghost use Rattle.lawful_cycle.specs.Timing.{AreTimely};
 ghost use Rattle.core_back.specs.Machine.{context_at, in_flight};
 
 use crate::{fetching, renaming};
+use arrayvec::ArrayVec;
 use branch_predict::Guess;
 use core_back::{Machine, complete, issue, retire};
 use core_view::CycleNote;
@@ -107,14 +108,15 @@ impl<A: Allocator> Contexts<A> {
 }
 
 /// A note of a cycle before says nothing any more.
+// New lists are written at once, where `clear` fills each as far as it reached, by a call.
 fn clear(note: &mut CycleNote)
     ensures fetched { note.new.fetched.items ≡ [] }
     ensures renamed { note.new.renamed.items ≡ [] }
     ensures issued { note.new.issued.items ≡ [] }
     ensures retired { note.new.retired.items ≡ [] }
 {
-    note.fetched.clear();
-    note.renamed.clear();
-    note.issued.clear();
-    note.retired.clear();
+    note.fetched = ArrayVec::new();
+    note.renamed = ArrayVec::new();
+    note.issued = ArrayVec::new();
+    note.retired = ArrayVec::new();
 }

@@ -30,7 +30,7 @@ impl Model for Fronts {
 
 impl Fronts {
     /// Of no context.
-    fn none() -> Fronts
+    pub(crate) fn none() -> Fronts
         ensures { result ≡ replicate 8 None }
     {
         Fronts {
@@ -38,21 +38,22 @@ impl Fronts {
         }
     }
 
-    /// The fronts of a machine.
-    pub(crate) fn of<A: Allocator>(machine: &Machine<A>) -> Fronts
-        requires { machine.now.names ≡ [] }
-        ensures fronts { AreFronts machine.now.view result }
-        ensures eight { length result ≡ 8 }
+    /// The fronts of a machine, where there were none.
+    // They are put in place: a value that is returned would be copied.
+    #[inline(always)]
+    pub(crate) fn find<A: Allocator>(&mut self, machine: &Machine<A>)
+        requires none { self.old ≡ replicate 8 None }
+        requires idle { machine.now.names ≡ [] }
+        ensures fronts { AreFronts machine.now.view self.new }
+        ensures eight { length self.new ≡ 8 }
     {
-        let mut fronts = Fronts::none();
         let mut left = with_fetched(machine);
         while left != 0 {
             let place = lowest(left);
             left = cleared(left, place);
             let context = context_of(place);
-            fronts.set(context, machine.front(context));
+            self.set(context, machine.front(context));
         }
-        fronts
     }
 
     /// The front of a context, if it has one, takes the place of the one that it had.

@@ -32,7 +32,8 @@ pub(crate) fn rename<A: Allocator>(machine: &mut Machine<A>, renamed: &mut Array
     let width = usize::from(machine.profile().rename_width);
     // `cycle` ensures that each context is live, so its stamps grow.
     let _live = machine.cycle();
-    let mut fronts = Fronts::of(machine);
+    let mut fronts = Fronts::none();
+    fronts.find(machine);
     while let Some(context) = fronts.oldest() {
         let limit = fronts.take(context);
         let before = renamed.len();

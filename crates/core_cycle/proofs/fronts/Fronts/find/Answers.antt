@@ -6,13 +6,13 @@ use Rattle.word_mask.proofs.Laws.{has_zero}
 use Rattle.core_cycle.specs.Fronts.{IsFront}
 use Rattle.core_cycle.proofs.KeptFronts.{front_asked}
 use Rattle.core_cycle.proofs.FrontWords.{few_cleared, fronts_cleared}
-use Rattle.core_cycle.proofs.fronts.Fronts.of.Goals as goal
+use Rattle.core_cycle.proofs.fronts.Fronts.find.Goals as goal
 
 pub loop-left-init : goal.loop-left-init
 loop-left-init g c = record {
   few = c.with_fetched-left.ensures.few;
   fronts = λ k no_bit e can. absurd (c.with_fetched-left.ensures.none k no_bit e can);
-  eight = ap (λ (fs : List (Option ℕ)). length fs) c.none-fronts.ensures;
+  eight = ap (λ (fs : List (Option ℕ)). length fs) c.requires.none;
 }
 
 pub context_of-context-requires : goal.context_of-context-requires
@@ -22,7 +22,7 @@ pub loop-left-preserved : goal.loop-left-preserved
 loop-left-preserved g c =
     let i = c.loop-left.invariant in
     let v = c.args.machine.now.view in
-    let fronts = c.loop-left.fronts in
+    let fronts = c.loop-left.self in
     let left = c.loop-left.left in
     let less = c.cleared-left.result in
     let place = c.lowest-place.result in
