@@ -3,10 +3,12 @@
 ghost use Rattle.std.specs.Prelude.{◌≡◌, ◌<◌, ◌^◌, length, take, true, false};
 ghost use Rattle.hart_step.specs.declared.effect.Effect.TheVariants.{Loads, Stores};
 ghost use Rattle.hart_step.specs.Next.{stop_of};
+ghost use Rattle.hart_step.specs.Values.{load_bytes};
 ghost use Rattle.core_view.specs.declared.entry.Stage.TheVariants.{Queued};
 ghost use Rattle.core_view.specs.declared.outcome.Outcome.TheVariants.{Stops};
 ghost use Rattle.core_view.specs.Loads.{may_issue};
 ghost use Rattle.core_view.specs.Operations.{is_load};
+ghost use Rattle.core_view.specs.Outcomes.{load_span};
 ghost use Rattle.core_view.specs.View.{entry_at};
 ghost use Rattle.data_tags.specs.declared.delay.Kind.TheVariants.{Load, Store};
 ghost use Rattle.lawful_cycle.specs.Delays.{one_cycle};
@@ -15,7 +17,7 @@ ghost use Rattle.core_context.specs.Performed.{due_after, HasIssuedWith};
 
 use crate::lags::{ONE_CYCLE, due_after, lag_of};
 use crate::track::Track;
-use core_view::{Execution, Outcome, loads_at, stores_at};
+use core_view::{Execution, Outcome, Span, loads_at, stores_at};
 use data_tags::{Delay, Kind, Lag};
 use hart_step::{Effect, load_width, stop_of_fault};
 use join_law::Ctx;
@@ -46,11 +48,14 @@ pub(crate) fn perform_load<A: Allocator, D: Delay>(
     ensures keeps { D.may_answer delay.new ≡ D.may_answer delay.old }
     ensures keeps_greatest { D.greatest_lag delay.new ≡ D.greatest_lag delay.old }
 {
-    if let Some(fault) = track.access_fault(Effect::Loads { kind, address }) {
-        track.issue_load(place, refused(fault, cycle));
-        return ONE_CYCLE;
-    }
-    let LoadAnswer::Ready { value } = track.ask(place, address, load_width(kind)) else {
+    let number = match track.read(kind, address) {
+        Ok(number) => number,
+        Err(fault) => {
+            track.issue_load(place, refused(fault, cycle));
+            return ONE_CYCLE;
+        }
+    };
+    let LoadAnswer::Ready { value } = track.ask(place, span_of(kind, address), number) else {
         unreachable!();
     };
     let entry = track.entry(place).unwrap();
@@ -103,4 +108,15 @@ fn refused(fault: Fault, cycle: u64) -> Execution
 {
     let why = stop_of_fault(fault);
     due_after(cycle, ONE_CYCLE, Outcome::Stops { why })
+}
+
+/// The span that a load asks for.
+#[inline(always)]
+pub(crate) fn span_of(kind: LoadKind, address: u64) -> Span
+    ensures { result ≡ load_span address (load_bytes kind) }
+{
+    Span {
+        address,
+        size: load_width(kind).bytes(),
+    }
 }
