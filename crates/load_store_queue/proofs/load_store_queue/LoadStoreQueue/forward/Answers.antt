@@ -1,5 +1,5 @@
-use Rattle.std.proofs.Common.{◌≡◌, sym, ap, ◌∙◌, true, false}
-use Rattle.core_view.specs.Spans.{covers, shares}
+use Rattle.std.proofs.Common.{◌≡◌, sym, ap, ◌∙◌}
+use Rattle.core_view.specs.Spans.{shares}
 use Rattle.core_view.specs.Queues.{newest_in}
 use Rattle.load_store_queue.specs.Queues.{Queues}
 use Rattle.load_store_queue.proofs.SeenByNewest.{seen_in_memory, seen_in_store, not_clear}
