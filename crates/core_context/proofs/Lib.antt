@@ -17,6 +17,7 @@ pub mod Tracks
 pub mod RenamedAreOldest
 pub mod WaitingCounts
 pub mod Issues
+pub mod Performed
 pub mod SourcesSeen
 pub mod StoreQueueReads
 pub mod EventsKept

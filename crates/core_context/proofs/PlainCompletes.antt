@@ -1,10 +1,10 @@
 -- An entry completes that squashes nothing: a guess that was right leaves what waits behind no other.
-use Rattle.std.proofs.Common.{◌≡◌, ℕ, ◌+◌, ◌<◌, ◌≤◌, Bool, true, false, min, length, get_or, None, Some, refl, sym, ap, ◌∙◌, arith}
+use Rattle.std.proofs.Common.{◌≡◌, ℕ, ◌+◌, ◌<◌, ◌≤◌, Bool, true, false, min, length, None, Some, refl, sym, ap, ◌∙◌, arith}
 use Rattle.std.specs.Prelude.{if◌then◌else◌}
 use Rattle.core_view.specs.declared.entry.Execution.{Execution}
-use Rattle.core_view.specs.Flight.{is_open_guess, is_queued, result_in}
+use Rattle.core_view.specs.Flight.{is_open_guess, result_in}
 use Rattle.core_view.specs.Operations.{is_guessed}
-use Rattle.core_view.specs.View.{entry_at, no_entry}
+use Rattle.core_view.specs.View.{entry_at}
 use Rattle.data_flow.specs.Flow.{Flow, lane, with_lane, with_result}
 use Rattle.flight.specs.declared.finished.Finished.{Finished}
 use Rattle.flight.specs.Flights.{Frees}

@@ -3,6 +3,7 @@ pub mod TrackCode
 pub mod Cores
 pub mod Queued
 pub mod Issuable
+pub mod Performed
 pub mod Steps
 pub mod Effects
 pub mod Heads

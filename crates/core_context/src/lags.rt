@@ -1,12 +1,19 @@
 //! How long what issues takes.
 
-ghost use Rattle.std.specs.Prelude.{◌≡◌, ◌≤◌};
+ghost use Rattle.std.specs.Prelude.{◌≡◌, ◌<◌, ◌^◌};
 ghost use Rattle.lawful_cycle.specs.Delays.{address_of as address_of_effect, kind_of as kind_of_operation, IsLagOf};
+ghost use Rattle.core_context.specs.Performed.{due_after as due_after_lag};
 
-use core_view::{Decoded, OperationKind, Outcome};
+use core_view::{Decoded, Execution, OperationKind, Outcome};
 use data_tags::{Delay, Kind, Lag};
 use hart_step::Effect;
 use join_law::Ctx;
+
+/// The lag of a load or store that stops.
+pub(crate) const ONE_CYCLE: Lag = Lag {
+    cycles: 1,
+    miss: false,
+};
 
 /// What a delay is told of an operation.
 #[inline(always)]
@@ -42,19 +49,25 @@ pub(crate) fn lag_of<D: Delay>(
     outcome: &Outcome,
 ) -> Lag
     ensures lag { IsLagOf (D.may_answer delay.old context) kind address outcome.now result }
-    ensures least { 1 ≤ result.cycles }
-    ensures most { result.cycles ≤ 200 }
     ensures keeps { D.may_answer delay.new ≡ D.may_answer delay.old }
     ensures keeps_greatest { D.greatest_lag delay.new ≡ D.greatest_lag delay.old }
 {
     let stops = matches!(outcome, Outcome::Stops { .. });
     if stops && matches!(kind, Kind::Load | Kind::Store) {
-        return Lag {
-            cycles: 1,
-            miss: false,
-        };
+        return ONE_CYCLE;
     }
-    // `greatest` ensures that no lag is above 200 cycles.
-    let _greatest = delay.greatest();
     delay.delay(context, kind, address)
+}
+
+/// An outcome of what issues in a cycle, due after a lag.
+#[inline(always)]
+pub(crate) fn due_after(cycle: u64, lag: Lag, outcome: Outcome) -> Execution
+    requires { cycle < 2 ^ 56 }
+    ensures { result ≡ due_after_lag cycle lag outcome }
+{
+    Execution {
+        due: cycle + u64::from(lag.cycles),
+        miss: lag.miss,
+        outcome,
+    }
 }

@@ -59,6 +59,9 @@ effect_alike insn pc a b = record { loads = refl; stores = refl }
 pub effect_loads : (insn : Insn) (pc a b : ℕ) → is_load_effect (effect_of insn pc a b) ≡ is_load_insn insn
 effect_loads insn pc a b = (effect_alike insn pc a b).loads
 
+pub effect_stores : (insn : Insn) (pc a b : ℕ) → is_store_effect (effect_of insn pc a b) ≡ is_store_insn insn
+effect_stores insn pc a b = (effect_alike insn pc a b).stores
+
 -- ---- outcomes
 
 effect_span : (pc : ℕ) (e : Effect) (answered : Result ℕ Fault) → is_load_effect e ≡ false → span_in (outcome_with pc e answered) ≡ None

@@ -11,6 +11,7 @@ use std::alloc::Allocator;
 
 /// Why memory refuses the access of an effect, if it does. It depends on address and rights, and
 /// never on bytes.
+#[inline(always)]
 pub fn access_fault<A: Allocator>(
     environment: Environment,
     memory: &Memory<A>,

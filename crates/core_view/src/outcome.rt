@@ -1,10 +1,11 @@
 //! What an instruction does in flight.
 ghost use Rattle.std.specs.Prelude.{◌≡◌};
+ghost use Rattle.hart_step.specs.Values.{loaded};
 ghost use Rattle.core_view.specs.Outcomes.{goes_to as goes_to_of, loads_at as loads_at_of, stores_at as stores_at_of, outcome_with, bytes_written, span_of};
 ghost use Rattle.core_view.specs.Flight.{result_in, bytes_in, span_in};
 
 use crate::span::{Bytes, Span};
-use hart_step::{Effect, Stop, following, load_width, loaded, stop_of_fault, store_width};
+use hart_step::{Effect, Stop, following, load_width, stop_of_fault, store_width};
 use paged_memory::Fault;
 use rv64_decode::{LoadKind, StoreWidth};
 
@@ -77,6 +78,26 @@ pub fn goes_to(value: u64, target: u64) -> Outcome
     }
 }
 
+/// The result of a load of a number, looked up: the kinds of loads follow in no order that a jump could be guessed by.
+#[inline(always)]
+fn result_of(kind: LoadKind, number: u64) -> u64
+    ensures { result ≡ loaded kind number }
+{
+    let byte = (number % 0x100) as u8;
+    let half = (number % 0x1_0000) as u16;
+    let word = (number % 0x1_0000_0000) as u32;
+    let results = [
+        i64::from(byte.cast_signed()).cast_unsigned(),
+        i64::from(half.cast_signed()).cast_unsigned(),
+        i64::from(word.cast_signed()).cast_unsigned(),
+        number,
+        u64::from(byte),
+        u64::from(half),
+        u64::from(word),
+    ];
+    results[kind as usize]
+}
+
 /// A load of a number at an address.
 #[inline(always)]
 pub fn loads_at(pc: u64, kind: LoadKind, address: u64, number: u64) -> Outcome
@@ -88,7 +109,7 @@ pub fn loads_at(pc: u64, kind: LoadKind, address: u64, number: u64) -> Outcome
     };
     Outcome::Goes {
         step: Step {
-            result: loaded(kind, number),
+            result: result_of(kind, number),
             next: following(pc),
             access: Access::Reads { span },
         },

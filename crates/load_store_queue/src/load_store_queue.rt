@@ -1,10 +1,10 @@
 //! The load queue and the store queue of one context.
 
-ghost use Rattle.std.specs.Prelude.{◌≡◌, ◌↔◌, ◌<◌, ◌≤◌, [], ◌∷◌, ◌++◌, All, length, map, drop, false, None, Some, Err, is_some, IfOk, IfSome, OnOk, OnErr, IsOk, IsTrue, if◌then◌else◌};
+ghost use Rattle.std.specs.Prelude.{◌≡◌, ℕ, ◌↔◌, ◌<◌, ◌≤◌, [], ◌∷◌, ◌++◌, All, length, map, drop, false, None, Some, Err, is_some, IfOk, IfSome, OnOk, OnErr, IsOk, IsTrue, if◌then◌else◌};
 ghost use Rattle.reorder_buffer.specs.Growing.{IsGrowing, below};
 ghost use Rattle.paged_memory.specs.Cells.{byte_at, bytes_of};
 ghost use Rattle.core_view.specs.Outcomes.{load_span};
-ghost use Rattle.core_view.specs.Spans.{shares};
+ghost use Rattle.core_view.specs.Spans.{number_in, shares};
 ghost use Rattle.core_view.specs.Queues.{newest_in, is_clear_in, value_seen_in, conflict_in};
 ghost use Rattle.load_store_queue.specs.Queues.{empty_queues, load_stamp, store_stamp, with_span, slot_with_bytes};
 ghost use Rattle.load_store_queue.specs.Replaced.{without_oldest};
@@ -146,10 +146,17 @@ impl<A: Allocator> LoadStoreQueue<A> {
         ensures seen { IfSome (number_answered result) (λ value. value ≡ value_seen_in (byte_at memory.now) self.now.stores stamp (load_span address (bytes_of width))) }
     {
         let span = span_of(address, width);
+        self.forward(stamp, span, number(memory, address, width))
+    }
+
+    /// The same of a load of a span at which memory has a number.
+    #[inline(always)]
+    pub fn forward(&self, stamp: u64, span: Span, number: u64) -> LoadAnswer
+        ensures clear { is_some (number_answered result) ≡ is_clear_in self.now.stores stamp span }
+        ensures seen { (memory : ℕ → ℕ) → number ≡ number_in memory span → IfSome (number_answered result) (λ value. value ≡ value_seen_in memory self.now.stores stamp span) }
+    {
         let Some(store) = newest_sharing(&self.stores, stamp, span) else {
-            return LoadAnswer::Ready {
-                value: number(memory, address, width),
-            };
+            return LoadAnswer::Ready { value: number };
         };
         if store.span.covers(span) {
             LoadAnswer::Ready {

@@ -1,4 +1,4 @@
-use Rattle.std.proofs.Common.{rules, List, ◌≡◌, ap, sym, refl, subst, ◌∙◌, slice_get, Some, true, false, map}
+use Rattle.std.proofs.Common.{rules, List, ◌≡◌, ap, sym, refl, subst, ◌∙◌, slice_get, Some, true, map}
 use Rattle.std.specs.Prelude.{set}
 use Rattle.std.proofs.lemmas.Option.{get_or_from_slice_get}
 use Rattle.flight.specs.Flights.{Flight}
@@ -12,15 +12,17 @@ use Rattle.core_view.specs.Events.{with_stage}
 use Rattle.core_view.specs.View.{no_entry}
 use Rattle.load_store_queue.specs.Queues.{Queues, with_span}
 use Rattle.core_context.proofs.Tracks.{set_read}
-use Rattle.core_context.proofs.QueueSlots.{loads_issue, loads_issue_other, stores_issue}
-use Rattle.core_context.proofs.track.Track.issue.Goals as goal
+use Rattle.core_context.proofs.QueueSlots.{loads_issue, stores_issue}
+use Rattle.core_context.proofs.track.Track.issue_load.Goals as goal
 
 pub invariant_of-self : goal.invariant_of-self
 invariant_of-self g c =
     let read : slice_get c.self.inside.flight.entries c.args.place ≡ Some c.unwrap.result.now = search rules in
+    let here = get_or_from_slice_get c.self.inside.flight.entries c.args.place c.unwrap.result.now no_entry read in
     let queued = rw (← c.self.view_is) at c.requires.queued in
-    let stage : c.unwrap.result.now.stage ≡ Queued = sym (ap (λ (e : Entry). e.stage) (get_or_from_slice_get c.self.inside.flight.entries c.args.place c.unwrap.result.now no_entry read)) ∙ queued in
-    let load : is_load c.unwrap.result.now.operation ≡ true = sym c.is_load.ensures ∙ c.if-is_load.true in
+    let stage : c.unwrap.result.now.stage ≡ Queued = sym (ap (λ (e : Entry). e.stage) here) ∙ queued in
+    let loads_here = rw (← c.self.view_is) at c.requires.load in
+    let load : is_load c.unwrap.result.now.operation ≡ true = subst (λ (e : Entry). is_load e.operation ≡ true) here loads_here in
     let items : c.issue.new.self.entries ≡ set c.self.inside.flight.entries c.args.place (with_stage c.unwrap.result.now (Issued c.args.execution)) =
     set_read c.self.inside.flight.entries _ c.args.place c.unwrap.result.now (λ e. with_stage e (Issued c.args.execution)) read (ap (λ (f : Flight). f.entries) c.issue.ensures) in
     let growing : IsGrowing (λ (e : Entry). e.stamp) (set c.self.inside.flight.entries c.args.place (with_stage c.unwrap.result.now (Issued c.args.execution))) = subst (λ (es : List Entry). IsGrowing (λ (e : Entry). e.stamp) es) items c.len-len.ensures.growing in
@@ -33,25 +35,7 @@ invariant_of-self g c =
       stores ∙ c.self.invariant.2 ∙ sym (stores_issue c.self.inside.flight.entries c.args.place c.unwrap.result.now read c.args.execution stage) ∙ sym (ap (λ (es : List Entry). stores_of es) items),
     )
 
-pub invariant_of-self-else-is_load : goal.invariant_of-self-else-is_load
-invariant_of-self-else-is_load g c =
-    let read : slice_get c.self.inside.flight.entries c.args.place ≡ Some c.unwrap.result.now = search rules in
-    let queued = rw (← c.self.view_is) at c.requires.queued in
-    let stage : c.unwrap.result.now.stage ≡ Queued = sym (ap (λ (e : Entry). e.stage) (get_or_from_slice_get c.self.inside.flight.entries c.args.place c.unwrap.result.now no_entry read)) ∙ queued in
-    let other : is_load c.unwrap.result.now.operation ≡ false = sym c.is_load.ensures ∙ c.if-is_load.false in
-    let items : c.issue.new.self.entries ≡ set c.self.inside.flight.entries c.args.place (with_stage c.unwrap.result.now (Issued c.args.execution)) =
-    set_read c.self.inside.flight.entries _ c.args.place c.unwrap.result.now (λ e. with_stage e (Issued c.args.execution)) read (ap (λ (f : Flight). f.entries) c.issue.ensures) in (
-      c.self.invariant.0,
-      c.self.invariant.1 ∙ sym (loads_issue_other c.self.inside.flight.entries c.args.place c.unwrap.result.now read c.args.execution other) ∙ sym (ap (λ (es : List Entry). loads_of es) items),
-      c.self.invariant.2 ∙ sym (stores_issue c.self.inside.flight.entries c.args.place c.unwrap.result.now read c.args.execution stage) ∙ sym (ap (λ (es : List Entry). stores_of es) items),
-    )
-
-pub returns-then-is_load : goal.returns-then-is_load
-returns-then-is_load g c =
+pub returns : goal.returns
+returns g c =
     let read : slice_get c.self.inside.flight.entries c.args.place ≡ Some c.unwrap.result.now = search rules in
     rw (← c.self.view_is, c.issue.ensures, c.issue_load.ensures, get_or_from_slice_get c.self.inside.flight.entries c.args.place c.unwrap.result.now no_entry read) refl
-
-pub returns-else-is_load : goal.returns-else-is_load
-returns-else-is_load g c =
-    let read : slice_get c.self.inside.flight.entries c.args.place ≡ Some c.unwrap.result.now = search rules in
-    rw (← c.self.view_is, c.issue.ensures, get_or_from_slice_get c.self.inside.flight.entries c.args.place c.unwrap.result.now no_entry read) refl
