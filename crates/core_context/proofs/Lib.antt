@@ -7,6 +7,7 @@ pub mod OtherContexts
 pub mod FlowSizes
 pub mod CoreOfFlight
 pub mod Completes
+pub mod Computes
 pub mod Retires
 pub mod Renames
 pub mod Fetches

@@ -14,3 +14,4 @@ pub mod Live
 pub mod Queues
 pub mod StoreSlots
 pub mod RingForm
+pub mod Computed

@@ -8,3 +8,4 @@ pub mod Loads
 pub mod Queues
 pub mod ViewCode
 pub mod Kinds
+pub mod Computations

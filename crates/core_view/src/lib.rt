@@ -2,6 +2,7 @@
 #![tactic(auto)]
 
 mod access;
+mod computation;
 mod decoded;
 mod entry;
 mod note;

@@ -12,4 +12,4 @@ pub use effect::{Effect, destination, execute, first_source, following, offset_b
 pub use environment::Environment;
 pub use hart::{Hart, load_width, stop_of_fault, store_width};
 pub use stop::Stop;
-pub use values::loaded;
+pub use values::{alu_value, extended, holds, loaded, low, word_value};

@@ -122,6 +122,72 @@ fn what_a_decoded_operation_tells(rt: HostRuntime) {
     assert_eq!(rt; *it.operation(), performs(SW));
 }
 
+/// A word at a pc on the values of its sources, and the value and the next pc that it computes.
+type Computed = (u32, u64, u64, u64, Option<(u64, u64)>);
+
+const COMPUTED: &[Computed] = &[
+    (ADDI_X5_LESS_1, 0x10004, 10, 0, Some((9, 0x10008))),
+    (BNE_X5_BACK, 0x10008, 9, 0, Some((0, 0x10004))),
+    (BNE_X5_BACK, 0x10008, 0, 0, Some((0, 0x1000C))),
+    // sub x5, x6, x7; addw x5, x6, x7
+    (
+        0x4073_02B3,
+        0x10000,
+        5,
+        7,
+        Some((0xFFFF_FFFF_FFFF_FFFE, 0x10004)),
+    ),
+    (
+        0x0073_02BB,
+        0x10000,
+        0x7FFF_FFFF,
+        1,
+        Some((0xFFFF_FFFF_8000_0000, 0x10004)),
+    ),
+    // srai x5, x6, 4; sraiw x5, x6, 31; sltiu x5, x6, -1
+    (
+        0x4043_5293,
+        0x10000,
+        1 << 63,
+        0,
+        Some((0xF800_0000_0000_0000, 0x10004)),
+    ),
+    (
+        0x41F3_529B,
+        0x10000,
+        0x8000_0000,
+        0,
+        Some((0xFFFF_FFFF_FFFF_FFFF, 0x10004)),
+    ),
+    (0xFFF3_3293, 0x10000, 5, 0, Some((1, 0x10004))),
+    // lui x5, 0x80000; auipc x5, 1
+    (
+        0x8000_02B7,
+        0x10000,
+        0,
+        0,
+        Some((0xFFFF_FFFF_8000_0000, 0x10004)),
+    ),
+    (0x0000_1297, 0x10000, 0, 0, Some((0x11000, 0x10004))),
+    (JAL, 0x10000, 0, 0, Some((0x10004, 0x10008))),
+    (JALR, 0x10000, 0x10011, 0, Some((0x10004, 0x10010))),
+    (JALR, 0x10000, 0x10012, 0, None),
+    // fence
+    (0x0FF0_000F, 0x10000, 0, 0, Some((0, 0x10004))),
+    (LW, 0x10000, 0, 0, None),
+    (SW, 0x10000, 0, 0, None),
+    (ECALL, 0x10000, 0, 0, None),
+    (0, 0x10000, 0, 0, None),
+];
+
+#[test]
+fn what_a_decoded_operation_computes(rt: HostRuntime) {
+    for (word, pc, first, second, wanted) in COMPUTED {
+        let it = Decoded::new(performs(*word));
+        assert_eq!(rt; it.compute(*pc, *first, *second), *wanted, "{word} at {pc}");
+    }
+}
+
 /// What an operation tells by itself.
 struct Told {
     it: Result<u32, Stop>,
