@@ -1,4 +1,5 @@
-//! Tests of the commands of `smt-lab`, through the public calls of `lab_commands`.
+//! Tests of the commands of `smt-lab`, through the public calls of `lab_commands`, and of plans that are run, through those of
+//! `lab_pool`.
 #![tactic(auto)]
 
 #[cfg(test)]
@@ -15,5 +16,7 @@ mod memory;
 mod refusals;
 #[cfg(test)]
 mod reports;
+#[cfg(test)]
+mod small_plans;
 #[cfg(test)]
 mod words;
