@@ -46,16 +46,16 @@ use std::sync::Arc;
 /// Eight contexts in flight. A contract sees the origin, the view, and what was selected and has not issued yet.
 #[derive(Drop)]
 pub struct Machine<A: Allocator = Global> {
-    origins: Eight<Arc<Origin<A>, A>>,
-    flow: DataFlow<A>,
-    tracks: Vec<Track<A>, A>,
-    selected: Selection,
-    // Whether a load may be held in the issue queue.
-    holds: bool,
     cycle: u64,
     stamp: u64,
-    fetch_room: u8,
+    tracks: Vec<Track<A>, A>,
     profile: Profile,
+    fetch_room: u8,
+    // Whether a load may be held in the issue queue.
+    holds: bool,
+    flow: DataFlow<A>,
+    selected: Selection,
+    origins: Eight<Arc<Origin<A>, A>>,
 }
 
 impl<A: Allocator> Model for Machine<A> {

@@ -29,9 +29,9 @@ use std::marker::Model;
 /// What the instructions in flight compute with. No call but `new` takes memory.
 #[derive(Drop)]
 pub struct DataFlow<A: Allocator = Global> {
-    registers: Registers<A>,
     renamed: Vec<Ring<Renamed, A>, A>,
     queue: Queue,
+    registers: Registers<A>,
 }
 
 impl<A: Allocator> Model for DataFlow<A> {

@@ -116,9 +116,9 @@ pub struct QueueView {
 #[derive(Clone, Copy)]
 pub(crate) struct Queued {
     stamp: u64,
+    context: Ctx,
     first: PhysicalRegister,
     second: PhysicalRegister,
-    context: Ctx,
     guessed: bool,
     speculative: bool,
 }

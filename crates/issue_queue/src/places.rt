@@ -20,8 +20,6 @@ use rename_file::PhysicalRegister;
 /// Sixty-four places for entries, and of each word the bit of a place.
 #[derive(Drop)]
 pub(crate) struct Places {
-    /// What stands at each place.
-    pub(crate) slots: Slots,
     /// The places that are taken.
     pub(crate) valid: u64,
     /// Those that wait for nothing.
@@ -32,6 +30,8 @@ pub(crate) struct Places {
     pub(crate) guesses: u64,
     /// Those of each context.
     pub(crate) contexts: [u64; 8],
+    /// What stands at each place.
+    pub(crate) slots: Slots,
 }
 
 /// The bit of a place, where told so.

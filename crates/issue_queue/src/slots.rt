@@ -15,10 +15,10 @@ use rename_file::PhysicalRegister;
 /// registers that it reads whose words have its place.
 #[derive(Drop)]
 pub(crate) struct Slots {
-    /// What entered at each place; at one that is free, what stood there last.
-    entries: [Queued; 64],
     /// The places of loads that are held.
     held: u64,
+    /// What entered at each place; at one that is free, what stood there last.
+    entries: [Queued; 64],
     /// The places that wait for each physical register.
     waiters: [u64; 480],
 }

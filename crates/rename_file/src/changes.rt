@@ -9,9 +9,9 @@ use std::marker::Model;
 // At most 256 changes. They go round an array whose size is a power of two, so that a place is found without a test.
 #[derive(Drop)]
 pub(crate) struct Changes {
-    places: [Change; 256],
     start: usize,
     len: usize,
+    places: [Change; 256],
 }
 
 impl Model for Changes {

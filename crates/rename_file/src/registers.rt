@@ -16,9 +16,9 @@ use std::marker::Model;
 /// No call but `new` takes memory, and each is of one step.
 #[derive(Drop)]
 pub struct Registers<A: Allocator = Global> {
-    maps: [RenameMap; 8],
-    free: ArrayVec<PhysicalRegister, 224>,
     cells: Vec<Option<u64>, A>,
+    free: ArrayVec<PhysicalRegister, 224>,
+    maps: [RenameMap; 8],
 }
 
 impl<A: Allocator> Model for Registers<A> {

@@ -28,9 +28,9 @@ pub(crate) struct Change {
 // look-up is one index, and each rename keeps what it replaced, so that it can be undone.
 #[derive(Drop)]
 pub(crate) struct RenameMap {
-    committed: [PhysicalRegister; 32],
     current: [PhysicalRegister; 32],
     changes: Changes,
+    committed: [PhysicalRegister; 32],
 }
 
 impl Model for RenameMap {
