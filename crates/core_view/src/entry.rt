@@ -92,12 +92,12 @@ impl Stage {
 /// An instruction or a stop at fetch, in flight.
 #[derive(Clone, Copy, Debug, PartialEq, Eq)]
 pub struct Entry {
+    /// What stands there.
+    pub operation: Decoded,
     /// Its number among all that were fetched, over all contexts.
     pub stamp: u64,
     /// Its address.
     pub pc: u64,
-    /// What stands there.
-    pub operation: Decoded,
     /// The cycle in which it was fetched.
     pub fetched: u64,
     /// The pc at which fetch went on after it: a guess until it is done.
