@@ -120,6 +120,16 @@ module _ {A : Type 0} where
   all_waiting : (m : Inside A) (now : Machine) → machine_of m ≡ now → IsMachine m → now.names ≡ [] → length m.flow.waiters ≡ of_all (λ e. is_queued e.stage) now.view
   all_waiting m now shows ok idle = count_waiters m.flow (λ c. (context_at now c).flight) ok.contexts (idle_waiting m now shows ok idle)
 
+  -- there is a place for one more to wait exactly where fewer are queued than the profile says
+  pub queue_places_left : (m : Inside A) (now : Machine) (answer : Bool) → machine_of m ≡ now → IsMachine m → now.names ≡ [] → IsTrue answer ↔ (length m.flow.waiters < m.flow.places) → IsTrue answer ↔ (of_all (λ e. is_queued e.stage) now.view < now.view.profile.issue_queue)
+  queue_places_left m now answer shows ok idle is =
+      let queued : length m.flow.waiters ≡ of_all (λ e. is_queued e.stage) now.view = all_waiting m now shows ok idle in
+      let places : m.flow.places ≡ m.profile.issue_queue = ok.room.waiters in
+      let profile : m.profile.issue_queue ≡ now.view.profile.issue_queue = ap (λ (v : Machine). v.view.profile.issue_queue) shows in
+      let to : IsTrue answer → of_all (λ e. is_queued e.stage) now.view < now.view.profile.issue_queue = λ yes. let less : length m.flow.waiters < m.flow.places = is.0 yes in omega (arith, less, queued, places, profile) in
+      let from : of_all (λ e. is_queued e.stage) now.view < now.view.profile.issue_queue → IsTrue answer = λ less. is.1 (omega (arith, less, queued, places, profile)) in
+      (to, from)
+
   -- as many registers are taken as entries are renamed with one
   all_taken : (m : Inside A) (now : Machine) → machine_of m ≡ now → IsMachine m → taken m.flow ≡ of_all has_register now.view
   all_taken m now shows ok =

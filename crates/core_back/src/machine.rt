@@ -1,12 +1,12 @@
 //! Eight contexts, and the data flow that they share.
 
-ghost use Rattle.std.specs.Prelude.{◌≡◌, ℕ, ◌+◌, ◌-◌, ◌<◌, ◌≤◌, ◌^◌, ◌&&◌, ◌==◌, false, not, length, count_by, slice_get, slice_index, slice_index_or, [], IfOk, IfSome, IsSome, MatchOption, Some, None, true, is_some};
+ghost use Rattle.std.specs.Prelude.{◌≡◌, ℕ, ◌+◌, ◌-◌, ◌<◌, ◌≤◌, ◌^◌, ◌&&◌, ◌==◌, false, not, length, count_by, slice_get, slice_index, slice_index_or, [], IfOk, IfSome, IsSome, MatchOption, Some, None, true, is_some, IsTrue, ◌↔◌};
 ghost use Rattle.arrayvec.specs.ArrayVec.{array_vec_len};
 ghost use Rattle.core_view.specs.declared.outcome.Outcome.TheVariants.{Stops};
 ghost use Rattle.core_view.specs.Events.{retire_event, stop_event, complete_event};
 ghost use Rattle.core_view.specs.Operations.{is_guessed};
 ghost use Rattle.core_view.specs.View.{entry_at, IsLive, IsSoundView};
-ghost use Rattle.lawful_cycle.specs.Rename.{CanRename};
+ghost use Rattle.lawful_cycle.specs.Rename.{CanRename, of_all};
 ghost use Rattle.core_view.specs.Flight.{is_queued, is_missed_load};
 ghost use Rattle.lawful_cycle.specs.Fetch.{is_fetched, is_eligible, oldest_place};
 ghost use Rattle.origin_set.specs.Start.{start};
@@ -17,7 +17,7 @@ ghost use Rattle.core_context.specs.Issuable.{HoldsNone};
 ghost use Rattle.core_back.specs.Selected.{IsChosen};
 ghost use Rattle.core_back.specs.Issued.{IsIssued};
 ghost use Rattle.core_back.specs.Fetched.{IsRenamed, IsRenamedRun, IsPickTurn};
-ghost use Rattle.core_back.specs.Renamable.{IsPastFront, IsPastFrontStamp};
+ghost use Rattle.core_back.specs.Renamable.{IsPastFront, IsPastFrontStamp, front_stops};
 ghost use Rattle.core_back.specs.First.{IsFirst, IsTarget, AreMarksAt};
 ghost use Rattle.checkpoint.specs.Aligned.{IsAligned};
 ghost use Rattle.join_law.specs.Eight.{place_of};
@@ -385,6 +385,24 @@ impl<A: Allocator> Machine<A> {
         let _next = self.next_stamp();
         let track = &self.tracks[context.index()];
         events::front(track, self.cycle, &self.profile)
+    }
+
+    /// Whether the oldest fetched entry of a context, if it has one, stops at fetch.
+    #[inline(always)]
+    pub fn front_stops(&self, context: Ctx) -> bool
+        ensures { result ≡ front_stops (context_at self.now context) }
+    {
+        let track = &self.tracks[context.index()];
+        events::front_stops(track)
+    }
+
+    /// Whether one more entry can wait for issue. What stops at fetch doesn't wait.
+    #[inline(always)]
+    pub fn has_queue_place(&self) -> bool
+        requires { self.now.names ≡ [] }
+        ensures { IsTrue result ↔ (of_all (λ (e : Entry). is_queued e.stage) self.now.view < self.now.view.profile.issue_queue) }
+    {
+        self.flow.has_place()
     }
 
     /// The oldest fetched entry of a context is renamed, if it can be and its stamp is no greater than a limit. Returns

@@ -1,9 +1,11 @@
 //! The events of a cycle, each on one context and the data flow.
 
-ghost use Rattle.std.specs.Prelude.{◌≡◌, ◌≢◌, ◌↔◌, ℕ, ◌+◌, ◌<◌, ◌≤◌, ◌^◌, ◌==◌, ◌&&◌, length, take, drop, IsSome, IsTrue, IfSome, Some, None, All, Bool, true, false, map};
+ghost use Rattle.std.specs.Prelude.{◌≡◌, ◌≢◌, ◌↔◌, ℕ, ◌+◌, ◌<◌, ◌≤◌, ◌^◌, ◌==◌, ◌&&◌, length, take, drop, IsSome, IsTrue, IfSome, Some, None, All, Bool, true, false, map, slice_get};
 ghost use Rattle.std.specs.List.{list_any};
+ghost use Rattle.std.specs.Option.{option_map_or};
 ghost use Rattle.core_view.specs.Outcomes.{image_of, IsSized};
 ghost use Rattle.data_flow.specs.Flow.{lane, node_at, sources_at, taken, waits_in, cut_flow, released};
+ghost use Rattle.core_view.specs.declared.entry.Entry.{Entry};
 ghost use Rattle.core_view.specs.declared.entry.Stage.TheVariants.{Fetched, Queued};
 ghost use Rattle.core_view.specs.declared.outcome.Outcome.TheVariants.{Stops};
 ghost use Rattle.core_view.specs.Flight.{seen_of, IsSound, is_open_guess as is_open_guess_entry};
@@ -208,6 +210,17 @@ pub fn front<A: Allocator>(track: &Track<A>, cycle: u64, profile: &Profile) -> O
     let entry = track.entry(track.renamed_count())?;
     let key = front_key(entry, cycle, profile);
     if key < u64::MAX { Some(key) } else { None }
+}
+
+/// Whether the oldest fetched entry, if there is one, stops at fetch.
+#[inline(always)]
+pub fn front_stops<A: Allocator>(track: &Track<A>) -> bool
+    ensures { result ≡ option_map_or (λ (e : Entry). stops_at_fetch e.operation) (slice_get track.now.context.flight track.now.renamed) false }
+{
+    match track.entry(track.renamed_count()) {
+        Some(entry) => entry.operation.stops_at_fetch(),
+        None => false,
+    }
 }
 
 /// The stamp of an entry that was fetched as many cycles ago as the front delay says, and of another the greatest number.

@@ -43,7 +43,7 @@ module _ (left less place : ℕ) (bits : (p : ℕ) → has less p ≡ (has left 
   pub few_cleared : ((c : ℕ) → has left c ≡ true → c < 8) → (c : ℕ) → has less c ≡ true → c < 8
   few_cleared few c is = few c (and_left (has left c) (not (eqb c place)) (sym (bits c) ∙ is))
 
-  and_true : (a : Bool) → a ≡ (a && not false)
+  pub and_true : (a : Bool) → a ≡ (a && not false)
   and_true true = refl
   and_true false = refl
 

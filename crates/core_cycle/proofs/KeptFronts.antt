@@ -112,13 +112,6 @@ module _ (m n : Machine) (c stamp : ℕ) (one : IsRenamed m n c stamp) where
       own : (test : Entry → Bool) → renamed_by test (context_in n.view d).flight ≡ renamed_by test (context_in m.view d).flight
       own test = ap (λ (x : Context). renamed_by test x.flight) here
 
--- without a front nothing can be renamed
-pub none_can : (v : View) (fronts : List (Option ℕ)) → AreFronts v fronts → IsOldest fronts None → (c : ℕ) (e : Entry) → ¬ CanRename v c e
-none_can v fronts are none c e can = no_some (sym (none c can.context) ∙ are.each c e can)
-  where
-    no_some : None ≡ Some e.stamp → ⊥
-    no_some is = cc
-
 -- ---- numbers as fronts
 
 front_some : (n : ℕ) → n < 18446744073709551615 → front_of n ≡ Some n

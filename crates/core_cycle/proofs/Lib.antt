@@ -10,3 +10,4 @@ pub mod FrontWords
 pub mod Renamings
 pub mod Whole
 pub mod ShownPicks
+pub mod StoppingFronts

@@ -1,6 +1,7 @@
 -- What is known, while entries are renamed, of each context's oldest fetched entry: its stamp, wherever it can be renamed.
-use Rattle.std.specs.Prelude.{◌≡◌, ℕ, ◌<◌, ◌≤◌, nat_lt, List, get_or, slice_index, Option, Some, None, if◌then◌else◌}
+use Rattle.std.specs.Prelude.{◌≡◌, ℕ, ◌<◌, ◌≤◌, false, nat_lt, List, get_or, slice_index, Option, Some, None, if◌then◌else◌}
 use Rattle.core_view.specs.declared.entry.Entry.{Entry}
+use Rattle.core_view.specs.Operations.{stops_at_fetch}
 use Rattle.core_view.specs.View.{View}
 use Rattle.lawful_cycle.specs.Rename.{CanRename}
 
@@ -11,6 +12,10 @@ IsFront v c front = (e : Entry) → CanRename v c e → front ≡ Some e.stamp
 -- so of each context
 pub record AreFronts (v : View) (fronts : List (Option ℕ)) : Type 0 where
   pub each : (c : ℕ) → IsFront v c (get_or fronts c None)
+
+-- nothing that can be renamed of a context stops at fetch
+abbrev pub NoneStops : View → ℕ → Type 0
+NoneStops v c = (e : Entry) → CanRename v c e → stops_at_fetch e.operation ≡ false
 
 -- the greatest number of 64 bits is no entry's stamp: it stands for none
 abbrev pub front_of : ℕ → Option ℕ

@@ -4,7 +4,7 @@ ghost use Rattle.std.specs.Prelude.{true, false, ◌≡◌, ℕ, ◌+◌, ◌<�
 ghost use Rattle.word_mask.specs.Mask.{has};
 ghost use Rattle.core_view.specs.declared.entry.Entry.{Entry};
 ghost use Rattle.lawful_cycle.specs.Rename.{CanRename};
-ghost use Rattle.core_cycle.specs.Fronts.{AreFronts, IsLeast, IsOldest, IsPlaced};
+ghost use Rattle.core_cycle.specs.Fronts.{AreFronts, IsLeast, IsOldest, IsPlaced, NoneStops};
 
 use core_back::Machine;
 use join_law::Ctx;
@@ -38,22 +38,26 @@ impl Fronts {
         }
     }
 
-    /// The fronts of a machine, where there were none.
+    /// The fronts of a machine, where there were none. Returns whether one of them may be of an entry that stops at fetch.
     // They are put in place: a value that is returned would be copied.
     #[inline(always)]
-    pub(crate) fn find<A: Allocator>(&mut self, machine: &Machine<A>)
+    pub(crate) fn find<A: Allocator>(&mut self, machine: &Machine<A>) -> bool
         requires none { self.old ≡ replicate 8 None }
         requires idle { machine.now.names ≡ [] }
         ensures fronts { AreFronts machine.now.view self.new }
         ensures eight { length self.new ≡ 8 }
+        ensures stops { result ≡ false → (c : ℕ) → NoneStops machine.now.view c }
     {
+        let mut stops = false;
         let mut left = with_fetched(machine);
         while left != 0 {
             let place = lowest(left);
             left = cleared(left, place);
             let context = context_of(place);
+            stops |= machine.front_stops(context);
             self.set(context, machine.front(context));
         }
+        stops
     }
 
     /// The front of a context, if it has one, takes the place of the one that it had.

@@ -1,10 +1,10 @@
 //! The part of a cycle in which entries are renamed.
 
-ghost use Rattle.std.specs.Prelude.{◌≡◌, ◌≢◌, ◌+◌, ◌<◌, ◌≤◌, ℕ, [], None, false, length, get_or};
+ghost use Rattle.std.specs.Prelude.{◌≡◌, ◌≢◌, ◌+◌, ◌<◌, ◌≤◌, ℕ, [], None, IfSome, false, length, get_or};
 ghost use Rattle.core_view.specs.declared.entry.Entry.{Entry};
 ghost use Rattle.lawful_cycle.specs.Rename.{CanRename, IsRename};
 ghost use Rattle.core_back.specs.Machine.{IsAlike, in_flight};
-ghost use Rattle.core_cycle.specs.Fronts.{AreFronts, IsFront};
+ghost use Rattle.core_cycle.specs.Fronts.{AreFronts, IsFront, IsLeast, NoneStops};
 ghost use Rattle.core_cycle.specs.Runs.{AreBehind, IsRun};
 
 use crate::fronts::Fronts;
@@ -33,8 +33,8 @@ pub(crate) fn rename<A: Allocator>(machine: &mut Machine<A>, renamed: &mut Array
     // `cycle` ensures that each context is live, so its stamps grow.
     let _live = machine.cycle();
     let mut fronts = Fronts::none();
-    fronts.find(machine);
-    while let Some(context) = fronts.oldest() {
+    let mut stops = fronts.find(machine);
+    while let Some(context) = next_front(machine, &fronts, stops) {
         let limit = fronts.take(context);
         let before = renamed.len();
         rename_run(machine, renamed, context, limit, width);
@@ -42,7 +42,23 @@ pub(crate) fn rename<A: Allocator>(machine: &mut Machine<A>, renamed: &mut Array
             return;
         }
         end_run(machine, &mut fronts, context, renamed.len() > before);
+        stops |= machine.front_stops(context);
     }
+}
+
+/// The context of the oldest front, if something can be renamed: where the issue queue is full, nothing can but what stops
+/// at fetch.
+fn next_front<A: Allocator>(machine: &Machine<A>, fronts: &Fronts, stops: bool) -> Option<Ctx>
+    requires idle { machine.now.names ≡ [] }
+    requires fronts { AreFronts machine.now.view fronts.now }
+    requires stops { stops ≡ false → (c : ℕ) → NoneStops machine.now.view c }
+    ensures least { IfSome result (IsLeast fronts.now) }
+    ensures none { result ≡ None → (c : ℕ) (e : Entry) → ¬ (CanRename machine.now.view c e) }
+{
+    if !stops && !machine.has_queue_place() {
+        return None;
+    }
+    fronts.oldest()
 }
 
 /// Entries of a context are renamed for as long as they can be, come before what can be renamed of the other contexts, and

@@ -5,9 +5,9 @@ use Rattle.core_view.specs.declared.note.EntryId.{EntryId}
 use Rattle.core_cycle.specs.Fronts.{IsFront, IsOldest}
 use Rattle.core_cycle.specs.Runs.{IsGrown}
 use Rattle.core_cycle.proofs.Alike.{alike_none, alike_chain}
-use Rattle.core_cycle.proofs.KeptFronts.{none_can}
 use Rattle.core_cycle.proofs.KeptRuns.{behind_fronts, others_left, none_left, turn_decreases}
 use Rattle.core_cycle.proofs.Renamings.{rename_none}
+use Rattle.core_cycle.proofs.StoppingFronts.{front_goes, stops_after}
 use Rattle.core_cycle.proofs.renaming.rename.Goals as goal
 
 pub loop-context-init : goal.loop-context-init
@@ -18,14 +18,15 @@ loop-context-init g c =
       alike = alike_none c.args.machine.now;
       idle = c.requires.idle;
       flights = refl;
-      fronts = c.find.ensures.fronts;
-      eight = c.find.ensures.eight;
+      fronts = c.find-stops.ensures.fronts;
+      eight = c.find-stops.ensures.eight;
       way = record {
         so_far = rename_none c.args.machine.now.view c.args.renamed.now.items c.cycle-live.ensures.contexts c.requires.fresh;
         each = λ j lt. absurd (omega (arith, lt, none));
       };
       most = omega (arith, none);
       width = omega (arith, most, c.from-width.ensures);
+      stops = c.find-stops.ensures.stops;
     }
 
 pub rename_run-requires-clause-behind : goal.rename_run-requires-clause-behind
@@ -49,8 +50,8 @@ end_run-requires-clause-none g c = λ stayed.
     let now = c.len-in-Some.ensures.value in
     let here = c.len.ensures.value in
     let below = c.if-len-width.false in
-    none_left c.loop-context.machine.view c.loop-context.fronts c.in-Some.context c.loop-context.invariant.fronts c.rename_run.new.machine.view c.take-limit.result c.in-Some.ensures
-    (c.take-limit.ensures.above c.in-Some.ensures) (run.same (let few = ltb-false c.len-before.result c.len-in-Some.result stayed in omega (arith, more, before, now, few))) (c.rename_run.ensures.cannot (omega (arith, most, here, below)))
+    none_left c.loop-context.machine.view c.loop-context.fronts c.in-Some.context c.loop-context.invariant.fronts c.rename_run.new.machine.view c.take-limit.result c.in-Some.ensures.least
+    (c.take-limit.ensures.above c.in-Some.ensures.least) (run.same (let few = ltb-false c.len-before.result c.len-in-Some.result stayed in omega (arith, more, before, now, few))) (c.rename_run.ensures.cannot (omega (arith, most, here, below)))
 
 pub returns-then-len-width-clause-lawful : goal.returns-then-len-width-clause-lawful
 returns-then-len-width-clause-lawful g c =
@@ -73,7 +74,7 @@ loop-context-smaller g c =
     let run = c.rename_run.ensures.run in
     let before = c.len-before.ensures.value in
     let now = c.len-in-Some.ensures.value in
-    turn_decreases c.loop-context.fronts c.end_run.new.fronts c.in-Some.context c.from-width.result (length c.loop-context.renamed.items) (length c.rename_run.new.renamed.items) c.in-Some.ensures c.end_run.ensures.eight run.more run.most
+    turn_decreases c.loop-context.fronts c.end_run.new.fronts c.in-Some.context c.from-width.result (length c.loop-context.renamed.items) (length c.rename_run.new.renamed.items) c.in-Some.ensures.least c.end_run.ensures.eight run.more run.most
     (λ stayed. c.end_run.ensures.same (le-ltb c.len-before.result c.len-in-Some.result (omega (arith, stayed, before, now))) ∙ c.take-limit.ensures.taken)
 
 pub loop-context-preserved : goal.loop-context-preserved
@@ -89,6 +90,8 @@ loop-context-preserved g c =
       way = c.rename_run.ensures.run.way c.args.machine.now.view start i.way;
       most = c.rename_run.ensures.run.most;
       width = i.width;
+      stops = stops_after c.loop-context.machine.view c.rename_run.new.machine.view c.in-Some.context c.loop-context.stops c.front_stops-stops.result i.stops c.rename_run.ensures.run.others
+          (front_goes c.rename_run.new.machine.view c.in-Some.context c.front_stops-stops.result c.front_stops-stops.ensures);
     }
 
 pub returns-clause-lawful : goal.returns-clause-lawful
@@ -100,5 +103,5 @@ returns-clause-lawful g c =
       is = i.way.so_far;
       each = i.way.each;
       most = subst (λ p. length c.loop-context.renamed.items ≤ p.rename_width) c.profile.ensures (omega (arith, most, width));
-      until = λ _. none_can c.loop-context.machine.view c.loop-context.fronts i.fronts (subst (IsOldest c.loop-context.fronts) c.in_default.is c.oldest.ensures);
+      until = λ _. c.next_front.ensures.none c.in_default.is;
     }
