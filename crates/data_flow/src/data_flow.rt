@@ -128,6 +128,7 @@ impl<A: Allocator> DataFlow<A> {
         } }
     {
         let newest = named(&mut self.registers, context, operands);
+        self.renamed[context.index()].push(newest);
         let queue = &mut self.queue;
         put_in(
             queue,
@@ -137,7 +138,6 @@ impl<A: Allocator> DataFlow<A> {
             guessed,
             speculative,
         );
-        self.renamed[context.index()].push(newest);
     }
 
     /// The instruction at a place has its result.
