@@ -1,6 +1,6 @@
 -- One more instruction, from the fields before it to the fields after it.
 use Rattle.std.proofs.Common.{◌≡◌, ℕ, ◌-◌, ◌<◌, Bool, true, false, List, [], ◌∷◌, ◌++◌, length, get_or, slice_get, Option, Some, None, refl, sym, ap, subst, ◌∙◌, arith}
-use Rattle.std.specs.Prelude.{set, sum_by, All, ◌==◌, if◌then◌else◌}
+use Rattle.std.specs.Prelude.{set, sum_by, All, ◌==◌, if◌then◌else◌, OnOk, IsOk, ◌↔◌, Result, Ok, Err}
 use Rattle.std.proofs.lemmas.Bool.Decides.{nat_tests}
 use Rattle.std.proofs.lemmas.List.{length-set, get_or-set_same}
 use Rattle.std.proofs.lemmas.List.Elements.{All-get_or}
@@ -34,7 +34,7 @@ free_for d now rd shows up free named =
 -- ---- stamps
 
 -- the stamp of the youngest is below the new one
-pub youngest_below : {A : Type 0} (d : Inside A) (now : Flow) (c k stamp : ℕ) (found : Buffer Renamed) (x : Renamed) → Here d now c k found → All (λ n. n.operands.stamp < stamp) (lane now c).nodes
+youngest_below : {A : Type 0} (d : Inside A) (now : Flow) (c k stamp : ℕ) (found : Buffer Renamed) (x : Renamed) → Here d now c k found → All (λ n. n.operands.stamp < stamp) (lane now c).nodes
     → slice_get found.items (length found.items - 1) ≡ Some x → x.operands.stamp < stamp
 youngest_below d now c k stamp found x h younger e =
     let lt : length found.items - 1 < length found.items = slice_get_within found.items (length found.items - 1) x e in
@@ -88,6 +88,12 @@ named d now c r n shows up lt step = by_test (n.operands.destination == 0) refl
           empty = rw e (get_or-set_same d.registers.cells p None None w.3);
           waiting = waiting_rename d.registers.cells d.renamed c p n d.queue.entries lt (unread d now p shows up unused) up.waiting;
         })
+
+-- ---- what a push into a ring that had room leaves: callers have such rings
+
+pub push_is : {U E : Type 0} (r : Result U E) (P : Type 0) (a b : ℕ) → (IsOk r ↔ (a < b)) → OnOk r P → a < b → P
+push_is (Ok u) P a b variant ok lt = ok
+push_is (Err e) P a b variant ok lt = let no_entry = variant.1 lt in absurd cc
 
 -- ---- the instruction
 

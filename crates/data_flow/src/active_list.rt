@@ -7,8 +7,8 @@ use crate::operands::Renamed;
 use crate::slots::Slots;
 use std::marker::Model;
 
-// Instructions are numbered modulo 256 as they enter, and each stands in the slot of its number modulo 64: powers of two,
-// so that a slot is found without a test. There are at most as many as there is room for, which is at most 64.
+// Instructions are numbered modulo 256 as they enter, and each stands in the slot of its number modulo 64. Both are
+// powers of two, so that a slot is found without a test. There is room for at most 64.
 #[derive(Drop)]
 pub(crate) struct ActiveList {
     // The number of the oldest.
