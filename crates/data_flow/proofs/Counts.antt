@@ -27,5 +27,5 @@ counted_all cells (b ∷ bs) (n ∷ ns) t =
 
 pub free_left : {A : Type 0} (d : Inside A) (now : Flow) (k : ℕ) → flow d ≡ now → IsWiredUp d → k ≡ length d.registers.free → k + taken now ≡ now.extra
 free_left d now k shows up is =
-    let count : taken (flow d) ≡ rename_count d.registers = counted_all d.registers.cells d.registers.banks d.renamed.items up.tied in
+    let count : taken (flow d) ≡ rename_count d.registers = counted_all d.registers.cells d.registers.banks d.renamed up.tied in
     subst (λ (f : Flow). k + taken f ≡ f.extra) shows (omega (arith, count, up.file.extra, is))

@@ -43,6 +43,13 @@ last_stamp d now c k found h =
     ∙ ap (option_map node_stamp) (slice_get-map (node_of cells) found.items (length found.items - 1))
     ∙ stamps_of_map cells (last_item found.items)
 
+pub stamp_of_last : (ns : List Renamed) (n : Renamed) (k : ℕ) → k ≡ length ns → slice_get ns (k - 1) ≡ Some n → option_map stamp_of (last_item ns) ≡ Some n.operands.stamp
+stamp_of_last ns n k all found = ap (λ i. option_map stamp_of (slice_get ns (i - 1))) (sym all) ∙ ap (option_map stamp_of) found
+
+pub stamp_of_none : (ns : List Renamed) → length ns ≡ 0 → option_map stamp_of (last_item ns) ≡ None
+stamp_of_none [] none = refl
+stamp_of_none (n ∷ ns) none = absurd (omega arith)
+
 -- ---- the oldest of a lane
 
 -- a context with its oldest instructions alone
@@ -62,8 +69,8 @@ pub ordered : {A : Type 0} (d : Inside A) (now : Flow) (c : ℕ) → flow d ≡ 
 ordered d now c shows up lt =
     let h = here_unread d now c shows up lt in
     let cells : List (Option ℕ) = d.registers.cells in
-    let found : Buffer Renamed = get_or d.renamed.items c no_buffer in
-    let lens = lengths cells d.registers.banks d.renamed.items up.tied in
+    let found : Buffer Renamed = get_or d.renamed c no_buffer in
+    let lens = lengths cells d.registers.banks d.renamed up.tied in
     record {
       in_lanes = omega (arith, ap (λ (ls : List Lane). length ls) h.lanes, lens.0, h.in_banks);
       growing = rw h.lane_is (mapped_growing cells found.items h.tied.growing);
@@ -195,12 +202,12 @@ idle_newest f now c k m stamp cut last le idle =
 
 -- what dropping from a stamp on leaves of those that wait
 pub record Drops {A : Type 0} (d : Inside A) (c k : ℕ) (q : IssueQueue) : Type 0 where
-  pub waiting : All (IsWaiting d.registers.cells d.renamed.items) q.entries
+  pub waiting : All (IsWaiting d.registers.cells d.renamed) q.entries
   pub idle : All (λ w. is_waiter_from c k w ≡ false) (map waiter_of q.entries)
 
 pub drops : {A : Type 0} (d : Inside A) (c k : ℕ) (q : IssueQueue) → IsWiredUp d → q ≡ record d.queue { entries = filter (λ e. not (is_from c k e)) d.queue.entries } → Drops d c k q
 drops d c k q up is = rw is (record {
-  waiting = waiting_filter d.registers.cells d.renamed.items (λ e. not (is_from c k e)) d.queue.entries up.waiting;
+  waiting = waiting_filter d.registers.cells d.renamed (λ e. not (is_from c k e)) d.queue.entries up.waiting;
   idle = rw (waiters_dropped c k d.queue.entries) (none_from c k (map waiter_of d.queue.entries));
 })
 
@@ -209,8 +216,8 @@ abbrev with_waiters : Flow → List Waiter → Flow
 with_waiters f ws = record f { waiters = ws }
 
 pub cut_shows : {A : Type 0} (d : Inside A) (now new : Flow) (c k : ℕ) (q : IssueQueue) → flow d ≡ now → q ≡ record d.queue { entries = filter (λ e. not (is_from c k e)) d.queue.entries }
-    → new ≡ with_lane (shown d.registers d.renamed.items q) c (cut_from (lane (shown d.registers d.renamed.items q) c) k) → new ≡ cut_flow now c k
+    → new ≡ with_lane (shown d.registers d.renamed q) c (cut_from (lane (shown d.registers d.renamed q) c) k) → new ≡ cut_flow now c k
 cut_shows d now new c k q shows is new-is =
     let f : Flow = flow d in
-    let dropped : shown d.registers d.renamed.items q ≡ with_waiters f (filter (λ w. not (is_waiter_from c k w)) f.waiters) = rw is (ap (with_waiters f) (waiters_dropped c k d.queue.entries)) in
+    let dropped : shown d.registers d.renamed q ≡ with_waiters f (filter (λ w. not (is_waiter_from c k w)) f.waiters) = rw is (ap (with_waiters f) (waiters_dropped c k d.queue.entries)) in
     new-is ∙ ap (λ (g : Flow). with_lane g c (cut_from (lane g c) k)) dropped ∙ ap (λ (g : Flow). cut_flow g c k) shows

@@ -200,11 +200,11 @@ values_past : (cells : List (Option ℕ)) (m : List ℕ) (none : Bool) (rd p : �
 values_past cells m true rd p = refl
 values_past cells m false rd p = map-set (value_of cells) m rd p
 
-pub commits : (cells : List (Option ℕ)) (b : Bank) (n : Renamed) (rest : List Renamed) (capacity : ℕ) → IsTied cells b (buffer (n ∷ rest) capacity) → IsGrowing stamp_of rest → Commits cells b n rest capacity
-commits cells b n rest capacity t growing =
+pub commits : (cells : List (Option ℕ)) (b : Bank) (n : Renamed) (rest : List Renamed) (capacity : ℕ) → IsTied cells b (buffer (n ∷ rest) capacity) → Commits cells b n rest capacity
+commits cells b n rest capacity t =
     let past = committed_past b (n.operands.destination == 0) n.operands.destination n.destination (renames_of rest) t.renames in
     record {
-      tied = record { renames = past.1; wired = rw past.0 t.wired.5; growing = growing };
+      tied = record { renames = past.1; wired = rw past.0 t.wired.5; growing = λ i j d lt in_range. t.growing (suc i) (suc j) d (omega arith) (omega arith) };
       lane = rw (past.0, values_past cells b.committed (n.operands.destination == 0) n.operands.destination n.destination) refl;
     }
 

@@ -1,3 +1,5 @@
+pub mod Numbered
+pub mod Written
 pub mod Ties
 pub mod Places
 pub mod Cells

@@ -52,7 +52,7 @@ pub record Changes {A : Type 0} (d : Inside A) (now : Flow) (q : IssueQueue) (g 
   pub wired : IsWiredUp (record d { queue = q })
 
 changes : {A : Type 0} (d : Inside A) (now : Flow) (q : IssueQueue) (f : Entry → Entry) (g : Waiter → Waiter) → flow d ≡ now → IsWiredUp d
-    → ((e : Entry) → waiter_of (f e) ≡ g (waiter_of e)) → ((e : Entry) → IsWaiting d.registers.cells d.renamed.items e → IsWaiting d.registers.cells d.renamed.items (f e))
+    → ((e : Entry) → waiter_of (f e) ≡ g (waiter_of e)) → ((e : Entry) → IsWaiting d.registers.cells d.renamed e → IsWaiting d.registers.cells d.renamed (f e))
     → q ≡ record d.queue { entries = map f d.queue.entries } → Changes d now q g
 changes {A} d now q f g shows up same keeps is = subst (λ (r : IssueQueue). Changes d now r g) (sym is) (record {
   shown = ap (λ (ws : List Waiter). let r : Flow = record (flow d) { waiters = ws } in r) (waiters_changed f g same d.queue.entries)
@@ -60,20 +60,20 @@ changes {A} d now q f g shows up same keeps is = subst (λ (r : IssueQueue). Cha
   wired = record {
     file = up.file;
     tied = up.tied;
-    waiting = All-map (IsWaiting d.registers.cells d.renamed.items) f d.queue.entries
-        (All-weaker (IsWaiting d.registers.cells d.renamed.items) (λ e. IsWaiting d.registers.cells d.renamed.items (f e)) keeps d.queue.entries up.waiting);
+    waiting = All-map (IsWaiting d.registers.cells d.renamed) f d.queue.entries
+        (All-weaker (IsWaiting d.registers.cells d.renamed) (λ e. IsWaiting d.registers.cells d.renamed (f e)) keeps d.queue.entries up.waiting);
   };
 })
 
 pub held : {A : Type 0} (d : Inside A) (now : Flow) (q : IssueQueue) (c k : ℕ) (flag : Bool) → flow d ≡ now → IsWiredUp d
     → q ≡ record d.queue { entries = map (with_held c k flag) d.queue.entries } → Changes d now q (held_waiter c k flag)
 held d now q c k flag shows up is =
-    changes d now q (with_held c k flag) (held_waiter c k flag) shows up (waiter_held c k flag) (waiting_held d.registers.cells d.renamed.items c k flag) is
+    changes d now q (with_held c k flag) (held_waiter c k flag) shows up (waiter_held c k flag) (waiting_held d.registers.cells d.renamed c k flag) is
 
 pub speculated : {A : Type 0} (d : Inside A) (now : Flow) (q : IssueQueue) (c k : ℕ) (flag : Bool) → flow d ≡ now → IsWiredUp d
     → q ≡ record d.queue { entries = map (with_speculative c k flag) d.queue.entries } → Changes d now q (speculative_waiter c k flag)
 speculated d now q c k flag shows up is =
-    changes d now q (with_speculative c k flag) (speculative_waiter c k flag) shows up (waiter_speculative c k flag) (waiting_speculative d.registers.cells d.renamed.items c k flag) is
+    changes d now q (with_speculative c k flag) (speculative_waiter c k flag) shows up (waiter_speculative c k flag) (waiting_speculative d.registers.cells d.renamed c k flag) is
 
 pub released_all : {A : Type 0} (d : Inside A) (now : Flow) (q : IssueQueue) → flow d ≡ now → IsWiredUp d → q ≡ record d.queue { entries = map released d.queue.entries } → Changes d now q released_waiter
 released_all d now q shows up is =

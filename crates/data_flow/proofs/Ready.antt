@@ -58,14 +58,14 @@ pub record IsFaithful (f : Entry → Entry) (e : Entry) : Type 0 where
   pub there : IsReady e → IsReady (f e)
   pub back : IsReady (f e) → IsReady e
 
-pub faithful : {A : Type 0} (d : Inside A) (e : Entry) → IsWiredUp d → IsWaiting d.registers.cells d.renamed.items e → IsFaithful (shown_entry (flow d).lanes) e
+pub faithful : {A : Type 0} (d : Inside A) (e : Entry) → IsWiredUp d → IsWaiting d.registers.cells d.renamed e → IsFaithful (shown_entry (flow d).lanes) e
 faithful d e up h =
     let cells : List (Option ℕ) = d.registers.cells in
-    let ns : Buffer Renamed = get_or d.renamed.items e.context no_buffer in
+    let ns : Buffer Renamed = get_or d.renamed e.context no_buffer in
     let n : Renamed = get_or ns.items h.place no_renamed in
     let lt : e.context < length d.registers.banks = omega (arith, h.context, up.file.eight) in
-    let at_lane = lane_at cells d.registers.banks d.renamed.items e.context up.tied lt in
-    let supplied = supplied_in cells (bank d.registers e.context) ns h.place e.stamp (tied_at cells d.registers.banks d.renamed.items e.context up.tied lt) (settled d.registers e.context up.file h.context) h.within h.stamp in
+    let at_lane = lane_at cells d.registers.banks d.renamed e.context up.tied lt in
+    let supplied = supplied_in cells (bank d.registers e.context) ns h.place e.stamp (tied_at cells d.registers.banks d.renamed e.context up.tied lt) (settled d.registers e.context up.file h.context) h.within h.stamp in
     let shown = ap (λ (l : Lane). waits_of (is_supplied (known l.registers) l.nodes e.stamp)) at_lane ∙ ap waits_of supplied in
     record {
       there = λ ready. (shown ∙ ready_there (cell_of cells n.first) (cell_of cells n.second) n.first n.second (sym h.waits ∙ ready.0), ready.1);

@@ -1,12 +1,11 @@
 -- One more instruction, which waits for issue, from the fields before it to the fields after it.
-use Rattle.std.proofs.Common.{◌≡◌, ℕ, ◌<◌, Bool, true, false, List, [], ◌∷◌, ◌++◌, length, get_or, map, None, refl, sym, ap, subst, ◌∙◌, arith, length-append}
-use Rattle.std.specs.Prelude.{set, ◌==◌}
+use Rattle.std.proofs.Common.{◌≡◌, ℕ, ◌<◌, Bool, true, false, List, [], ◌∷◌, ◌++◌, length, get_or, map, None, refl, sym, ap, ◌∙◌, arith, length-append}
+use Rattle.std.specs.Prelude.{set, All, ◌==◌}
 use Rattle.std.specs.List.{list_any}
 use Rattle.std.proofs.lemmas.Bool.Decides.{nat_tests}
 use Rattle.std.proofs.lemmas.List.{length-set, get_or-set_same}
 use Rattle.std.proofs.lemmas.List.Elements.{All-push}
-use Rattle.rename_file.specs.File.{File, bank, mapped}
-use Rattle.reorder_buffer.specs.Growing.{IsGrowing}
+use Rattle.rename_file.specs.File.{File, bank}
 use Rattle.circular_buffer.specs.Buffer.{Buffer, buffer}
 use Rattle.issue_queue.specs.Entry.{Entry, is_named}
 use Rattle.issue_queue.specs.IssueQueue.{IssueQueue}
@@ -16,9 +15,8 @@ use Rattle.data_flow.specs.declared.data_flow.DataFlow.TheInside.{Inside}
 use Rattle.data_flow.specs.Flow.{Waiter, Flow, lane, with_lane, with_node, waits_in, is_waiter}
 use Rattle.data_flow.specs.Banks.{bank_with, CellsWith, IsNamed}
 use Rattle.data_flow.specs.Wired.{unready, waiting_entry, waiter_of, flow, IsWaiting, IsWiredUp, no_buffer, no_renamed}
-use Rattle.data_flow.proofs.LaneEvents.{stamp_of}
 use Rattle.data_flow.proofs.Places.{Here}
-use Rattle.data_flow.proofs.Renames.{IsNew, rename_leaves}
+use Rattle.data_flow.proofs.Renames.{rename_leaves}
 use Rattle.data_flow.proofs.Steps.{Leaves, shown}
 use Rattle.data_flow.proofs.Waiters.{waiters_put}
 use Rattle.data_flow.proofs.Waits.{waits_named}
@@ -44,40 +42,27 @@ last_new : (ns : List Renamed) (n : Renamed) → get_or (ns ++ n ∷ []) (length
 last_new [] n = refl
 last_new (x ∷ ns) n = last_new ns n
 
--- what is new reads what its sources stand for
-new_of : {A : Type 0} (d : Inside A) (c : ℕ) (o : Operands) (n : Renamed) → IsNamed d.registers c o n → IsNew d c n
-new_of d c o n new = record {
-  first = new.first ∙ ap (λ (x : Operands). mapped (bank d.registers c) x.first) (sym new.operands);
-  second = new.second ∙ ap (λ (x : Operands). mapped (bank d.registers c) x.second) (sym new.operands);
-  first_narrow = subst (λ (x : Operands). x.first < 32) (sym new.operands) new.first_narrow;
-  second_narrow = subst (λ (x : Operands). x.second < 32) (sym new.operands) new.second_narrow;
-  destination_narrow = subst (λ (x : Operands). x.destination < 32) (sym new.operands) new.destination_narrow;
-}
-
 -- with an instruction more, which waits
 abbrev pub with_waiting : Flow → ℕ → Operands → Bool → Bool → Flow
 with_waiting now c o guessed speculative = record (with_lane now c (with_node (lane now c) o)) { waiters = now.waiters ++ record { stamp = o.stamp; context = c; guessed = guessed; speculative = speculative; held = false } ∷ [] }
 
 pub rename_wait_leaves : {A : Type 0} (d : Inside A) (now : Flow) (c k : ℕ) (o : Operands) (found left : Buffer Renamed) (n : Renamed) (r : File) (guessed speculative : Bool) (q : IssueQueue) → flow d ≡ now → IsWiredUp d → Here d now c k found → IsNamed d.registers c o n
-    → left ≡ buffer (found.items ++ n ∷ []) found.capacity → IsGrowing stamp_of left.items
+    → All (λ m. m.operands.stamp < o.stamp) (lane now c).nodes → left ≡ buffer (found.items ++ n ∷ []) found.capacity
     → r.banks ≡ set d.registers.banks c (bank_with (bank d.registers c) o.destination n.destination) → CellsWith d.registers r o.destination n.destination
     → q ≡ record d.queue { entries = d.queue.entries ++ waiting_entry r.cells c n guessed speculative ∷ [] }
-    → Leaves r (set d.renamed.items k left) q (with_waiting now c o guessed speculative)
-rename_wait_leaves d now c k o found left n r guessed speculative q shows up h new left-is growing banks cells q-is =
-    let banks' : r.banks ≡ set d.registers.banks c (bank_with (bank d.registers c) n.operands.destination n.destination) =
-    banks ∙ ap (λ (x : Operands). set d.registers.banks c (bank_with (bank d.registers c) x.destination n.destination)) (sym new.operands) in
-    let cells' : CellsWith d.registers r n.operands.destination n.destination = subst (λ (x : Operands). CellsWith d.registers r x.destination n.destination) (sym new.operands) cells in
-    let l = rename_leaves d now c k found left n r shows up h (new_of d c o n new) left-is growing banks' cells' in
-    let buffers : List (Buffer Renamed) = set d.renamed.items k left in
+    → Leaves r (set d.renamed k left) q (with_waiting now c o guessed speculative)
+rename_wait_leaves d now c k o found left n r guessed speculative q shows up h new younger left-is banks cells q-is =
+    let l = rename_leaves d now c k o found left n r shows up h new younger left-is banks cells in
+    let buffers : List (Buffer Renamed) = set d.renamed k left in
     let there : get_or buffers c no_buffer ≡ buffer (found.items ++ n ∷ []) found.capacity =
-    rw h.index (get_or-set_same d.renamed.items c left no_buffer h.in_buffers) ∙ left-is in
+    rw h.index (get_or-set_same d.renamed c left no_buffer h.in_buffers) ∙ left-is in
     let i : ℕ = length found.items in
     let e : Entry = waiting_entry r.cells c n guessed speculative in
     let within : i < length (get_or buffers c no_buffer).items = rw there (omega (arith, length-append found.items (n ∷ []))) in
     let same : get_or (get_or buffers c no_buffer).items i no_renamed ≡ n = rw there (last_new found.items n) in
-    let shows' : shown r buffers (record d.queue { entries = d.queue.entries ++ e ∷ [] }) ≡ with_waiting now c n.operands guessed speculative =
-    let waiters : map waiter_of (d.queue.entries ++ e ∷ []) ≡ now.waiters ++ waiter_of e ∷ [] = waiters_put d.queue.entries e ∙ ap (λ (f : Flow). f.waiters ++ waiter_of e ∷ []) shows in
-    ap (λ (ws : List Waiter). let g : Flow = record (shown r buffers d.queue) { waiters = ws } in g) waiters ∙ ap (λ (f : Flow). let g : Flow = record f { waiters = now.waiters ++ waiter_of e ∷ [] } in g) l.shows in
+    let w : Waiter = record { stamp = o.stamp; context = c; guessed = guessed; speculative = speculative; held = false } in
+    let entered : waiter_of e ≡ w = ap (λ (x : Operands). let v : Waiter = record { stamp = x.stamp; context = c; guessed = guessed; speculative = speculative; held = false } in v) new.operands in
+    let waiters : map waiter_of (d.queue.entries ++ e ∷ []) ≡ now.waiters ++ w ∷ [] = waiters_put d.queue.entries e ∙ ap (λ (f : Flow). f.waiters ++ waiter_of e ∷ []) shows ∙ ap (λ v. now.waiters ++ v ∷ []) entered in
     rw q-is (record {
       tied = l.tied;
       waiting = All-push (IsWaiting r.cells buffers) d.queue.entries e l.waiting (record {
@@ -87,5 +72,5 @@ rename_wait_leaves d now c k o found left n r guessed speculative q shows up h n
         stamp = ap (λ (m : Renamed). m.operands.stamp) same;
         waits = ap (λ (m : Renamed). unready r.cells m.first ++ unready r.cells m.second) (sym same);
       });
-      shows = shows' ∙ ap (λ (x : Operands). with_waiting now c x guessed speculative) new.operands;
+      shows = ap (λ (ws : List Waiter). let g : Flow = record (shown r buffers d.queue) { waiters = ws } in g) waiters ∙ ap (λ (f : Flow). let g : Flow = record f { waiters = now.waiters ++ w ∷ [] } in g) l.shows;
     })

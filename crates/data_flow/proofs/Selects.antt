@@ -24,7 +24,7 @@ pub record Selects {A : Type 0} (d : Inside A) (now : Flow) (q : IssueQueue) (ke
 pub selects : {A : Type 0} (d : Inside A) (now : Flow) (q : IssueQueue) (key : QueueView → ℕ) (width : ℕ) (selected : List EntryId) → flow d ≡ now → IsWiredUp d
     → q.capacity ≡ d.queue.capacity → IsSelected (λ e. key (view_of e)) width d.queue.entries q.entries selected → Selects d now q key width selected
 selects {A} d now q key width selected shows up capacity s =
-    let waits : Entry → Type 0 = IsWaiting d.registers.cells d.renamed.items in
+    let waits : Entry → Type 0 = IsWaiting d.registers.cells d.renamed in
     let all_faithful : All (IsFaithful (shown_entry (flow d).lanes)) d.queue.entries = All-weaker waits (IsFaithful (shown_entry (flow d).lanes)) (λ e. faithful d e up) d.queue.entries up.waiting in
     let there = carried key width (flow d).lanes d.queue.entries q.entries selected all_faithful s in
     record {

@@ -1,9 +1,6 @@
 -- What the sources of an instruction at a place give.
-use Rattle.std.proofs.Common.{◌≡◌, ℕ, ◌<◌, Bool, true, false, not, List, length, get_or, slice_get, Option, Some, None, refl, sym, ap, ◌∙◌, Bor}
-use Rattle.std.specs.Prelude.{IsSome}
-use Rattle.std.specs.Option.{option_copied}
-use Rattle.std.proofs.lemmas.Option.{get_or_from_slice_get, slice_get_within, none-some}
-use Rattle.circular_buffer.proofs.Places.{slice_get-some}
+use Rattle.std.proofs.Common.{◌≡◌, ℕ, ◌<◌, Bool, true, false, not, List, length, get_or, slice_get, Option, Some, None, refl, sym, ap, ◌∙◌}
+use Rattle.std.proofs.lemmas.Option.{get_or_from_slice_get, slice_get_within}
 use Rattle.rename_file.specs.File.{bank}
 use Rattle.circular_buffer.specs.Buffer.{Buffer}
 use Rattle.core_view.specs.Flight.{source_value}
@@ -17,27 +14,13 @@ use Rattle.data_flow.proofs.Places.{Here}
 
 -- ---- an instruction that was found
 
-pub some_there : {X : Type 0} (xs : List X) (i : ℕ) (r : Option (Bor X)) → i < length xs → option_copied r ≡ slice_get xs i → IsSome r
-some_there xs i None lt e = let there = slice_get-some xs i lt in absurd (none-some there.0 (e ∙ there.1))
-some_there xs i (Some x) lt e = refl
-
-pub there_is : {X : Type 0} (xs : List X) (i : ℕ) (r : Option X) → i < length xs → r ≡ slice_get xs i → IsSome r
-there_is xs i None lt e = let there = slice_get-some xs i lt in absurd (none-some there.0 (e ∙ there.1))
-there_is xs i (Some x) lt e = refl
-
 -- the instruction that was found at a place
 pub record IsAt (found : Buffer Renamed) (i : ℕ) (n : Renamed) : Type 0 where
   pub within : i < length found.items
   pub is : get_or found.items i n ≡ n
 
--- what stands at a place
-pub place_of_value : (found : Buffer Renamed) (i : ℕ) (r : Option Renamed) (x : Renamed) → r ≡ slice_get found.items i → r ≡ Some x → IsAt found i x
-place_of_value found i r x e is =
-    let got : slice_get found.items i ≡ Some x = sym e ∙ is in
-    record { within = slice_get_within found.items i x got; is = get_or_from_slice_get found.items i x x got }
-
-pub at_place : (found : Buffer Renamed) (i : ℕ) (r : Option (Bor Renamed)) (x : Bor Renamed) → option_copied r ≡ slice_get found.items i → r ≡ Some x → IsAt found i x.now
-at_place found i r x e is = place_of_value found i (option_copied r) x.now e (ap option_copied is)
+pub is_at : (found : Buffer Renamed) (i : ℕ) (n : Renamed) → slice_get found.items i ≡ Some n → IsAt found i n
+is_at found i n e = record { within = slice_get_within found.items i n e; is = get_or_from_slice_get found.items i n n e }
 
 -- ---- its sources
 

@@ -9,7 +9,8 @@ use Rattle.std.proofs.lemmas.Option.{slice_get_within}
 use Rattle.std.proofs.lemmas.List.Sums.{get_or-le-sum_by}
 use Rattle.rename_file.specs.File.{Bank, bank, no_bank, File, uses_in, at, with_cell, committed_one, undone}
 use Rattle.rename_file.proofs.Uses.{used_once, committed_in_range, at_self}
-use Rattle.reorder_buffer.specs.Growing.{IsGrowing, below}
+use Rattle.reorder_buffer.specs.Growing.{IsGrowing}
+use Rattle.reorder_buffer.proofs.Stamps.{growing_front}
 use Rattle.circular_buffer.specs.Buffer.{Buffer, buffer}
 use Rattle.issue_queue.specs.Entry.{is_named}
 use Rattle.issue_queue.specs.IssueQueue.{IssueQueue, awake}
@@ -59,7 +60,7 @@ result_register d now c k i found n up h at has =
     record { above = rw at.is at above; in_range = used_is_cell d.registers c n.destination up.file h.in_banks (rw at.is at used) }
 
 pub finish_leaves : {A : Type 0} (d : Inside A) (now : Flow) (c k i v : ℕ) (found : Buffer Renamed) (n : Renamed) (r : File) (q : IssueQueue) → flow d ≡ now → IsWiredUp d → Here d now c k found → IsAt found i n → (n.operands.destination == 0) ≡ false
-    → r ≡ with_cell d.registers n.destination (Some v) → q ≡ record d.queue { entries = map (awake n.destination) d.queue.entries } → Leaves r d.renamed.items q (with_lane now c (with_result (lane now c) i v))
+    → r ≡ with_cell d.registers n.destination (Some v) → q ≡ record d.queue { entries = map (awake n.destination) d.queue.entries } → Leaves r d.renamed q (with_lane now c (with_result (lane now c) i v))
 finish_leaves d now c k i v found n r q shows up h at has r-is q-is =
     let cells : List (Option ℕ) = d.registers.cells in
     let p : ℕ = n.destination in
@@ -70,12 +71,12 @@ finish_leaves d now c k i v found n r q shows up h at has r-is q-is =
     let once : sum_by (uses_in p) d.registers.banks ≤ 1 = omega (arith, used_once d.registers p up.file) in
     let here : lane_of (set cells p (Some v)) (bank d.registers c) found ≡ with_result (lane now c) i v =
     finish_lane cells (bank d.registers c) found i p v n h.tied fits at.within has' p-is (omega (arith, get_or-le-sum_by (uses_in p) d.registers.banks c no_bank h.in_banks)) ∙ ap (λ (l : Lane). with_result l i v) (sym h.lane_is) in
-    let lanes : lanes_of (set cells p (Some v)) d.registers.banks d.renamed.items ≡ set now.lanes c (with_result (lane now c) i v) =
-    one_lane cells p (Some v) d.registers.banks d.renamed.items c (with_result (lane now c) i v) up.tied h.in_banks used once (rw h.place at here) ∙ ap (λ (ls : List Lane). set ls c (with_result (lane now c) i v)) (sym h.lanes) in
+    let lanes : lanes_of (set cells p (Some v)) d.registers.banks d.renamed ≡ set now.lanes c (with_result (lane now c) i v) =
+    one_lane cells p (Some v) d.registers.banks d.renamed c (with_result (lane now c) i v) up.tied h.in_banks used once (rw h.place at here) ∙ ap (λ (ls : List Lane). set ls c (with_result (lane now c) i v)) (sym h.lanes) in
     rw (r-is, q-is) (record {
-      tied = same_all_tied cells p (Some v) d.registers.banks d.renamed.items up.tied;
-      waiting = waiting_finish cells d.renamed.items p v d.queue.entries fits up.waiting;
-      shows = one_changes d now c (with_result (lane now c) i v) (with_cell d.registers p (Some v)) d.renamed.items (record d.queue { entries = map (awake p) d.queue.entries }) shows lanes (length-set cells p (Some v)) (waiters_awake p d.queue.entries) refl;
+      tied = same_all_tied cells p (Some v) d.registers.banks d.renamed up.tied;
+      waiting = waiting_finish cells d.renamed p v d.queue.entries fits up.waiting;
+      shows = one_changes d now c (with_result (lane now c) i v) (with_cell d.registers p (Some v)) d.renamed (record d.queue { entries = map (awake p) d.queue.entries }) shows lanes (length-set cells p (Some v)) (waiters_awake p d.queue.entries) refl;
     })
 
 -- an instruction without a destination stays as it is
@@ -104,30 +105,30 @@ has_masked n mask none some = by_test (n == 0) refl
 -- either way, where it is written and woken as a mask tells
 pub finish_masked : {A : Type 0} (d : Inside A) (now : Flow) (c k i v : ℕ) (found : Buffer Renamed) (n : Renamed) (r : File) (q : IssueQueue) (p mask : ℕ) → flow d ≡ now → IsWiredUp d → Here d now c k found → IsAt found i n
     → (n.operands.destination ≡ 0 → mask ≡ 0) → (0 < n.operands.destination → 0 < mask) → (0 < mask → r ≡ with_cell d.registers n.destination (Some v)) → (0 < mask → p ≡ n.destination) → (mask ≡ 0 → r ≡ d.registers)
-    → (mask ≡ 0 → IsSome (get_or d.registers.cells p None)) → q ≡ record d.queue { entries = map (awake p) d.queue.entries } → Leaves r d.renamed.items q (with_lane now c (with_result (lane now c) i v))
+    → (mask ≡ 0 → IsSome (get_or d.registers.cells p None)) → q ≡ record d.queue { entries = map (awake p) d.queue.entries } → Leaves r d.renamed q (with_lane now c (with_result (lane now c) i v))
 finish_masked d now c k i v found n r q p mask shows up h at none all written there same valued woken = by_test (n.operands.destination == 0) refl
   where
-    by_test : (b : Bool) → (n.operands.destination == 0) ≡ b → Leaves r d.renamed.items q (with_lane now c (with_result (lane now c) i v))
+    by_test : (b : Bool) → (n.operands.destination == 0) ≡ b → Leaves r d.renamed q (with_lane now c (with_result (lane now c) i v))
     by_test false is =
         let some = all (has_one n.operands.destination is) in
         finish_leaves d now c k i v found n r q shows up h at is (written some) (woken ∙ ap (λ w. let e : IssueQueue = record d.queue { entries = map (awake w) d.queue.entries } in e) (there some))
     by_test true is =
         let zero_ = none (eqb-true n.operands.destination 0 is) in
-        let queue : q ≡ d.queue = woken ∙ ap (λ es. let e : IssueQueue = record d.queue { entries = es } in e) (all_awake d.registers.cells d.renamed.items p d.queue.entries (valued zero_) up.waiting) in
+        let queue : q ≡ d.queue = woken ∙ ap (λ es. let e : IssueQueue = record d.queue { entries = es } in e) (all_awake d.registers.cells d.renamed p d.queue.entries (valued zero_) up.waiting) in
         let stays = finish_none d now c k i v found n h at is in
         rw (same zero_, queue) (record { tied = up.tied; waiting = up.waiting; shows = shows ∙ stays })
 
 -- ---- a committed register
 
 pub set_leaves : {A : Type 0} (d : Inside A) (now : Flow) (c x y v : ℕ) (r : File) → flow d ≡ now → IsWiredUp d → c < 8 → y ≡ x → y < 32 → r ≡ with_cell d.registers (slice_index (bank d.registers c).committed y) (Some v)
-    → Leaves r d.renamed.items d.queue (with_lane now c (with_register (lane now c) x v))
+    → Leaves r d.renamed d.queue (with_lane now c (with_register (lane now c) x v))
 set_leaves d now c x y v r shows up lt same below r-is =
     let narrow : x < 32 = omega arith in
     let r-is' : r ≡ with_cell d.registers (slice_index (bank d.registers c).committed x) (Some v) = r-is ∙ ap (λ j. with_cell d.registers (slice_index (bank d.registers c).committed j) (Some v)) same in
     let cells : List (Option ℕ) = d.registers.cells in
     let b : Bank = bank d.registers c in
     let p : ℕ = slice_index b.committed x in
-    let found : Buffer Renamed = get_or d.renamed.items c no_buffer in
+    let found : Buffer Renamed = get_or d.renamed c no_buffer in
     let h = here_unread d now c shows up lt in
     let fits = committed_in_range d.registers c x up.file lt narrow in
     let in_bank : x < length b.committed = omega (arith, h.settled.wide) in
@@ -136,25 +137,25 @@ set_leaves d now c x y v r shows up lt same below r-is =
     let l : Lane = with_register (lane now c) x v in
     let here : lane_of (set cells p (Some v)) b found ≡ l =
     set_lane cells b found x p v h.tied fits in_bank refl (omega (arith, get_or-le-sum_by (uses_in p) d.registers.banks c no_bank h.in_banks)) ∙ ap (λ (z : Lane). with_register z x v) (sym h.lane_is) in
-    let lanes : lanes_of (set cells p (Some v)) d.registers.banks d.renamed.items ≡ set now.lanes c l =
-    one_lane cells p (Some v) d.registers.banks d.renamed.items c l up.tied h.in_banks used once here ∙ ap (λ (ls : List Lane). set ls c l) (sym h.lanes) in
+    let lanes : lanes_of (set cells p (Some v)) d.registers.banks d.renamed ≡ set now.lanes c l =
+    one_lane cells p (Some v) d.registers.banks d.renamed c l up.tied h.in_banks used once here ∙ ap (λ (ls : List Lane). set ls c l) (sym h.lanes) in
     rw r-is' (record {
-      tied = same_all_tied cells p (Some v) d.registers.banks d.renamed.items up.tied;
-      waiting = waiting_set cells d.renamed.items p v d.queue.entries (h.settled.valued x narrow) up.waiting;
-      shows = one_changes d now c l (with_cell d.registers p (Some v)) d.renamed.items d.queue shows lanes (length-set cells p (Some v)) refl refl;
+      tied = same_all_tied cells p (Some v) d.registers.banks d.renamed up.tied;
+      waiting = waiting_set cells d.renamed p v d.queue.entries (h.settled.valued x narrow) up.waiting;
+      shows = one_changes d now c l (with_cell d.registers p (Some v)) d.renamed d.queue shows lanes (length-set cells p (Some v)) refl refl;
     })
 
 -- ---- one bank and its buffer change, and the values stay
 
 leaves : {A : Type 0} (d : Inside A) (now : Flow) (c k : ℕ) (found left : Buffer Renamed) (r : File) (b : Bank) (l : Lane) → flow d ≡ now → IsWiredUp d → Here d now c k found → r.banks ≡ set d.registers.banks c b → r.cells ≡ d.registers.cells
-    → IsTied d.registers.cells b left → lane_of d.registers.cells b left ≡ l → All (IsWaiting d.registers.cells (set d.renamed.items c left)) d.queue.entries → Leaves r (set d.renamed.items k left) d.queue (with_lane now c l)
+    → IsTied d.registers.cells b left → lane_of d.registers.cells b left ≡ l → All (IsWaiting d.registers.cells (set d.renamed c left)) d.queue.entries → Leaves r (set d.renamed k left) d.queue (with_lane now c l)
 leaves d now c k found left r b l shows up h banks cells tied lane-is waiting =
-    let lanes : lanes_of d.registers.cells (set d.registers.banks c b) (set d.renamed.items c left) ≡ set now.lanes c l =
-    lanes-set d.registers.cells d.registers.banks d.renamed.items c b left ∙ ap (set (lanes_of d.registers.cells d.registers.banks d.renamed.items) c) lane-is ∙ ap (λ (ls : List Lane). set ls c l) (sym h.lanes) in
+    let lanes : lanes_of d.registers.cells (set d.registers.banks c b) (set d.renamed c left) ≡ set now.lanes c l =
+    lanes-set d.registers.cells d.registers.banks d.renamed c b left ∙ ap (set (lanes_of d.registers.cells d.registers.banks d.renamed) c) lane-is ∙ ap (λ (ls : List Lane). set ls c l) (sym h.lanes) in
     rw h.index (record {
-      tied = rw (cells, banks) (tied-set d.registers.cells d.registers.banks d.renamed.items c b left up.tied tied);
+      tied = rw (cells, banks) (tied-set d.registers.cells d.registers.banks d.renamed c b left up.tied tied);
       waiting = rw cells waiting;
-      shows = one_changes d now c l r (set d.renamed.items c left) d.queue shows (rw (cells, banks) lanes) (ap length cells) refl refl;
+      shows = one_changes d now c l r (set d.renamed c left) d.queue shows (rw (cells, banks) lanes) (ap length cells) refl refl;
     })
 
 -- an instruction that doesn't wait
@@ -195,17 +196,16 @@ commit_asks d now c k found n h front has done =
     committable cells (bank d.registers c) n (drop 1 found.items) found.capacity tied has done'
 
 pub commit_leaves : {A : Type 0} (d : Inside A) (now : Flow) (c k : ℕ) (found left : Buffer Renamed) (n : Renamed) (r : File) → flow d ≡ now → IsWiredUp d → Here d now c k found → IsFront found n
-    → waits_in now c (node_at (lane now c) 0).operands.stamp ≡ false → left ≡ buffer (drop 1 found.items) found.capacity → IsGrowing stamp_of left.items
-    → r.banks ≡ set d.registers.banks c (bank_past (bank d.registers c) (n.operands.destination == 0)) → r.cells ≡ d.registers.cells → Leaves r (set d.renamed.items k left) d.queue (with_lane now c (without_oldest (lane now c)))
-commit_leaves d now c k found left n r shows up h front idle left-is growing banks cells-are =
+    → waits_in now c (node_at (lane now c) 0).operands.stamp ≡ false → left ≡ buffer (drop 1 found.items) found.capacity
+    → r.banks ≡ set d.registers.banks c (bank_past (bank d.registers c) (n.operands.destination == 0)) → r.cells ≡ d.registers.cells → Leaves r (set d.renamed k left) d.queue (with_lane now c (without_oldest (lane now c)))
+commit_leaves d now c k found left n r shows up h front idle left-is banks cells-are =
     let cells : List (Option ℕ) = d.registers.cells in
     let b : Bank = bank d.registers c in
     let rest : List Renamed = drop 1 found.items in
     let tied : IsTied cells b (buffer (n ∷ rest) found.capacity) = subst (IsTied cells b) front.is h.tied in
     let lane-is : lane now c ≡ lane_of cells b (buffer (n ∷ rest) found.capacity) = h.lane_is ∙ ap (lane_of cells b) front.is in
-    let growing' : IsGrowing stamp_of rest = subst (λ (x : Buffer Renamed). IsGrowing stamp_of x.items) left-is growing in
-    let step = commits cells b n rest found.capacity tied growing' in
-    let waits = waiting_drop cells d.renamed.items c d.queue.entries h.in_buffers (rw h.place at (idle_at d now c k 0 found shows h front.some idle)) up.waiting in
+    let step = commits cells b n rest found.capacity tied in
+    let waits = waiting_drop cells d.renamed c d.queue.entries h.in_buffers (rw h.place at (idle_at d now c k 0 found shows h front.some idle)) up.waiting in
     leaves d now c k found left r (bank_past b (n.operands.destination == 0)) (without_oldest (lane now c)) shows up h banks cells-are (rw left-is step.tied)
     (rw left-is (step.lane ∙ ap without_oldest (sym lane-is))) (rw (left-is, h.place) waits)
 
@@ -244,18 +244,18 @@ undo_asks d now c k found n h back has =
     undoable d.registers.cells (bank d.registers c) n (take (length found.items - 1) found.items) found.capacity (subst (IsTied d.registers.cells (bank d.registers c)) back.is h.tied) has
 
 pub undo_leaves : {A : Type 0} (d : Inside A) (now : Flow) (c k : ℕ) (found left : Buffer Renamed) (n : Renamed) (r : File) → flow d ≡ now → IsWiredUp d → Here d now c k found → IsBack found n
-    → waits_in now c (node_at (lane now c) (length (lane now c).nodes - 1)).operands.stamp ≡ false → left ≡ buffer (take (length found.items - 1) found.items) found.capacity → IsGrowing stamp_of left.items
-    → r.banks ≡ set d.registers.banks c (bank_before (bank d.registers c) (n.operands.destination == 0)) → r.cells ≡ d.registers.cells → Leaves r (set d.renamed.items k left) d.queue (with_lane now c (without_newest (lane now c)))
-undo_leaves d now c k found left n r shows up h back idle left-is growing banks cells-are =
+    → waits_in now c (node_at (lane now c) (length (lane now c).nodes - 1)).operands.stamp ≡ false → left ≡ buffer (take (length found.items - 1) found.items) found.capacity
+    → r.banks ≡ set d.registers.banks c (bank_before (bank d.registers c) (n.operands.destination == 0)) → r.cells ≡ d.registers.cells → Leaves r (set d.renamed k left) d.queue (with_lane now c (without_newest (lane now c)))
+undo_leaves d now c k found left n r shows up h back idle left-is banks cells-are =
     let cells : List (Option ℕ) = d.registers.cells in
     let b : Bank = bank d.registers c in
     let front : List Renamed = take (length found.items - 1) found.items in
     let tied : IsTied cells b (buffer (front ++ n ∷ []) found.capacity) = subst (IsTied cells b) back.is h.tied in
     let lane-is : lane now c ≡ lane_of cells b (buffer (front ++ n ∷ []) found.capacity) = h.lane_is ∙ ap (lane_of cells b) back.is in
-    let growing' : IsGrowing stamp_of front = subst (λ (x : Buffer Renamed). IsGrowing stamp_of x.items) left-is growing in
-    let step = undoes cells b n front found.capacity tied growing' in
+    let growing : IsGrowing stamp_of front = growing_front stamp_of found.items (length found.items - 1) h.tied.growing in
+    let step = undoes cells b n front found.capacity tied growing in
     let idle' : waits_in now c (node_at (lane now c) (length found.items - 1)).operands.stamp ≡ false = rw h.count at idle in
-    let waits = waiting_take cells d.renamed.items c d.queue.entries h.in_buffers (rw h.place at (idle_at d now c k (length found.items - 1) found shows h back.at.within idle')) up.waiting in
+    let waits = waiting_take cells d.renamed c d.queue.entries h.in_buffers (rw h.place at (idle_at d now c k (length found.items - 1) found shows h back.at.within idle')) up.waiting in
     leaves d now c k found left r (bank_before b (n.operands.destination == 0)) (without_newest (lane now c)) shows up h banks cells-are (rw left-is step.tied)
     (rw left-is (step.lane ∙ ap without_newest (sym lane-is))) (rw (left-is, h.place) waits)
 

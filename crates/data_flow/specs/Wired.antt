@@ -34,7 +34,7 @@ waiter_of e = record { stamp = e.stamp; context = e.context; guessed = e.guessed
 
 abbrev pub flow : {A : Type 0} → Inside A → Flow
 flow d = record {
-  lanes = lanes_of d.registers.cells d.registers.banks d.renamed.items;
+  lanes = lanes_of d.registers.cells d.registers.banks d.renamed;
   extra = length d.registers.cells - 256;
   waiters = map waiter_of d.queue.entries;
   places = d.queue.capacity;
@@ -97,5 +97,5 @@ pub record IsWaiting (cells : List (Option ℕ)) (buffers : List (Buffer Renamed
 
 pub record IsWiredUp {A : Type 0} (d : Inside A) : Type 0 where
   pub file : IsFile d.registers
-  pub tied : AreTied d.registers.cells d.registers.banks d.renamed.items
-  pub waiting : All (IsWaiting d.registers.cells d.renamed.items) d.queue.entries
+  pub tied : AreTied d.registers.cells d.registers.banks d.renamed
+  pub waiting : All (IsWaiting d.registers.cells d.renamed) d.queue.entries

@@ -1,27 +1,24 @@
 //! The data flow of eight contexts: registers, renaming, and the queue of what waits for its sources.
 
-ghost use Rattle.std.specs.Prelude.{◌≡◌, ℕ, ◌+◌, ◌-◌, ◌<◌, ◌≤◌, ◌↔◌, [], ◌∷◌, ◌++◌, false, length, map, option_map, slice_get, Some, All, IfOk, OnErr, IsOk, IsSome, IsTrue, Err, not, is_some, slice_set, count_by, ◌==◌, ◌&&◌};
-ghost use Rattle.std.specs.Option.{ForSome};
-ghost use Rattle.circular_buffer.specs.Buffer.{buffer, last_item};
-ghost use Rattle.reorder_buffer.specs.Growing.{IsGrowing};
+ghost use Rattle.std.specs.Prelude.{◌≡◌, ℕ, ◌+◌, ◌-◌, ◌<◌, ◌≤◌, ◌↔◌, [], ◌∷◌, ◌++◌, false, length, map, option_map, All, IfOk, OnErr, IsOk, IsSome, IsTrue, Err, not, is_some, slice_set, count_by, ◌==◌, ◌&&◌};
+ghost use Rattle.circular_buffer.specs.Buffer.{last_item};
 ghost use Rattle.std.specs.List.{list_any};
 ghost use Rattle.issue_queue.specs.Entry.{is_named};
 ghost use Rattle.issue_queue.specs.Views.{view_of};
 ghost use Rattle.issue_queue.specs.IsSelected.{IsSelected};
 ghost use Rattle.issue_queue.specs.Stamps.{place_of_oldest};
 ghost use Rattle.rename_file.specs.File.{IsFile, bank};
-ghost use Rattle.data_flow.specs.declared.operands.Renamed.{Renamed};
 ghost use Rattle.data_flow.specs.Banks.{bank_with, CellsWith, IsNamed};
 ghost use Rattle.data_flow.specs.Wired.{cell_of, waiting_entry};
 ghost use Rattle.data_flow.specs.Flow.{lane, node_at, sources_at, with_lane, with_register, with_node, with_result, without_oldest, cut_from, without_newest, is_waiter_from, cut_flow, takes, taken, waits_in, with_speculative, with_held, released, queued, first_flow};
 
+use crate::active_list::{ActiveList, first_lists};
 use crate::operands::{Operands, Renamed};
 use arrayvec::ArrayVec;
 use core_view::EntryId;
 use issue_queue::{Order, Queue, Reading, Source};
 use join_law::Ctx;
 use rename_file::{PhysicalRegister, Registers, RenameFault};
-use reorder_buffer::Ring;
 use rv64_decode::Register;
 use std::alloc::{AllocError, Allocator, Global};
 use std::marker::Model;
@@ -29,9 +26,9 @@ use std::marker::Model;
 /// What the instructions in flight compute with. No call but `new` takes memory.
 #[derive(Drop)]
 pub struct DataFlow<A: Allocator = Global> {
-    renamed: Vec<Ring<Renamed, A>, A>,
     queue: Queue,
     registers: Registers<A>,
+    renamed: [ActiveList; 8],
 }
 
 impl<A: Allocator> Model for DataFlow<A> {
@@ -50,23 +47,17 @@ impl<A: Allocator + Copy> DataFlow<A> {
     /// in each context, and a queue of so many places.
     pub fn new(alloc: A, extra: usize, room: usize, places: usize) -> Result<Self, AllocError>
         requires extra { (32 ≤ extra) × (extra ≤ 224) }
+        requires room { room ≤ 64 }
         requires places { places ≤ 64 }
         ensures { IfOk result (λ d. d ≡ first_flow extra room places) }
     {
         let Ok(registers) = Registers::new(alloc, extra) else {
             return Err(AllocError);
         };
-        let mut renamed = Vec::new(alloc);
-        for _context in 0..8usize {
-            let Ok(ring) = Ring::new(alloc, room) else {
-                return Err(AllocError);
-            };
-            renamed.push(ring).map_err(AllocError::from)?;
-        }
         Ok(DataFlow {
             registers,
-            renamed,
             queue: Queue::new(places),
+            renamed: first_lists(room),
         })
     }
 }
@@ -95,8 +86,7 @@ impl<A: Allocator> DataFlow<A> {
         requires { place < length (lane self.now context).nodes }
         ensures { result ≡ sources_at (lane self.now context) place }
     {
-        let ring = &self.renamed[context.index()];
-        let renamed = ring.get(place).unwrap();
+        let renamed = self.renamed[context.index()].at(place);
         let first = self.registers.value(renamed.first)?;
         let second = self.registers.value(renamed.second)?;
         Some((first, second))
@@ -109,18 +99,8 @@ impl<A: Allocator> DataFlow<A> {
         requires free { 0 < operands.destination → taken self.old < self.old.extra }
         ensures { self.new ≡ with_lane self.old context (with_node (lane self.old context) operands) }
     {
-        let first = self.registers.source(context, operands.first.index());
-        let second = self.registers.source(context, operands.second.index());
-        let destination = rename_in(&mut self.registers, context, operands.destination);
-        let ring = &mut self.renamed[context.index()];
-        let Ok(()) = ring.push(Renamed {
-            operands,
-            destination,
-            first,
-            second,
-        }) else {
-            unreachable!();
-        };
+        let renamed = named(&mut self.registers, context, operands);
+        self.renamed[context.index()].push(renamed);
     }
 
     /// One more instruction of a context, the youngest, which waits for issue.
@@ -148,6 +128,7 @@ impl<A: Allocator> DataFlow<A> {
         } }
     {
         let newest = named(&mut self.registers, context, operands);
+        self.renamed[context.index()].push(newest);
         let queue = &mut self.queue;
         put_in(
             queue,
@@ -157,8 +138,6 @@ impl<A: Allocator> DataFlow<A> {
             guessed,
             speculative,
         );
-        let ring = &mut self.renamed[context.index()];
-        push_in(ring, newest);
     }
 
     /// The instruction at a place has its result.
@@ -167,8 +146,7 @@ impl<A: Allocator> DataFlow<A> {
         requires { place < length (lane self.old context).nodes }
         ensures { self.new ≡ with_lane self.old context (with_result (lane self.old context) place value) }
     {
-        let ring = &self.renamed[context.index()];
-        let renamed = at(ring, place);
+        let renamed = self.renamed[context.index()].at(place);
         let (destination, mask) = (renamed.destination, renamed.result_mask());
         let register = self.registers.write_masked(destination, value, mask);
         self.queue.wake(register);
@@ -181,8 +159,7 @@ impl<A: Allocator> DataFlow<A> {
         requires idle { waits_in self.old context (node_at (lane self.old context) 0).operands.stamp ≡ false }
         ensures { self.new ≡ with_lane self.old context (without_oldest (lane self.old context)) }
     {
-        let ring = &mut self.renamed[context.index()];
-        let oldest = ring.retire().unwrap();
+        let oldest = self.renamed[context.index()].pop_front();
         if oldest.has_destination() {
             self.registers.commit(context);
         }
@@ -217,8 +194,12 @@ impl<A: Allocator> DataFlow<A> {
     fn newest_stamp(&self, context: Ctx) -> Option<u64>
         ensures { result ≡ option_map (λ n. n.operands.stamp) (last_item (lane self.now context).nodes) }
     {
-        let ring = &self.renamed[context.index()];
-        let newest = ring.last()?;
+        let list = &self.renamed[context.index()];
+        let len = list.len();
+        if len == 0 {
+            return None;
+        }
+        let newest = list.at(len - 1);
         Some(newest.operands.stamp)
     }
 
@@ -228,8 +209,7 @@ impl<A: Allocator> DataFlow<A> {
         requires idle { waits_in self.old context (node_at (lane self.old context) (length (lane self.old context).nodes - 1)).operands.stamp ≡ false }
         ensures { self.new ≡ with_lane self.old context (without_newest (lane self.old context)) }
     {
-        let ring = &mut self.renamed[context.index()];
-        let newest = ring.pop_last().unwrap();
+        let newest = self.renamed[context.index()].pop_back();
         if newest.has_destination() {
             self.registers.undo(context);
         }
@@ -363,31 +343,6 @@ fn put_in<A: Allocator>(
         first,
         second,
     });
-}
-
-/// The instruction at a place that is there.
-#[inline(always)]
-fn at<A: Allocator>(ring: &Ring<Renamed, A>, place: usize) -> &Renamed
-    requires { place < length ring.now.items }
-    ensures { slice_get ring.now.items place ≡ Some result.now }
-{
-    let Some(renamed) = ring.get(place) else {
-        unreachable!();
-    };
-    renamed
-}
-
-/// One more instruction, the youngest, in a ring with room.
-#[inline(always)]
-fn push_in<A: Allocator>(ring: &mut Ring<Renamed, A>, renamed: Renamed)
-    requires room { length ring.old.items < ring.old.capacity }
-    requires younger { ForSome (last_item ring.old.items) (λ n. n.operands.stamp < renamed.operands.stamp) }
-    ensures pushed { ring.new ≡ buffer (ring.old.items ++ renamed ∷ []) ring.old.capacity }
-    ensures growing { IsGrowing (λ (n : Renamed). n.operands.stamp) ring.new.items }
-{
-    let Ok(()) = ring.push(renamed) else {
-        unreachable!();
-    };
 }
 
 /// A register as a source: it is waited for where it has no value yet.

@@ -3,7 +3,6 @@
 ghost use Rattle.std.specs.Prelude.{◌≡◌, ◌<◌, ◌==◌, not};
 
 use rename_file::PhysicalRegister;
-use reorder_buffer::Stamped;
 use rv64_decode::Register;
 
 /// The registers that an instruction in flight names: x0 where it has none.
@@ -20,7 +19,7 @@ pub struct Operands {
 }
 
 /// An instruction with the physical registers that these stand for.
-#[derive(Clone, Copy, Debug, PartialEq, Eq)]
+#[derive(Clone, Copy)]
 pub(crate) struct Renamed {
     /// The registers that it names.
     pub operands: Operands,
@@ -48,13 +47,5 @@ impl Renamed {
     {
         let count = (u64::from(self.operands.destination.index()) + 31) / 32;
         0u64.wrapping_sub(count)
-    }
-}
-
-impl Stamped for Renamed {
-    ghost stamp_of = { λ n. n.operands.stamp };
-
-    fn stamp(&self) -> u64 {
-        self.operands.stamp
     }
 }

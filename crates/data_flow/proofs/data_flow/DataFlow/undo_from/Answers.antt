@@ -1,28 +1,25 @@
 use Rattle.std.proofs.Common.{◌≡◌, length, arith, sym, ◌∙◌, ◌<◌, ◌≤◌, ◌-◌, ◌+◌}
 use Rattle.std.proofs.lemmas.Bool.Decides.{nat_tests}
 use Rattle.data_flow.specs.Flow.{lane}
-use Rattle.data_flow.proofs.Places.{here, eight}
+use Rattle.data_flow.proofs.Places.{here}
 use Rattle.data_flow.proofs.Cuts.{ordered, cut_none, youngest, cut_more, done_all, done_empty, done_below, idle_newest}
 use Rattle.data_flow.proofs.data_flow.DataFlow.undo_from.Goals as goal
 
-pub index-requires-2 : goal.index-requires-2
-index-requires-2 g c = omega (arith, (eight c.self.inside c.self.invariant).1, c.self.inside.renamed.ok.0)
-
 pub loop-done-init : goal.loop-done-init
 loop-done-init g c =
-    let h = here c.self.inside c.args.self.now c.args.context c.index.result c.index-2.result.now c.self.view_is c.self.invariant c.index.ensures.value c.index.ensures.bound c.index-2.ensures in
-    let all : c.len-len.result - 0 ≡ length (lane c.args.self.now c.args.context).nodes = omega (arith, h.count, c.len-len.ensures.len) in
+    let h = here c.self.inside c.args.self.now c.args.context c.index.result c.index-self-index.result c.self.view_is c.self.invariant c.index.ensures.value c.index.ensures.bound in
+    let all : c.len-len.result - 0 ≡ length (lane c.args.self.now c.args.context).nodes = omega (arith, h.count, c.len-len.ensures.value) in
     cut_none c.args.self.now c.args.context c.args.stamp (c.len-len.result - 0) all
 
 pub returns-in_default : goal.returns-in_default
 returns-in_default g c =
-    let h = here c.self.inside c.args.self.now c.args.context c.index.result c.index-2.result.now c.self.view_is c.self.invariant c.index.ensures.value c.index.ensures.bound c.index-2.ensures in
+    let h = here c.self.inside c.args.self.now c.args.context c.index.result c.index-self-index.result c.self.view_is c.self.invariant c.index.ensures.value c.index.ensures.bound in
     let o = ordered c.self.inside c.args.self.now c.args.context c.self.view_is c.self.invariant h.below in
     done_empty c.args.self.now c.loop-done.self c.args.context c.args.stamp (c.len-len.result - c.loop-done._done) o c.loop-done.invariant (sym c.newest_stamp.ensures ∙ c.in_default.is)
 
 pub returns-then-newest-stamp : goal.returns-then-newest-stamp
 returns-then-newest-stamp g c =
-    let h = here c.self.inside c.args.self.now c.args.context c.index.result c.index-2.result.now c.self.view_is c.self.invariant c.index.ensures.value c.index.ensures.bound c.index-2.ensures in
+    let h = here c.self.inside c.args.self.now c.args.context c.index.result c.index-self-index.result c.self.view_is c.self.invariant c.index.ensures.value c.index.ensures.bound in
     let o = ordered c.self.inside c.args.self.now c.args.context c.self.view_is c.self.invariant h.below in
     let last = youngest c.args.self.now c.loop-done.self c.args.context c.args.stamp (c.len-len.result - c.loop-done._done) c.in-Some.newest o c.loop-done.invariant (sym c.in-Some.ensures) in
     let lt : c.in-Some.newest < c.args.stamp = grind (arith, nat_tests, c.if-newest-stamp.true) in
@@ -30,7 +27,7 @@ returns-then-newest-stamp g c =
 
 pub undo_newest-requires-clause-idle : goal.undo_newest-requires-clause-idle
 undo_newest-requires-clause-idle g c =
-    let h = here c.self.inside c.args.self.now c.args.context c.index.result c.index-2.result.now c.self.view_is c.self.invariant c.index.ensures.value c.index.ensures.bound c.index-2.ensures in
+    let h = here c.self.inside c.args.self.now c.args.context c.index.result c.index-self-index.result c.self.view_is c.self.invariant c.index.ensures.value c.index.ensures.bound in
     let o = ordered c.self.inside c.args.self.now c.args.context c.self.view_is c.self.invariant h.below in
     let last = youngest c.args.self.now c.loop-done.self c.args.context c.args.stamp (c.len-len.result - c.loop-done._done) c.in-Some.newest o c.loop-done.invariant (sym c.in-Some.ensures) in
     let le : c.args.stamp ≤ c.in-Some.newest = grind (arith, nat_tests, c.if-newest-stamp.false) in
@@ -38,7 +35,7 @@ undo_newest-requires-clause-idle g c =
 
 pub loop-done-preserved : goal.loop-done-preserved
 loop-done-preserved g c =
-    let h = here c.self.inside c.args.self.now c.args.context c.index.result c.index-2.result.now c.self.view_is c.self.invariant c.index.ensures.value c.index.ensures.bound c.index-2.ensures in
+    let h = here c.self.inside c.args.self.now c.args.context c.index.result c.index-self-index.result c.self.view_is c.self.invariant c.index.ensures.value c.index.ensures.bound in
     let o = ordered c.self.inside c.args.self.now c.args.context c.self.view_is c.self.invariant h.below in
     let last = youngest c.args.self.now c.loop-done.self c.args.context c.args.stamp (c.len-len.result - c.loop-done._done) c.in-Some.newest o c.loop-done.invariant (sym c.in-Some.ensures) in
     let le : c.args.stamp ≤ c.in-Some.newest = grind (arith, nat_tests, c.if-newest-stamp.false) in
