@@ -1,4 +1,5 @@
-pub mod Rounds
+pub mod Numbered
+pub mod Written
 pub mod Maps
 pub mod Uses
 pub mod Banks

@@ -1,6 +1,7 @@
 pub mod FaultText
 pub mod File
-pub mod Round
+pub mod Slots
+pub mod Numbered
 pub mod Fresh
 pub mod Newest
 pub mod ShownMap

@@ -2,28 +2,31 @@
 
 ghost use Rattle.std.specs.Prelude.{◌≡◌, ◌-◌, ◌<◌, [], ◌∷◌, ◌++◌, Some, length, take, drop, slice_get};
 
-use crate::PhysicalRegister;
-use crate::rename_map::{Change, Rename};
+use crate::rename_map::Change;
+use crate::slots::Slots;
 use std::marker::Model;
 
-// At most 256 changes. They go round an array whose size is a power of two, so that a place is found without a test.
+// Changes are numbered modulo 256 as they come, and each stands in the slot of its number, so that a slot is found
+// without a test. There are at most 255, so that the two numbers tell how many.
 #[derive(Drop)]
 pub(crate) struct Changes {
-    start: usize,
-    len: usize,
-    places: [Change; 256],
+    // The number of the oldest.
+    head: u8,
+    // The number of the next that comes.
+    tail: u8,
+    slots: Slots,
 }
 
 impl Model for Changes {
-    ghost use Rattle.std.specs.Prelude.{◌≤◌, ◌<◌, List};
+    ghost use Rattle.std.specs.Prelude.{◌≤◌, List};
     ghost use Rattle.rename_file.specs.declared.rename_map.Change.{Change};
-    ghost use Rattle.rename_file.specs.Round.{changes_round};
+    ghost use Rattle.rename_file.specs.Numbered.{listed, count};
 
     ghost Value = { List Change };
 
-    ghost view = { λ c. changes_round c.places c.start c.len };
+    ghost view = { listed };
 
-    ghost invariant = { λ c. (c.start < 256) × (c.len ≤ 256) };
+    ghost invariant = { λ c. count c.head c.tail ≤ 255 };
 }
 
 impl Changes {
@@ -31,37 +34,32 @@ impl Changes {
     pub(crate) fn new() -> Changes
         ensures { result ≡ [] }
     {
-        let register = PhysicalRegister::at(0);
-        let rename = Rename { rd: 0, register };
-        let unused = Change {
-            rename,
-            previous: register,
-        };
         Changes {
-            places: [unused; 256],
-            start: 0,
-            len: 0,
+            head: 0,
+            tail: 0,
+            slots: Slots::new(),
         }
     }
 
     // One more change, the newest.
+    #[inline(always)]
     pub(crate) fn push(&mut self, change: Change)
-        requires { length self.old < 256 }
+        requires { length self.old < 255 }
         ensures { self.new ≡ self.old ++ change ∷ [] }
     {
-        self.places[(self.start + self.len) % 256] = change;
-        self.len += 1;
+        self.slots.write(usize::from(self.tail), change);
+        self.tail = self.tail.wrapping_add(1);
     }
 
     // The oldest change, which is taken off.
+    #[inline(always)]
     pub(crate) fn pop_front(&mut self) -> Change
         requires { 0 < length self.old }
         ensures value { slice_get self.old 0 ≡ Some result }
         ensures rest { self.new ≡ drop 1 self.old }
     {
-        let oldest = self.places[self.start];
-        self.start = (self.start + 1) % 256;
-        self.len -= 1;
+        let oldest = self.slots.read(usize::from(self.head));
+        self.head = self.head.wrapping_add(1);
         oldest
     }
 
@@ -71,7 +69,7 @@ impl Changes {
         ensures value { slice_get self.old (length self.old - 1) ≡ Some result }
         ensures rest { self.new ≡ take (length self.old - 1) self.old }
     {
-        self.len -= 1;
-        self.places[(self.start + self.len) % 256]
+        self.tail = self.tail.wrapping_sub(1);
+        self.slots.read(usize::from(self.tail))
     }
 }

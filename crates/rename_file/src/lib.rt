@@ -10,6 +10,7 @@ mod fault;
 mod physical_register;
 mod registers;
 mod rename_map;
+mod slots;
 
 pub use fault::RenameFault;
 pub use physical_register::PhysicalRegister;

@@ -80,7 +80,7 @@ impl RenameMap {
     // One more rename, the newest.
     pub(crate) fn push(&mut self, rd: u8, register: PhysicalRegister)
         requires name { rd < 32 }
-        requires room { length self.old.renames < 256 }
+        requires room { length self.old.renames < 255 }
         ensures { self.new ≡ renamed_bank self.old rd register }
     {
         let previous = self.current[rd as usize];

@@ -1,4 +1,4 @@
-use Rattle.std.proofs.Common.{ℕ, List, [], ◌∷◌, get_or}
+use Rattle.std.proofs.Common.{List, [], ◌∷◌, get_or}
 use Rattle.join_law.proofs.Laws.{each_place}
 use Rattle.rename_file.specs.File.{Bank, no_bank}
 use Rattle.rename_file.specs.Fresh.{IsFirst}

@@ -1,12 +1,10 @@
 use Rattle.std.proofs.Common.{arith}
-use Rattle.rename_file.specs.Round.{no_change}
-use Rattle.rename_file.proofs.Rounds.{popped_front}
+use Rattle.rename_file.specs.Slots.{slot_at}
+use Rattle.rename_file.proofs.Numbered.{oldest_at, popped_front}
 use Rattle.rename_file.proofs.changes.Changes.pop_front.Goals as goal
 
 pub returns-clause-value : goal.returns-clause-value
-returns-clause-value c =
-    let k = popped_front no_change c.self.inside.places c.self.inside.start c.self.inside.len c.args.self.now c.index-self-self.result c.self.view_is c.requires (omega arith) c.self.invariant.0 c.index-self-self.is in
-    rw (← c.index-self-self.is) k.0
+returns-clause-value c = rw (c.read-oldest.ensures, c.from.ensures) (oldest_at (slot_at c.self.inside.slots) c.self.inside.head c.self.inside.tail c.args.self.now c.self.view_is (omega arith) c.requires)
 
 pub returns-clause-rest : goal.returns-clause-rest
-returns-clause-rest c = (popped_front no_change c.self.inside.places c.self.inside.start c.self.inside.len c.args.self.now c.index-self-self.result c.self.view_is c.requires (omega arith) c.self.invariant.0 c.index-self-self.is).1
+returns-clause-rest c = popped_front (slot_at c.self.inside.slots) c.self.inside.head c.self.inside.tail c.args.self.now c.self.view_is (omega arith) (omega arith) c.requires

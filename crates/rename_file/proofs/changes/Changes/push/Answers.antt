@@ -1,7 +1,13 @@
-use Rattle.std.proofs.Common.{arith}
-use Rattle.rename_file.specs.Round.{no_change}
-use Rattle.rename_file.proofs.Rounds.{pushed}
+use Rattle.std.proofs.Common.{ℕ, arith}
+use Rattle.rename_file.specs.Slots.{slot_at, with_slot}
+use Rattle.rename_file.proofs.Numbered.{pushed}
+use Rattle.rename_file.proofs.Written.{AreWide, slot_written, slot_kept}
 use Rattle.rename_file.proofs.changes.Changes.push.Goals as goal
 
 pub returns : goal.returns
-returns c = pushed no_change c.self.inside.places c.self.inside.start c.self.inside.len c.args.self.now c.args.change c.self.view_is (omega arith) c.requires
+returns c =
+    let slots = c.self.inside.slots in
+    let here : ℕ = c.self.inside.tail in
+    let wide : AreWide slots = record { names = omega arith; registers = omega arith; previous = omega arith } in
+    rw (c.write.ensures, c.from.ensures) (pushed (slot_at slots) (slot_at (with_slot slots here c.args.change)) c.self.inside.head here c.args.self.now c.args.change
+    c.self.view_is (omega arith) (omega arith) c.requires (slot_written slots here c.args.change wide (omega arith)) (λ i other. slot_kept slots here i c.args.change other))

@@ -1,4 +1,4 @@
-use Rattle.std.proofs.Common.{rules, ◌≡◌, ℕ, Option, ◌+◌, ◌++◌, ◌∷◌, [], Some, length, replicate, arith}
+use Rattle.std.proofs.Common.{rules, ◌≡◌, ℕ, Option, ◌+◌, Some, length, replicate, arith}
 use Rattle.std.proofs.lemmas.List.{length_push, length-replicate}
 use Rattle.rename_file.proofs.Starts.{first_file, row_more}
 use Rattle.rename_file.proofs.registers.Registers.try_new.Goals as goal
