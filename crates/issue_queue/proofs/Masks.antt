@@ -19,11 +19,13 @@ use Rattle.issue_queue.specs.declared.slots.Slots.{Slots}
 use Rattle.issue_queue.specs.declared.selecting.Candidate.{Candidate}
 use Rattle.issue_queue.specs.Candidates.{is_at}
 use Rattle.word_mask.specs.Mask.{has}
-use Rattle.issue_queue.specs.Board.{slot, narrowed, is_waiter, blank, InStep, IsMask, waits_for, is_of, is_guessed}
+use Rattle.issue_queue.specs.Board.{slot, narrowed, is_waiter, InStep, IsMask, waits_for, is_of, is_guessed}
+use Rattle.issue_queue.specs.Entries.{AreWide, entry_at, with_entry}
 use Rattle.issue_queue.specs.Entry.{Entry, is_ready, is_supplied, is_named, waits_for_two, are_two}
 use Rattle.issue_queue.specs.IssueQueue.{awake, is_from}
 use Rattle.issue_queue.specs.Views.{AreAlike, as_entry, awaited_of, entered, queued_of, reads_of}
 use Rattle.word_mask.proofs.Laws.{has_zero, eqb_swap}
+use Rattle.issue_queue.proofs.Entered.{entry_written, entry_kept}
 use Rattle.issue_queue.proofs.Walks.{IsSought, IsCut, IsTaken}
 
 -- ---- what stands at the places
@@ -41,18 +43,15 @@ filter_both : {X : Type 0} (f g : X → Bool) (xs : List X) → filter f (filter
 filter_both f g [] = refl
 filter_both f g (x ∷ xs) = filter_both_at f g x xs (g x) (filter_both f g xs)
 
--- what stands at the places after one changes
-pub slot-changed : (g : Entry → Entry) (s t : Slots) (place : ℕ) (q old : Queued) → place < length s.entries → t.entries ≡ set s.entries place q → t.held ≡ s.held → t.waiters ≡ s.waiters
-    → old ≡ get_or s.entries place blank → ((held : Bool) → as_entry held q ≡ g (as_entry held old)) → ((e : Entry) → narrowed s.waiters place (g e) ≡ g (narrowed s.waiters place e))
-    → (p : ℕ) → slot t p ≡ cond (eqb p place) (g (slot s p)) (slot s p)
-slot-changed g s t place q old lt entries held waiters is change through p = rw (entries, held, waiters) (elim (eqb_tells p place) [
-  | inl b ↦
-      let flag : Bool = has s.held place in
-      let at_place : Entry → Entry = narrowed s.waiters place in
-      rw (b.0, b.1)
-      (ap (λ o. at_place (as_entry flag o)) (get_or-set_same s.entries place q blank lt) ∙ ap at_place (change flag) ∙ through (as_entry flag old) ∙ ap (λ o. g (at_place (as_entry flag o))) is)
-  | inr b ↦ rw b.0 (ap (λ o. narrowed s.waiters p (as_entry (has s.held p) o)) (get_or-set_other s.entries place p q blank b.1))
-])
+-- what stands at the places after one is marked
+pub slot_marked : (s t : Slots) (place : ℕ) (flag : Bool) → AreWide s.entries → place < 64 → t.entries ≡ record s.entries { speculative = set s.entries.speculative place flag } → t.held ≡ s.held → t.waiters ≡ s.waiters
+    → (p : ℕ) → slot t p ≡ cond (eqb p place) (record (slot s p) { speculative = flag }) (slot s p)
+slot_marked s t place flag wide lt entries held waiters p =
+    let marked : Bool → Entry = λ speculative. record (slot s p) { speculative = speculative } in
+    rw (entries, held, waiters) (elim (eqb_tells p place) [
+      | inl b ↦ rw b.0 (ap marked (rw b.1 (get_or-set_same s.entries.speculative place flag false (omega (arith, wide.speculative, lt)))))
+      | inr b ↦ rw b.0 (ap marked (get_or-set_other s.entries.speculative place p flag false b.1))
+    ])
 
 narrowed_same : (v w : List ℕ) (p : ℕ) (e : Entry) → ((r : ℕ) → is_waiter v p r ≡ is_waiter w p r) → narrowed v p e ≡ narrowed w p e
 narrowed_same v w p e h = ap (λ ws. record e { waits = ws }) (filter_same (is_waiter v p) (is_waiter w p) e.waits h)
@@ -87,31 +86,34 @@ left_awaited f x y false true same h =
 left_awaited f x y false false same h = rw (h x, h y) refl
 
 -- an entry enters at a place that no word has, and its place the words of the registers that it waits for
-pub slot_put : (s t : Slots) (place : ℕ) (q : Queued) (r : Reading) → place < length s.entries → q ≡ queued_of r → t.entries ≡ set s.entries place q
+pub slot_put : (s t : Slots) (place : ℕ) (q : Queued) (r : Reading) → AreWide s.entries → place < 64 → q ≡ queued_of r → t.entries ≡ with_entry s.entries place q
     → ((p : ℕ) → has t.held p ≡ cond (eqb p place) false (has s.held p))
     → ((k p : ℕ) → has (slice_index t.waiters k) p ≡ cond (eqb p place && list_any (λ w. eqb w k) (awaited_of r.first ++ awaited_of r.second)) true (has (slice_index s.waiters k) p))
     → ((k : ℕ) → has (slice_index s.waiters k) place ≡ false) → AreAlike r → (p : ℕ) → slot t p ≡ cond (eqb p place) (entered r) (slot s p)
-slot_put s t place q r lt is entries held waiters free alike p = rw (entries, is) (elim (eqb_tells p place) [
-  | inl b ↦
-      let flag : has t.held p ≡ false = held p ∙ rw b.0 refl in
-      let word : (k : ℕ) → is_waiter t.waiters p k ≡ list_any (λ w. eqb w k) (awaited_of r.first ++ awaited_of r.second) =
-      λ k. waiters k p ∙ rw (b.0, b.1, free k) (cond_true (list_any (λ w. eqb w k) (awaited_of r.first ++ awaited_of r.second))) in
-      let left : filter (is_waiter t.waiters p) (reads_of (queued_of r)) ≡ awaited_of r.first ++ awaited_of r.second =
-      left_awaited (is_waiter t.waiters p) r.first.register r.second.register r.first.awaited r.second.awaited alike word in
-      let same : get_or (set s.entries place (queued_of r)) p blank ≡ queued_of r = rw b.1 (get_or-set_same s.entries place (queued_of r) blank lt) in
-      rw (b.0, flag, same) (ap (λ ws. record (entered r) { waits = ws }) left)
-  | inr b ↦
-      let flag : has t.held p ≡ has s.held p = held p ∙ rw b.0 refl in
-      rw (b.0, flag, get_or-set_other s.entries place p (queued_of r) blank b.1)
-      (narrowed_same t.waiters s.waiters p (as_entry (has s.held p) (get_or s.entries p blank)) (λ k. waiters k p ∙ rw b.0 refl))
-])
+slot_put s t place q r wide lt is entries held waiters free alike p =
+    let at_place : Queued → Entry = λ o. narrowed t.waiters p (as_entry (has t.held p) o) in
+    elim (eqb_tells p place) [
+      | inl b ↦
+          let flag : has t.held p ≡ false = held p ∙ rw b.0 refl in
+          let word : (k : ℕ) → is_waiter t.waiters p k ≡ list_any (λ w. eqb w k) (awaited_of r.first ++ awaited_of r.second) =
+          λ k. waiters k p ∙ rw (b.0, b.1, free k) (cond_true (list_any (λ w. eqb w k) (awaited_of r.first ++ awaited_of r.second))) in
+          let left : filter (is_waiter t.waiters p) (reads_of (queued_of r)) ≡ awaited_of r.first ++ awaited_of r.second =
+          left_awaited (is_waiter t.waiters p) r.first.register r.second.register r.first.awaited r.second.awaited alike word in
+          let here : entry_at t.entries p ≡ queued_of r = ap₂ entry_at entries b.1 ∙ entry_written s.entries place q wide lt ∙ is in
+          ap at_place here ∙ rw (b.0, flag) (ap (λ ws. record (entered r) { waits = ws }) left)
+      | inr b ↦
+          let flag : has t.held p ≡ has s.held p = held p ∙ rw b.0 refl in
+          let kept : entry_at t.entries p ≡ entry_at s.entries p = ap (λ e. entry_at e p) entries ∙ entry_kept s.entries place p q b.1 in
+          ap at_place kept ∙ rw (b.0, flag)
+          (narrowed_same t.waiters s.waiters p (as_entry (has s.held p) (entry_at s.entries p)) (λ k. waiters k p ∙ rw b.0 refl))
+    ]
 
 -- the bits of one place left words: what stands at the others is as it was
 pub slot_forgotten : (s t : Slots) (place : ℕ) (ws : List ℕ) → t.entries ≡ s.entries → t.held ≡ s.held
     → ((r p : ℕ) → has (slice_index t.waiters r) p ≡ cond (eqb p place && list_any (λ w. eqb w r) ws) false (has (slice_index s.waiters r) p))
     → (p : ℕ) → eqb p place ≡ false → slot t p ≡ slot s p
 slot_forgotten s t place ws entries held waiters p other =
-    rw (entries, held) (narrowed_same t.waiters s.waiters p (as_entry (has s.held p) (get_or s.entries p blank)) (λ r. waiters r p ∙ rw other refl))
+    rw (entries, held) (narrowed_same t.waiters s.waiters p (as_entry (has s.held p) (entry_at s.entries p)) (λ r. waiters r p ∙ rw other refl))
 
 is_waiter_without : (w : List ℕ) (r p k : ℕ) → r < length w → is_waiter (set w r 0) p k ≡ (is_waiter w p k && not (eqb k r))
 is_waiter_without w r p k lt = elim (eqb_tells k r) [
@@ -122,7 +124,7 @@ is_waiter_without w r p k lt = elim (eqb_tells k r) [
 -- a register's word is emptied: no entry waits for it any more
 pub slot_woken : (s t : Slots) (r : ℕ) → r < length s.waiters → t.entries ≡ s.entries → t.held ≡ s.held → t.waiters ≡ set s.waiters r 0 → (p : ℕ) → slot t p ≡ awake r (slot s p)
 slot_woken s t r lt entries held waiters p =
-    let e : Entry = as_entry (has s.held p) (get_or s.entries p blank) in
+    let e : Entry = as_entry (has s.held p) (entry_at s.entries p) in
     rw (entries, held, waiters) (ap (λ ws. record e { waits = ws })
     (filter_same (is_waiter (set s.waiters r 0) p) (λ k. is_waiter s.waiters p k && not (eqb k r)) e.waits (λ k. is_waiter_without s.waiters r p k lt)
     ∙ sym (filter_both (λ k. not (eqb k r)) (is_waiter s.waiters p) e.waits)))
@@ -303,7 +305,7 @@ two_awake r (x ∷ y ∷ z ∷ ws) h = absurd (omega (arith, h))
 -- an entry waits for at most two registers
 waits_short : (slots : Slots) (p : ℕ) → length (slot slots p).waits ≤ 2
 waits_short slots p =
-    let q : Queued = get_or slots.entries p blank in
+    let q : Queued = entry_at slots.entries p in
     omega (arith, length-filter (is_waiter slots.waiters p) (reads_of q), count_by-le-length (is_waiter slots.waiters p) (reads_of q))
 
 or_and_at : (v s w t : Bool) → ((v && s) || ((v && w) && not (v && t))) ≡ (v && (s || (w && not t)))
@@ -411,13 +413,13 @@ free_at test b s new place word newer valid slots others here m p = elim (eqb_te
   | inr t ↦ rw (valid p, t.0, slots p t.0) (others p t.0 ∙ m p ∙ ap (λ x. x && test (slot b.slots p)) (sym (and-true (has b.valid p))))
 ]
 
-pub free_in_step : (b c : Places) (place : ℕ) (q : Queued) (context : ℕ) → has b.valid place ≡ true → q ≡ get_or b.slots.entries place blank → context ≡ q.context → context < 8
+pub free_in_step : (b c : Places) (place : ℕ) (q : Queued) (context : ℕ) → has b.valid place ≡ true → q ≡ entry_at b.slots.entries place → context ≡ q.context → context < 8
     → ((p : ℕ) → has c.valid p ≡ (has b.valid p && not (eqb p place)))
     → ((p : ℕ) → eqb p place ≡ false → slot c.slots p ≡ slot b.slots p)
     → ((p : ℕ) → has c.supplied p ≡ cond (eqb p place) false (has b.supplied p)) → ((p : ℕ) → has c.two p ≡ cond (eqb p place) false (has b.two p))
     → ((p : ℕ) → has c.guesses p ≡ cond (eqb p place) false (has b.guesses p))
     → ((i p : ℕ) → has (slice_index c.contexts i) p ≡ cond (eqb p place && eqb i context) false (has (slice_index b.contexts i) p))
-    → ((r p : ℕ) → has (slice_index c.slots.waiters r) p ≡ cond (eqb p place && list_any (λ w. eqb w r) (reads_of (get_or b.slots.entries place blank))) false (has (slice_index b.slots.waiters r) p))
+    → ((r p : ℕ) → has (slice_index c.slots.waiters r) p ≡ cond (eqb p place && list_any (λ w. eqb w r) (reads_of (entry_at b.slots.entries place))) false (has (slice_index b.slots.waiters r) p))
     → InStep b → InStep c
 free_in_step b c place q context taken is own bound valid slots supplied two guesses contexts waiters h =
     let same : eqb place place ≡ true = eq-eqb place place refl in
@@ -431,8 +433,8 @@ free_in_step b c place q context taken is own bound valid slots supplied two gue
           (contexts k place ∙ rw same (freed_bit (eqb k context) (has (slice_index b.contexts k) place) (λ f. h.contexts k below place ∙ and_right (has b.valid place) (is_of k (slot b.slots place)) (ap (λ x. eqb x k) (sym (own ∙ ap (λ x. x.context) is)) ∙ eqb_swap context k ∙ f))))
           (h.contexts k below);
       waiters = λ r below. free_at (waits_for r) b c.slots c.valid place (slice_index b.slots.waiters r) (slice_index c.slots.waiters r) valid slots (λ p t. waiters r p ∙ rw t refl)
-          (waiters r place ∙ rw same (freed_bit (list_any (λ w. eqb w r) (reads_of (get_or b.slots.entries place blank))) (has (slice_index b.slots.waiters r) place)
-          (λ f. h.waiters r below place ∙ and_right (has b.valid place) (waits_for r (slot b.slots place)) (any_filtered (is_waiter b.slots.waiters place) r (reads_of (get_or b.slots.entries place blank)) f))))
+          (waiters r place ∙ rw same (freed_bit (list_any (λ w. eqb w r) (reads_of (entry_at b.slots.entries place))) (has (slice_index b.slots.waiters r) place)
+          (λ f. h.waiters r below place ∙ and_right (has b.valid place) (waits_for r (slot b.slots place)) (any_filtered (is_waiter b.slots.waiters place) r (reads_of (entry_at b.slots.entries place)) f))))
           (h.waiters r below);
     }
 

@@ -1,17 +1,14 @@
 -- Sixty-four places, and words with a bit for each.
-use Rattle.std.specs.Prelude.{◌≡◌, ℕ, ◌<◌, ◌≤◌, Bool, true, false, List, map, filter, length, ◌&&◌, ◌==◌, slice_index, slice_index_or, AllPairs}
+use Rattle.std.specs.Prelude.{◌≡◌, ℕ, ◌<◌, ◌≤◌, Bool, true, false, List, map, filter, length, ◌&&◌, ◌==◌, slice_index, AllPairs}
 use Rattle.std.specs.List.{list_any}
 use Rattle.issue_queue.specs.declared.places.Places.{Places}
 use Rattle.issue_queue.specs.declared.arrivals.Arrivals.{Arrivals}
-use Rattle.issue_queue.specs.declared.entry.Queued.{Queued}
 use Rattle.issue_queue.specs.declared.slots.Slots.{Slots}
 use Rattle.word_mask.specs.Mask.{has}
 use Rattle.issue_queue.specs.Arrivals.{IsNumbered, arrived}
+use Rattle.issue_queue.specs.Entries.{entry_at}
 use Rattle.issue_queue.specs.Views.{as_entry}
 use Rattle.issue_queue.specs.Entry.{Entry, AreDistinct, is_supplied, waits_for_two}
-
-abbrev pub blank : Queued
-blank = record { stamp = 0; context = 0; guessed = false; speculative = false; first = 0; second = 0 }
 
 -- the place stands in the word of a register
 abbrev pub is_waiter : List ℕ → ℕ → ℕ → Bool
@@ -23,7 +20,7 @@ narrowed waiters place e = record e { waits = filter (is_waiter waiters place) e
 
 -- the entry of a place
 abbrev pub slot : Slots → ℕ → Entry
-slot slots place = narrowed slots.waiters place (as_entry (has slots.held place) (slice_index_or slots.entries place blank))
+slot slots place = narrowed slots.waiters place (as_entry (has slots.held place) (entry_at slots.entries place))
 
 -- one of its sources is this register
 abbrev pub waits_for : ℕ → Entry → Bool
