@@ -1,5 +1,5 @@
 -- What stands at a place after an entry enters at one.
-use Rattle.std.proofs.Common.{◌≡◌, ◌≢◌, ℕ, ◌<◌, false, length, refl, arith}
+use Rattle.std.proofs.Common.{◌≡◌, ◌≢◌, ℕ, ◌<◌, false, refl, arith}
 use Rattle.std.proofs.lemmas.List.{get_or-set_same, get_or-set_other}
 use Rattle.issue_queue.specs.declared.entry.Queued.{Queued}
 use Rattle.issue_queue.specs.declared.entries.Entries.{Entries}

@@ -17,7 +17,7 @@ use rename_file::PhysicalRegister;
 /// registers that it reads whose words have its place.
 #[derive(Drop)]
 pub(crate) struct Slots {
-    /// The places of loads that are held.
+    /// The places of loads that are held. None of them is free, so that an entry that enters has no bit to clear.
     held: u64,
     /// What entered at each place; at one that is free, what stood there last.
     entries: Entries,
@@ -70,7 +70,8 @@ fn add_sources(words: &mut [u64; 480], reading: &Reading, place: usize)
 impl Slots {
     /// Blank entries, none of them held.
     pub(crate) fn new() -> Slots
-        ensures { (r : ℕ) → r < 480 → slice_index result.waiters r ≡ 0 }
+        ensures held { result.held ≡ 0 }
+        ensures waiters { (r : ℕ) → r < 480 → slice_index result.waiters r ≡ 0 }
     {
         Slots {
             entries: Entries::new(),
@@ -95,17 +96,17 @@ impl Slots {
         self.held
     }
 
-    /// An entry enters at a place.
+    /// An entry enters at a place that no word has.
     #[inline(always)]
     pub(crate) fn put(&mut self, place: usize, reading: &Reading)
         requires bound { place < 64 }
         requires free { (r : ℕ) → has (slice_index self.old.waiters r) place ≡ false }
+        requires let_go { has self.old.held place ≡ false }
         requires alike { AreAlike reading.now }
         ensures slots { (p : ℕ) → slot self.new p ≡ (if p == place then entered reading.now else slot self.old p) }
         ensures waiters { (r p : ℕ) → has (slice_index self.new.waiters r) p ≡ (if (p == place) && waits_for r (entered reading.now) then true else has (slice_index self.old.waiters r) p) }
     {
         self.entries.write(place, Queued::new(reading));
-        self.held = word_mask::assigned(self.held, place, false);
         add_sources(&mut self.waiters, reading, place);
     }
 
