@@ -2,6 +2,7 @@ pub mod Named
 pub mod Lists
 pub mod Ranked
 pub mod Walks
+pub mod Entered
 pub mod Masks
 pub mod Kept
 pub mod Arrived

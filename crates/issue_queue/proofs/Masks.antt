@@ -1,5 +1,5 @@
 -- Masks in step with the places.
-use Rattle.std.proofs.Common.{◌≡◌, ℕ, zero, suc, max, ◌++◌, ◌<◌, ◌≤◌, inl, inr, Bool, true, false, cond, not, ◌&&◌, ◌||◌, eqb, List, [], ◌∷◌, length, get_or, set, replicate, refl, ap, ap₂, sym, subst, ◌∙◌, arith, take_all}
+use Rattle.std.proofs.Common.{◌≡◌, ℕ, zero, suc, max, ◌++◌, ◌<◌, ◌≤◌, ◌⊎◌, inl, inr, Bool, true, false, cond, not, ◌&&◌, ◌||◌, eqb, List, [], ◌∷◌, length, set, replicate, refl, ap, ap₂, sym, subst, ◌∙◌, arith, take_all}
 use Rattle.std.specs.Prelude.{slice_index, nat_le}
 use Rattle.std.specs.List.{All, filter, list_any}
 use Rattle.std.specs.Int.{bit_at}
@@ -19,11 +19,13 @@ use Rattle.issue_queue.specs.declared.slots.Slots.{Slots}
 use Rattle.issue_queue.specs.declared.selecting.Candidate.{Candidate}
 use Rattle.issue_queue.specs.Candidates.{is_at}
 use Rattle.word_mask.specs.Mask.{has}
-use Rattle.issue_queue.specs.Board.{slot, narrowed, is_waiter, blank, InStep, IsMask, waits_for, is_of, is_guessed}
+use Rattle.issue_queue.specs.Board.{slot, narrowed, is_waiter, InStep, IsMask, waits_for, is_of, is_guessed}
+use Rattle.issue_queue.specs.Entries.{AreWide, entry_at, with_entry}
 use Rattle.issue_queue.specs.Entry.{Entry, is_ready, is_supplied, is_named, waits_for_two, are_two}
 use Rattle.issue_queue.specs.IssueQueue.{awake, is_from}
 use Rattle.issue_queue.specs.Views.{AreAlike, as_entry, awaited_of, entered, queued_of, reads_of}
 use Rattle.word_mask.proofs.Laws.{has_zero, eqb_swap}
+use Rattle.issue_queue.proofs.Entered.{entry_written, entry_kept}
 use Rattle.issue_queue.proofs.Walks.{IsSought, IsCut, IsTaken}
 
 -- ---- what stands at the places
@@ -41,18 +43,15 @@ filter_both : {X : Type 0} (f g : X → Bool) (xs : List X) → filter f (filter
 filter_both f g [] = refl
 filter_both f g (x ∷ xs) = filter_both_at f g x xs (g x) (filter_both f g xs)
 
--- what stands at the places after one changes
-pub slot-changed : (g : Entry → Entry) (s t : Slots) (place : ℕ) (q old : Queued) → place < length s.entries → t.entries ≡ set s.entries place q → t.held ≡ s.held → t.waiters ≡ s.waiters
-    → old ≡ get_or s.entries place blank → ((held : Bool) → as_entry held q ≡ g (as_entry held old)) → ((e : Entry) → narrowed s.waiters place (g e) ≡ g (narrowed s.waiters place e))
-    → (p : ℕ) → slot t p ≡ cond (eqb p place) (g (slot s p)) (slot s p)
-slot-changed g s t place q old lt entries held waiters is change through p = rw (entries, held, waiters) (elim (eqb_tells p place) [
-  | inl b ↦
-      let flag : Bool = has s.held place in
-      let at_place : Entry → Entry = narrowed s.waiters place in
-      rw (b.0, b.1)
-      (ap (λ o. at_place (as_entry flag o)) (get_or-set_same s.entries place q blank lt) ∙ ap at_place (change flag) ∙ through (as_entry flag old) ∙ ap (λ o. g (at_place (as_entry flag o))) is)
-  | inr b ↦ rw b.0 (ap (λ o. narrowed s.waiters p (as_entry (has s.held p) o)) (get_or-set_other s.entries place p q blank b.1))
-])
+-- what stands at the places after one is marked
+pub slot_marked : (s t : Slots) (place : ℕ) (flag : Bool) → AreWide s.entries → place < 64 → t.entries ≡ record s.entries { speculative = set s.entries.speculative place flag } → t.held ≡ s.held → t.waiters ≡ s.waiters
+    → (p : ℕ) → slot t p ≡ cond (eqb p place) (record (slot s p) { speculative = flag }) (slot s p)
+slot_marked s t place flag wide lt entries held waiters p =
+    let marked : Bool → Entry = λ speculative. record (slot s p) { speculative = speculative } in
+    rw (entries, held, waiters) (elim (eqb_tells p place) [
+      | inl b ↦ rw b.0 (ap marked (rw b.1 (get_or-set_same s.entries.speculative place flag false (omega (arith, wide.speculative, lt)))))
+      | inr b ↦ rw b.0 (ap marked (get_or-set_other s.entries.speculative place p flag false b.1))
+    ])
 
 narrowed_same : (v w : List ℕ) (p : ℕ) (e : Entry) → ((r : ℕ) → is_waiter v p r ≡ is_waiter w p r) → narrowed v p e ≡ narrowed w p e
 narrowed_same v w p e h = ap (λ ws. record e { waits = ws }) (filter_same (is_waiter v p) (is_waiter w p) e.waits h)
@@ -87,31 +86,34 @@ left_awaited f x y false true same h =
 left_awaited f x y false false same h = rw (h x, h y) refl
 
 -- an entry enters at a place that no word has, and its place the words of the registers that it waits for
-pub slot_put : (s t : Slots) (place : ℕ) (q : Queued) (r : Reading) → place < length s.entries → q ≡ queued_of r → t.entries ≡ set s.entries place q
-    → ((p : ℕ) → has t.held p ≡ cond (eqb p place) false (has s.held p))
+pub slot_put : (s t : Slots) (place : ℕ) (q : Queued) (r : Reading) → AreWide s.entries → place < 64 → q ≡ queued_of r → t.entries ≡ with_entry s.entries place q
+    → t.held ≡ s.held → has s.held place ≡ false
     → ((k p : ℕ) → has (slice_index t.waiters k) p ≡ cond (eqb p place && list_any (λ w. eqb w k) (awaited_of r.first ++ awaited_of r.second)) true (has (slice_index s.waiters k) p))
     → ((k : ℕ) → has (slice_index s.waiters k) place ≡ false) → AreAlike r → (p : ℕ) → slot t p ≡ cond (eqb p place) (entered r) (slot s p)
-slot_put s t place q r lt is entries held waiters free alike p = rw (entries, is) (elim (eqb_tells p place) [
-  | inl b ↦
-      let flag : has t.held p ≡ false = held p ∙ rw b.0 refl in
-      let word : (k : ℕ) → is_waiter t.waiters p k ≡ list_any (λ w. eqb w k) (awaited_of r.first ++ awaited_of r.second) =
-      λ k. waiters k p ∙ rw (b.0, b.1, free k) (cond_true (list_any (λ w. eqb w k) (awaited_of r.first ++ awaited_of r.second))) in
-      let left : filter (is_waiter t.waiters p) (reads_of (queued_of r)) ≡ awaited_of r.first ++ awaited_of r.second =
-      left_awaited (is_waiter t.waiters p) r.first.register r.second.register r.first.awaited r.second.awaited alike word in
-      let same : get_or (set s.entries place (queued_of r)) p blank ≡ queued_of r = rw b.1 (get_or-set_same s.entries place (queued_of r) blank lt) in
-      rw (b.0, flag, same) (ap (λ ws. record (entered r) { waits = ws }) left)
-  | inr b ↦
-      let flag : has t.held p ≡ has s.held p = held p ∙ rw b.0 refl in
-      rw (b.0, flag, get_or-set_other s.entries place p (queued_of r) blank b.1)
-      (narrowed_same t.waiters s.waiters p (as_entry (has s.held p) (get_or s.entries p blank)) (λ k. waiters k p ∙ rw b.0 refl))
-])
+slot_put s t place q r wide lt is entries held let_go waiters free alike p =
+    let at_place : Queued → Entry = λ o. narrowed t.waiters p (as_entry (has t.held p) o) in
+    elim (eqb_tells p place) [
+      | inl b ↦
+          let flag : has t.held p ≡ false = ap₂ has held b.1 ∙ let_go in
+          let word : (k : ℕ) → is_waiter t.waiters p k ≡ list_any (λ w. eqb w k) (awaited_of r.first ++ awaited_of r.second) =
+          λ k. waiters k p ∙ rw (b.0, b.1, free k) (cond_true (list_any (λ w. eqb w k) (awaited_of r.first ++ awaited_of r.second))) in
+          let left : filter (is_waiter t.waiters p) (reads_of (queued_of r)) ≡ awaited_of r.first ++ awaited_of r.second =
+          left_awaited (is_waiter t.waiters p) r.first.register r.second.register r.first.awaited r.second.awaited alike word in
+          let here : entry_at t.entries p ≡ queued_of r = ap₂ entry_at entries b.1 ∙ entry_written s.entries place q wide lt ∙ is in
+          ap at_place here ∙ rw (b.0, flag) (ap (λ ws. record (entered r) { waits = ws }) left)
+      | inr b ↦
+          let flag : has t.held p ≡ has s.held p = ap (λ w. has w p) held in
+          let kept : entry_at t.entries p ≡ entry_at s.entries p = ap (λ e. entry_at e p) entries ∙ entry_kept s.entries place p q b.1 in
+          ap at_place kept ∙ rw (b.0, flag)
+          (narrowed_same t.waiters s.waiters p (as_entry (has s.held p) (entry_at s.entries p)) (λ k. waiters k p ∙ rw b.0 refl))
+    ]
 
 -- the bits of one place left words: what stands at the others is as it was
 pub slot_forgotten : (s t : Slots) (place : ℕ) (ws : List ℕ) → t.entries ≡ s.entries → t.held ≡ s.held
     → ((r p : ℕ) → has (slice_index t.waiters r) p ≡ cond (eqb p place && list_any (λ w. eqb w r) ws) false (has (slice_index s.waiters r) p))
     → (p : ℕ) → eqb p place ≡ false → slot t p ≡ slot s p
 slot_forgotten s t place ws entries held waiters p other =
-    rw (entries, held) (narrowed_same t.waiters s.waiters p (as_entry (has s.held p) (get_or s.entries p blank)) (λ r. waiters r p ∙ rw other refl))
+    rw (entries, held) (narrowed_same t.waiters s.waiters p (as_entry (has s.held p) (entry_at s.entries p)) (λ r. waiters r p ∙ rw other refl))
 
 is_waiter_without : (w : List ℕ) (r p k : ℕ) → r < length w → is_waiter (set w r 0) p k ≡ (is_waiter w p k && not (eqb k r))
 is_waiter_without w r p k lt = elim (eqb_tells k r) [
@@ -122,7 +124,7 @@ is_waiter_without w r p k lt = elim (eqb_tells k r) [
 -- a register's word is emptied: no entry waits for it any more
 pub slot_woken : (s t : Slots) (r : ℕ) → r < length s.waiters → t.entries ≡ s.entries → t.held ≡ s.held → t.waiters ≡ set s.waiters r 0 → (p : ℕ) → slot t p ≡ awake r (slot s p)
 slot_woken s t r lt entries held waiters p =
-    let e : Entry = as_entry (has s.held p) (get_or s.entries p blank) in
+    let e : Entry = as_entry (has s.held p) (entry_at s.entries p) in
     rw (entries, held, waiters) (ap (λ ws. record e { waits = ws })
     (filter_same (is_waiter (set s.waiters r 0) p) (λ k. is_waiter s.waiters p k && not (eqb k r)) e.waits (λ k. is_waiter_without s.waiters r p k lt)
     ∙ sym (filter_both (λ k. not (eqb k r)) (is_waiter s.waiters p) e.waits)))
@@ -138,11 +140,16 @@ test_at : (test : Entry → Bool) (b : Bool) (e f : Entry) → (b ≡ true → t
 test_at test true e f h = h refl
 test_at test false e f h = refl
 
--- a change of entries that no test sees keeps all words in step
+let_go_at : (b : Bool) (e f : Entry) → ((e.held ≡ false) ⊎ (b ≡ false)) → f.held ≡ false → (cond b e f).held ≡ false
+let_go_at true e f (inl free) h = free
+let_go_at true e f (inr never) h = absurd (true≢false never)
+let_go_at false e f either h = h
+
+-- a change of entries that no test sees keeps all words in step, where it holds none that is free
 pub unseen_in_step : (g : Entry → Entry) → ((e : Entry) → (g e).waits ≡ e.waits) → ((e : Entry) → (g e).guessed ≡ e.guessed) → ((e : Entry) → (g e).context ≡ e.context)
     → (here : ℕ → Bool) (b c : Places) → c.valid ≡ b.valid → c.supplied ≡ b.supplied → c.guesses ≡ b.guesses → c.contexts ≡ b.contexts → c.slots.waiters ≡ b.slots.waiters → c.two ≡ b.two
-    → ((p : ℕ) → slot c.slots p ≡ cond (here p) (g (slot b.slots p)) (slot b.slots p)) → InStep b → InStep c
-unseen_in_step g waits guessed context here b c valid supplied guesses contexts waiters two slots h =
+    → ((p : ℕ) → slot c.slots p ≡ cond (here p) (g (slot b.slots p)) (slot b.slots p)) → ((p : ℕ) → has b.valid p ≡ false → ((g (slot b.slots p)).held ≡ false) ⊎ (here p ≡ false)) → InStep b → InStep c
+unseen_in_step g waits guessed context here b c valid supplied guesses contexts waiters two slots let_go h =
     let kept : (test : Entry → Bool) → ((e : Entry) → test (g e) ≡ test e) → (word : ℕ) → IsMask test b.valid b.slots word → IsMask test b.valid c.slots word =
     λ test same word m. mask_kept test b.valid b.slots c.slots word
     (λ p. ap test (slots p) ∙ test_at test (here p) (g (slot b.slots p)) (slot b.slots p) (λ t. same (slot b.slots p))) m in
@@ -153,11 +160,14 @@ unseen_in_step g waits guessed context here b c valid supplied guesses contexts 
       waiters = λ r below. word_is (waits_for r) c.valid c.slots (slice_index c.slots.waiters r) (slice_index b.slots.waiters r) (ap (λ ws. slice_index ws r) waiters)
           (rw valid (kept (waits_for r) (λ e. ap (list_any (λ w. eqb w r)) (waits e)) (slice_index b.slots.waiters r) (h.waiters r below)));
       two = rw (valid, two) (kept waits_for_two (λ e. ap are_two (waits e)) b.two h.two);
+      let_go = λ p free.
+          let was : has b.valid p ≡ false = ap (λ v. has v p) (sym valid) ∙ free in
+          ap (λ e. e.held) (slots p) ∙ let_go_at (here p) (g (slot b.slots p)) (slot b.slots p) (let_go p was) (h.let_go p was);
     }
 
 -- nothing is in step with nothing
-pub none_in_step : (b : Places) → b.valid ≡ 0 → b.supplied ≡ 0 → b.guesses ≡ 0 → ((c : ℕ) → c < 8 → slice_index b.contexts c ≡ 0) → ((r : ℕ) → r < 480 → slice_index b.slots.waiters r ≡ 0) → b.two ≡ 0 → InStep b
-none_in_step b valid supplied guesses contexts waiters two =
+pub none_in_step : (b : Places) → b.valid ≡ 0 → b.supplied ≡ 0 → b.guesses ≡ 0 → ((c : ℕ) → c < 8 → slice_index b.contexts c ≡ 0) → ((r : ℕ) → r < 480 → slice_index b.slots.waiters r ≡ 0) → b.two ≡ 0 → b.slots.held ≡ 0 → InStep b
+none_in_step b valid supplied guesses contexts waiters two held =
     let none : (test : Entry → Bool) (word : ℕ) → word ≡ 0 → IsMask test b.valid b.slots word =
     λ test word zero p. rw (zero, valid) (rw has_zero refl) in
     record {
@@ -166,6 +176,7 @@ none_in_step b valid supplied guesses contexts waiters two =
       contexts = λ c below. none (is_of c) (slice_index b.contexts c) (contexts c below);
       waiters = λ r below. none (waits_for r) (slice_index b.slots.waiters r) (waiters r below);
       two = none waits_for_two b.two two;
+      let_go = λ p free. ap (λ w. has w p) held ∙ has_zero p;
     }
 
 and_both : (a b c : Bool) → ((a && b) && (a && c)) ≡ (a && (b && c))
@@ -303,7 +314,7 @@ two_awake r (x ∷ y ∷ z ∷ ws) h = absurd (omega (arith, h))
 -- an entry waits for at most two registers
 waits_short : (slots : Slots) (p : ℕ) → length (slot slots p).waits ≤ 2
 waits_short slots p =
-    let q : Queued = get_or slots.entries p blank in
+    let q : Queued = entry_at slots.entries p in
     omega (arith, length-filter (is_waiter slots.waiters p) (reads_of q), count_by-le-length (is_waiter slots.waiters p) (reads_of q))
 
 or_and_at : (v s w t : Bool) → ((v && s) || ((v && w) && not (v && t))) ≡ (v && (s || (w && not t)))
@@ -324,6 +335,7 @@ woken_in_step b c r below lt valid guesses contexts waiters slots supplied two h
     let kept : (test : Entry → Bool) → ((e : Entry) → test (awake r e) ≡ test e) → (w : ℕ) → IsMask test b.valid b.slots w → IsMask test b.valid c.slots w =
     λ test same w m. mask_kept test b.valid b.slots c.slots w (λ p. ap test (slots p) ∙ same (slot b.slots p)) m in
     record {
+      let_go = λ p free. ap (λ e. e.held) (slots p) ∙ h.let_go p (ap (λ v. has v p) (sym valid) ∙ free);
       supplied = λ p.
           let e : Entry = slot b.slots p in
           supplied p
@@ -382,6 +394,15 @@ pub put_in_step : (b c : Places) (place : ℕ) (e : Entry) → place < 64 → ha
     → ((r p : ℕ) → has (slice_index c.slots.waiters r) p ≡ cond (eqb p place && waits_for r e) true (has (slice_index b.slots.waiters r) p))
     → InStep b → InStep c
 put_in_step b c place e bound free context valid slots supplied two guesses contexts waiters h = record {
+  let_go = λ p none. elim (eqb_tells p place) [
+    | inl t ↦
+        let taken : has c.valid p ≡ true = valid p ∙ rw t.0 refl in
+        absurd (true≢false (sym taken ∙ none))
+    | inr t ↦
+        let was : has c.valid p ≡ has b.valid p = valid p ∙ rw t.0 refl in
+        let kept : slot c.slots p ≡ slot b.slots p = slots p ∙ rw t.0 refl in
+        ap (λ e. e.held) kept ∙ h.let_go p (sym was ∙ none)
+  ];
   supplied = put_at is_supplied b c.slots c.valid place b.supplied c.supplied e free valid slots (λ p. supplied p ∙ or_added (has b.supplied p) (eqb p place && is_supplied e)) h.supplied;
   two = put_at waits_for_two b c.slots c.valid place b.two c.two e free valid slots (λ p. two p ∙ or_added (has b.two p) (eqb p place && waits_for_two e)) h.two;
   guesses = put_at is_guessed b c.slots c.valid place b.guesses c.guesses e free valid slots guesses h.guesses;
@@ -411,19 +432,25 @@ free_at test b s new place word newer valid slots others here m p = elim (eqb_te
   | inr t ↦ rw (valid p, t.0, slots p t.0) (others p t.0 ∙ m p ∙ ap (λ x. x && test (slot b.slots p)) (sym (and-true (has b.valid p))))
 ]
 
-pub free_in_step : (b c : Places) (place : ℕ) (q : Queued) (context : ℕ) → has b.valid place ≡ true → q ≡ get_or b.slots.entries place blank → context ≡ q.context → context < 8
+pub free_in_step : (b c : Places) (place : ℕ) (q : Queued) (context : ℕ) → has b.valid place ≡ true → q ≡ entry_at b.slots.entries place → context ≡ q.context → context < 8
     → ((p : ℕ) → has c.valid p ≡ (has b.valid p && not (eqb p place)))
     → ((p : ℕ) → eqb p place ≡ false → slot c.slots p ≡ slot b.slots p)
     → ((p : ℕ) → has c.supplied p ≡ cond (eqb p place) false (has b.supplied p)) → ((p : ℕ) → has c.two p ≡ cond (eqb p place) false (has b.two p))
     → ((p : ℕ) → has c.guesses p ≡ cond (eqb p place) false (has b.guesses p))
     → ((i p : ℕ) → has (slice_index c.contexts i) p ≡ cond (eqb p place && eqb i context) false (has (slice_index b.contexts i) p))
-    → ((r p : ℕ) → has (slice_index c.slots.waiters r) p ≡ cond (eqb p place && list_any (λ w. eqb w r) (reads_of (get_or b.slots.entries place blank))) false (has (slice_index b.slots.waiters r) p))
-    → InStep b → InStep c
-free_in_step b c place q context taken is own bound valid slots supplied two guesses contexts waiters h =
+    → ((r p : ℕ) → has (slice_index c.slots.waiters r) p ≡ cond (eqb p place && list_any (λ w. eqb w r) (reads_of (entry_at b.slots.entries place))) false (has (slice_index b.slots.waiters r) p))
+    → has c.slots.held place ≡ false → InStep b → InStep c
+free_in_step b c place q context taken is own bound valid slots supplied two guesses contexts waiters held h =
     let same : eqb place place ≡ true = eq-eqb place place refl in
     let word : (test : Entry → Bool) (old new : ℕ) → ((p : ℕ) → has new p ≡ cond (eqb p place) false (has old p)) → IsMask test b.valid b.slots old → IsMask test c.valid c.slots new =
     λ test old new bits m. free_at test b c.slots c.valid place old new valid slots (λ p t. bits p ∙ rw t refl) (bits place ∙ rw same refl) m in
     record {
+      let_go = λ p free. elim (eqb_tells p place) [
+        | inl t ↦ rw t.1 held
+        | inr t ↦
+            let was : has b.valid p ≡ false = sym (valid p ∙ rw t.0 (and-true (has b.valid p))) ∙ free in
+            ap (λ e. e.held) (slots p t.0) ∙ h.let_go p was
+      ];
       supplied = word is_supplied b.supplied c.supplied supplied h.supplied;
       two = word waits_for_two b.two c.two two h.two;
       guesses = word is_guessed b.guesses c.guesses guesses h.guesses;
@@ -431,8 +458,8 @@ free_in_step b c place q context taken is own bound valid slots supplied two gue
           (contexts k place ∙ rw same (freed_bit (eqb k context) (has (slice_index b.contexts k) place) (λ f. h.contexts k below place ∙ and_right (has b.valid place) (is_of k (slot b.slots place)) (ap (λ x. eqb x k) (sym (own ∙ ap (λ x. x.context) is)) ∙ eqb_swap context k ∙ f))))
           (h.contexts k below);
       waiters = λ r below. free_at (waits_for r) b c.slots c.valid place (slice_index b.slots.waiters r) (slice_index c.slots.waiters r) valid slots (λ p t. waiters r p ∙ rw t refl)
-          (waiters r place ∙ rw same (freed_bit (list_any (λ w. eqb w r) (reads_of (get_or b.slots.entries place blank))) (has (slice_index b.slots.waiters r) place)
-          (λ f. h.waiters r below place ∙ and_right (has b.valid place) (waits_for r (slot b.slots place)) (any_filtered (is_waiter b.slots.waiters place) r (reads_of (get_or b.slots.entries place blank)) f))))
+          (waiters r place ∙ rw same (freed_bit (list_any (λ w. eqb w r) (reads_of (entry_at b.slots.entries place))) (has (slice_index b.slots.waiters r) place)
+          (λ f. h.waiters r below place ∙ and_right (has b.valid place) (waits_for r (slot b.slots place)) (any_filtered (is_waiter b.slots.waiters place) r (reads_of (entry_at b.slots.entries place)) f))))
           (h.waiters r below);
     }
 
@@ -459,18 +486,27 @@ none_waits : (r : ℕ) (ws : List ℕ) → eqb (length ws) 0 ≡ true → list_a
 none_waits r [] h = refl
 none_waits r (w ∷ ws) h = absurd (omega (arith, eqb-true (length (w ∷ ws)) 0 h))
 
--- places that wait for nothing are freed: no register's word has their bits
-pub freed_in_step : (b c : Places) (word : ℕ) → c.slots ≡ b.slots → ((p : ℕ) → has word p ≡ true → is_supplied (slot b.slots p) ≡ true) → ((p : ℕ) → has c.valid p ≡ (has b.valid p && not (has word p)))
+-- a place that is freed was free, or was ready and so not held
+freed_held : (valid word held : Bool) → (valid && not word) ≡ false → (valid ≡ false → held ≡ false) → (word ≡ true → not held ≡ true) → held ≡ false
+freed_held valid true held gone free ready = not-true held (ready refl)
+freed_held true false held gone free ready = absurd (true≢false gone)
+freed_held false false held gone free ready = free refl
+
+-- ready places are freed: no register's word has their bits, and they are not held
+pub freed_in_step : (b c : Places) (word : ℕ) → c.slots ≡ b.slots → ((p : ℕ) → has word p ≡ true → is_ready (slot b.slots p) ≡ true) → ((p : ℕ) → has c.valid p ≡ (has b.valid p && not (has word p)))
     → ((p : ℕ) → has c.supplied p ≡ (has b.supplied p && not (has word p))) → ((p : ℕ) → has c.guesses p ≡ (has b.guesses p && not (has word p)))
     → ((i p : ℕ) → i < 8 → has (slice_index c.contexts i) p ≡ (has (slice_index b.contexts i) p && not (has word p))) → ((p : ℕ) → has c.two p ≡ (has b.two p && not (has word p))) → InStep b → InStep c
-freed_in_step b c word slots free valid supplied guesses contexts two h = record {
+freed_in_step b c word slots ready valid supplied guesses contexts two h = record {
+  let_go = rw slots (λ p free.
+      freed_held (has b.valid p) (has word p) (has b.slots.held p) (sym (valid p) ∙ free) (h.let_go p)
+      (λ t. (and_parts (is_supplied (slot b.slots p)) (not (has b.slots.held p)) (ready p t)).1));
   two = rw slots (mask_without waits_for_two b.valid c.valid b.slots word b.two c.two valid two h.two);
   supplied = rw slots (mask_without is_supplied b.valid c.valid b.slots word b.supplied c.supplied valid supplied h.supplied);
   guesses = rw slots (mask_without is_guessed b.valid c.valid b.slots word b.guesses c.guesses valid guesses h.guesses);
   contexts = λ k below. rw slots (mask_without (is_of k) b.valid c.valid b.slots word (slice_index b.contexts k) (slice_index c.contexts k) valid (λ p. contexts k p below) (h.contexts k below));
   waiters = λ r below. rw slots (λ p.
       h.waiters r below p
-      ∙ and_unset (has b.valid p) (waits_for r (slot b.slots p)) (has word p) (λ t. none_waits r (slot b.slots p).waits (free p t))
+      ∙ and_unset (has b.valid p) (waits_for r (slot b.slots p)) (has word p) (λ t. none_waits r (slot b.slots p).waits (and_parts (is_supplied (slot b.slots p)) (not (has b.slots.held p)) (ready p t)).0)
       ∙ ap (λ x. x && waits_for r (slot b.slots p)) (sym (valid p)));
 }
 
@@ -504,10 +540,10 @@ none_taken slots best names none = record {
 }
 
 -- all candidates are taken
-pub supplied_all : (slots : Slots) (best : List Candidate) (i chosen : ℕ) (names : List EntryId) → length best ≤ i → All (λ c. (c.place < 64) × (is_supplied (slot slots c.place) ≡ true)) best → IsTaken slots best i chosen names
-    → (p : ℕ) → has chosen p ≡ true → is_supplied (slot slots p) ≡ true
-supplied_all slots best i chosen names whole supplied h p t =
-    at_candidates (λ q. is_supplied (slot slots q) ≡ true) best p (λ k d lt. (supplied k d lt).1)
+pub ready_all : (slots : Slots) (best : List Candidate) (i chosen : ℕ) (names : List EntryId) → length best ≤ i → All (λ c. (c.place < 64) × (is_ready (slot slots c.place) ≡ true)) best → IsTaken slots best i chosen names
+    → (p : ℕ) → has chosen p ≡ true → is_ready (slot slots p) ≡ true
+ready_all slots best i chosen names whole ready h p t =
+    at_candidates (λ q. is_ready (slot slots q) ≡ true) best p (λ k d lt. (ready k d lt).1)
     (ap (λ cs. is_at cs p) (sym (take_all i best whole)) ∙ sym (h.bits p) ∙ t)
 
 -- an entry that enters and waits for nothing

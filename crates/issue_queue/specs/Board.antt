@@ -1,17 +1,14 @@
 -- Sixty-four places, and words with a bit for each.
-use Rattle.std.specs.Prelude.{◌≡◌, ℕ, ◌<◌, ◌≤◌, Bool, true, false, List, map, filter, length, ◌&&◌, ◌==◌, slice_index, slice_index_or, AllPairs}
+use Rattle.std.specs.Prelude.{◌≡◌, ℕ, ◌<◌, ◌≤◌, Bool, true, false, List, map, filter, length, ◌&&◌, ◌==◌, slice_index, AllPairs}
 use Rattle.std.specs.List.{list_any}
 use Rattle.issue_queue.specs.declared.places.Places.{Places}
 use Rattle.issue_queue.specs.declared.arrivals.Arrivals.{Arrivals}
-use Rattle.issue_queue.specs.declared.entry.Queued.{Queued}
 use Rattle.issue_queue.specs.declared.slots.Slots.{Slots}
 use Rattle.word_mask.specs.Mask.{has}
 use Rattle.issue_queue.specs.Arrivals.{IsNumbered, arrived}
+use Rattle.issue_queue.specs.Entries.{entry_at}
 use Rattle.issue_queue.specs.Views.{as_entry}
 use Rattle.issue_queue.specs.Entry.{Entry, AreDistinct, is_supplied, waits_for_two}
-
-abbrev pub blank : Queued
-blank = record { stamp = 0; context = 0; guessed = false; speculative = false; first = 0; second = 0 }
 
 -- the place stands in the word of a register
 abbrev pub is_waiter : List ℕ → ℕ → ℕ → Bool
@@ -23,7 +20,7 @@ narrowed waiters place e = record e { waits = filter (is_waiter waiters place) e
 
 -- the entry of a place
 abbrev pub slot : Slots → ℕ → Entry
-slot slots place = narrowed slots.waiters place (as_entry (has slots.held place) (slice_index_or slots.entries place blank))
+slot slots place = narrowed slots.waiters place (as_entry (has slots.held place) (entry_at slots.entries place))
 
 -- one of its sources is this register
 abbrev pub waits_for : ℕ → Entry → Bool
@@ -39,13 +36,14 @@ is_guessed e = e.guessed
 abbrev pub IsMask : (Entry → Bool) → ℕ → Slots → ℕ → Type 0
 IsMask test valid slots word = (p : ℕ) → has word p ≡ (has valid p && test (slot slots p))
 
--- each word is the mask of its test
+-- each word is the mask of its test, and no free place is held
 pub record InStep (b : Places) : Type 0 where
   pub supplied : IsMask is_supplied b.valid b.slots b.supplied
   pub two : IsMask waits_for_two b.valid b.slots b.two
   pub guesses : IsMask is_guessed b.valid b.slots b.guesses
   pub contexts : (c : ℕ) → c < 8 → IsMask (is_of c) b.valid b.slots (slice_index b.contexts c)
   pub waiters : (r : ℕ) → r < 480 → IsMask (waits_for r) b.valid b.slots (slice_index b.slots.waiters r)
+  pub let_go : (p : ℕ) → has b.valid p ≡ false → has b.slots.held p ≡ false
 
 -- the entries of these places
 abbrev pub listed : Slots → List ℕ → List Entry

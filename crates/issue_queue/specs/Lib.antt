@@ -1,5 +1,6 @@
 pub mod Entry
 pub mod Views
+pub mod Entries
 pub mod Keys
 pub mod IssueQueue
 pub mod IsSelected

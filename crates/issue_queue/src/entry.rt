@@ -1,6 +1,6 @@
 //! Entries of the queue, and what is shown of them.
 
-ghost use Rattle.std.specs.Prelude.{◌≡◌, ◌≢◌, ◌==◌, ◌&&◌, Bool, false, None, is_some, IfSome};
+ghost use Rattle.std.specs.Prelude.{◌≡◌, ◌≢◌, ◌==◌, ◌&&◌, false, None, is_some, IfSome};
 ghost use Rattle.std.specs.Option.{option_to_list};
 ghost use Rattle.issue_queue.specs.Entry.{is_named};
 ghost use Rattle.issue_queue.specs.IssueQueue.{is_from};
@@ -115,27 +115,12 @@ pub struct QueueView {
 /// An entry in the queue, but for whether it is held, and which of the registers that it reads it waits for.
 #[derive(Clone, Copy)]
 pub(crate) struct Queued {
-    stamp: u64,
-    context: Ctx,
-    first: PhysicalRegister,
-    second: PhysicalRegister,
-    guessed: bool,
-    speculative: bool,
-}
-
-impl Default for Queued {
-    fn default() -> Queued {
-        let [context, ..] = Ctx::all();
-        let register = another(None);
-        Queued {
-            stamp: 0,
-            first: register,
-            second: register,
-            context,
-            guessed: false,
-            speculative: false,
-        }
-    }
+    pub stamp: u64,
+    pub context: Ctx,
+    pub first: PhysicalRegister,
+    pub second: PhysicalRegister,
+    pub guessed: bool,
+    pub speculative: bool,
 }
 
 impl Queued {
@@ -216,12 +201,5 @@ impl Queued {
         ensures { result ≡ is_from context stamp (as_entry false self.now) }
     {
         self.context == context && self.stamp >= stamp
-    }
-
-    /// Marks whether an older guessed entry of its context has not completed.
-    pub(crate) fn set_speculative(&mut self, speculative: bool)
-        ensures { (held : Bool) → as_entry held self.new ≡ record (as_entry held self.old) { speculative = speculative } }
-    {
-        self.speculative = speculative;
     }
 }

@@ -3,6 +3,7 @@
 #![tactic(auto)]
 
 mod arrivals;
+mod entries;
 mod entry;
 mod order;
 mod places;

@@ -139,6 +139,7 @@ impl Places {
     {
         let context = self.slots.at(place).context();
         self.slots.forget(place);
+        self.slots.set_held(place, false);
         self.valid = word_mask::cleared(self.valid, place);
         self.supplied = word_mask::assigned(self.supplied, place, false);
         self.two = word_mask::assigned(self.two, place, false);
@@ -164,6 +165,7 @@ impl Places {
     pub(crate) fn set_held(&mut self, place: usize, held: bool)
         requires step { InStep self.old }
         requires bound { place < 64 }
+        requires set { has self.old.valid place ≡ true }
         ensures step { InStep self.new }
         ensures valid { self.new.valid ≡ self.old.valid }
         ensures slots { (p : ℕ) → slot self.new.slots p ≡ (if p == place then record (slot self.old.slots p) { held = held } else slot self.old.slots p) }
@@ -266,12 +268,12 @@ impl Places {
         Some(older.count_ones() as usize)
     }
 
-    /// Frees the places of candidates that wait for nothing, and puts the names of what stood there into a list.
+    /// Frees the places of candidates that are ready, and puts the names of what stood there into a list.
     pub(crate) fn take(&mut self, best: &[Candidate], names: &mut ArrayVec<EntryId, 8>)
         requires step { InStep self.old }
         requires empty { names.old.items ≡ [] }
         requires short { length best.now ≤ 8 }
-        requires supplied { All (λ c. (c.place < 64) × (is_supplied (slot self.old.slots c.place) ≡ true)) best.now }
+        requires ready { All (λ c. (c.place < 64) × (is_ready (slot self.old.slots c.place) ≡ true)) best.now }
         ensures step { InStep self.new }
         ensures valid { (p : ℕ) → has self.new.valid p ≡ (has self.old.valid p && not (is_at best.now p)) }
         ensures slots { self.new.slots ≡ self.old.slots }
@@ -282,13 +284,13 @@ impl Places {
             names.push(self.slots.at(candidate.place).name());
             chosen = word_mask::assigned(chosen, candidate.place, true);
         }
-        self.free_supplied(chosen);
+        self.free_ready(chosen);
     }
 
-    /// Frees the places of a word, whose entries wait for nothing.
-    pub(crate) fn free_supplied(&mut self, word: u64)
+    /// Frees the places of a word, whose entries are ready.
+    pub(crate) fn free_ready(&mut self, word: u64)
         requires step { InStep self.old }
-        requires supplied { (p : ℕ) → has word p ≡ true → is_supplied (slot self.old.slots p) ≡ true }
+        requires ready { (p : ℕ) → has word p ≡ true → is_ready (slot self.old.slots p) ≡ true }
         ensures step { InStep self.new }
         ensures valid { (p : ℕ) → has self.new.valid p ≡ (has self.old.valid p && not (has word p)) }
         ensures slots { self.new.slots ≡ self.old.slots }

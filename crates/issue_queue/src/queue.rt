@@ -190,7 +190,7 @@ impl Queue {
         let above = self.arrivals.above;
         if order.is_by_stamp() && ready.count_ones() as usize <= width {
             selecting::list_all(names, &self.places.slots, ready, above);
-            self.places.free_supplied(ready);
+            self.places.free_ready(ready);
             return;
         }
         let mut best = ArrayVec::new();

@@ -1,12 +1,14 @@
 //! What stands at each of the 64 places of the queue.
 
-ghost use Rattle.std.specs.Prelude.{◌≡◌, ℕ, ◌<◌, ◌==◌, ◌&&◌, true, false, length, slice_index, slice_index_or, slice_set, if◌then◌else◌};
+ghost use Rattle.std.specs.Prelude.{◌≡◌, ℕ, ◌<◌, ◌==◌, ◌&&◌, true, false, length, slice_index, slice_set, if◌then◌else◌};
 ghost use Rattle.std.specs.List.{list_any};
 ghost use Rattle.word_mask.specs.Mask.{has};
-ghost use Rattle.issue_queue.specs.Board.{blank, slot, waits_for};
+ghost use Rattle.issue_queue.specs.Board.{slot, waits_for};
+ghost use Rattle.issue_queue.specs.Entries.{entry_at};
 ghost use Rattle.issue_queue.specs.IssueQueue.{awake, released};
 ghost use Rattle.issue_queue.specs.Views.{AreAlike, awaited_of, entered, reads_of};
 
+use crate::entries::Entries;
 use crate::entry::Queued;
 use crate::{Reading, Source};
 use rename_file::PhysicalRegister;
@@ -15,10 +17,10 @@ use rename_file::PhysicalRegister;
 /// registers that it reads whose words have its place.
 #[derive(Drop)]
 pub(crate) struct Slots {
-    /// The places of loads that are held.
+    /// The places of loads that are held. None of them is free, so that an entry that enters has no bit to clear.
     held: u64,
     /// What entered at each place; at one that is free, what stood there last.
-    entries: [Queued; 64],
+    entries: Entries,
     /// The places that wait for each physical register.
     waiters: [u64; 480],
 }
@@ -68,21 +70,23 @@ fn add_sources(words: &mut [u64; 480], reading: &Reading, place: usize)
 impl Slots {
     /// Blank entries, none of them held.
     pub(crate) fn new() -> Slots
-        ensures { (r : ℕ) → r < 480 → slice_index result.waiters r ≡ 0 }
+        ensures held { result.held ≡ 0 }
+        ensures waiters { (r : ℕ) → r < 480 → slice_index result.waiters r ≡ 0 }
     {
         Slots {
-            entries: [Queued::default(); 64],
+            entries: Entries::new(),
             held: 0,
             waiters: [0; 480],
         }
     }
 
     /// What entered at a place.
-    pub(crate) fn at(&self, place: usize) -> &Queued
+    #[inline(always)]
+    pub(crate) fn at(&self, place: usize) -> Queued
         requires { place < 64 }
-        ensures { result.now ≡ slice_index_or self.now.entries place blank }
+        ensures { result ≡ entry_at self.now.entries place }
     {
-        &self.entries[place]
+        self.entries.read(place)
     }
 
     /// The places whose entries are held.
@@ -92,17 +96,17 @@ impl Slots {
         self.held
     }
 
-    /// An entry enters at a place.
+    /// An entry enters at a place that no word has.
     #[inline(always)]
     pub(crate) fn put(&mut self, place: usize, reading: &Reading)
         requires bound { place < 64 }
         requires free { (r : ℕ) → has (slice_index self.old.waiters r) place ≡ false }
+        requires let_go { has self.old.held place ≡ false }
         requires alike { AreAlike reading.now }
         ensures slots { (p : ℕ) → slot self.new p ≡ (if p == place then entered reading.now else slot self.old p) }
         ensures waiters { (r p : ℕ) → has (slice_index self.new.waiters r) p ≡ (if (p == place) && waits_for r (entered reading.now) then true else has (slice_index self.old.waiters r) p) }
     {
-        self.entries[place] = Queued::new(reading);
-        self.held = word_mask::assigned(self.held, place, false);
+        self.entries.write(place, Queued::new(reading));
         add_sources(&mut self.waiters, reading, place);
     }
 
@@ -110,9 +114,9 @@ impl Slots {
     pub(crate) fn forget(&mut self, place: usize)
         requires { place < 64 }
         ensures slots { (p : ℕ) → (p == place) ≡ false → slot self.new p ≡ slot self.old p }
-        ensures waiters { (r p : ℕ) → has (slice_index self.new.waiters r) p ≡ (if (p == place) && list_any (λ w. w == r) (reads_of (slice_index_or self.old.entries place blank)) then false else has (slice_index self.old.waiters r) p) }
+        ensures waiters { (r p : ℕ) → has (slice_index self.new.waiters r) p ≡ (if (p == place) && list_any (λ w. w == r) (reads_of (entry_at self.old.entries place)) then false else has (slice_index self.old.waiters r) p) }
     {
-        let entry = self.entries[place];
+        let entry = self.entries.read(place);
         clear_sources(&mut self.waiters, &entry, place);
     }
 
@@ -134,9 +138,7 @@ impl Slots {
         ensures slots { (p : ℕ) → slot self.new p ≡ (if p == place then record (slot self.old p) { speculative = speculative } else slot self.old p) }
         ensures waiters { self.new.waiters ≡ self.old.waiters }
     {
-        let mut entry = self.entries[place];
-        entry.set_speculative(speculative);
-        self.entries[place] = entry;
+        self.entries.set_speculative(place, speculative);
     }
 
     /// Holds the entry at a place, or lets it go.

@@ -1,8 +1,18 @@
-use Rattle.std.proofs.Common.{arith}
+use Rattle.std.proofs.Common.{◌≡◌, false, ap, refl, ◌∙◌, arith}
+use Rattle.std.specs.Prelude.{slice_index}
+use Rattle.std.proofs.lemmas.Bool.{eq-eqb}
+use Rattle.word_mask.specs.Mask.{has}
+use Rattle.issue_queue.specs.Board.{slot}
 use Rattle.issue_queue.proofs.Masks.{free_in_step}
 use Rattle.issue_queue.proofs.places.Places.free.Goals as goal
 
+pub returns-clause-slots : goal.returns-clause-slots
+returns-clause-slots c = λ p other. c.set_held.ensures.slots p ∙ rw other (c.forget.ensures.slots p other)
+
 pub returns-clause-step : goal.returns-clause-step
 returns-clause-step c =
-    free_in_step c.args.self.now _ c.args.place c.at.result.now c.context-context.result c.requires.set c.at.ensures c.context-context.ensures (omega arith) c.cleared-self.ensures.bits c.forget.ensures.slots
-    c.assigned-self.ensures c.assigned-self-2.ensures c.assigned-self-3.ensures (rw c.index.ensures.value at c.mark.ensures.words) c.forget.ensures.waiters c.requires.step
+    let held : (slot c.set_held.new.self c.args.place).held ≡ false = ap (λ e. e.held) (c.set_held.ensures.slots c.args.place) ∙ rw (eq-eqb c.args.place c.args.place refl) refl in
+    free_in_step c.args.self.now _ c.args.place c.at.result c.context-context.result c.requires.set c.at.ensures c.context-context.ensures (omega arith) c.cleared-self.ensures.bits
+    (λ p other. c.set_held.ensures.slots p ∙ rw other (c.forget.ensures.slots p other))
+    c.assigned-self.ensures c.assigned-self-2.ensures c.assigned-self-3.ensures (rw c.index.ensures.value at c.mark.ensures.words)
+    (λ r p. ap (λ ws. has (slice_index ws r) p) c.set_held.ensures.waiters ∙ c.forget.ensures.waiters r p) held c.requires.step

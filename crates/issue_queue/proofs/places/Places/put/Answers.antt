@@ -8,6 +8,9 @@ use Rattle.issue_queue.proofs.places.Places.put.Goals as goal
 pub put-requires-clause-free : goal.put-requires-clause-free
 put-requires-clause-free c = free_of_words c.args.self.now c.args.place (omega arith) c.requires.free c.requires.step
 
+pub put-requires-clause-let_go : goal.put-requires-clause-let_go
+put-requires-clause-let_go c = c.requires.step.let_go c.args.place c.requires.free
+
 pub returns-clause-step : goal.returns-clause-step
 returns-clause-step c =
     let b = c.args.self.now in

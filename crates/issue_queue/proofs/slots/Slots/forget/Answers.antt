@@ -1,7 +1,8 @@
-use Rattle.std.proofs.Common.{refl, get_or}
+use Rattle.std.proofs.Common.{refl}
+use Rattle.issue_queue.specs.Entries.{entry_at}
 use Rattle.issue_queue.specs.Views.{reads_of}
 use Rattle.issue_queue.proofs.Masks.{slot_forgotten}
 use Rattle.issue_queue.proofs.slots.Slots.forget.Goals as goal
 
 pub returns-clause-slots : goal.returns-clause-slots
-returns-clause-slots c = slot_forgotten c.args.self.now _ c.args.place (reads_of (get_or c.args.self.now.entries c.args.place c.index-self-place.result)) refl refl c.clear_sources.ensures
+returns-clause-slots c = slot_forgotten c.args.self.now _ c.args.place (reads_of (entry_at c.args.self.now.entries c.args.place)) refl refl (rw c.read-entry.ensures at c.clear_sources.ensures)
