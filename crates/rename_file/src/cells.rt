@@ -5,12 +5,12 @@ ghost use Rattle.std.specs.Prelude.{◌≡◌, ◌↔◌, ◌<◌, ◌≤◌, le
 use std::alloc::{AllocError, Allocator, Global};
 use std::marker::Model;
 
-// Whether a register has its value stands apart from the value: to ask for it, or to take the value away, is one
-// byte, which is found without a multiplication. There are at most 480 registers.
+// Whether the value of a register is still to come stands apart from the value, as in the busy table of a processor:
+// to ask for it, or to take the value away, is one byte. There are at most 480 registers.
 #[derive(Drop)]
 pub(crate) struct Cells<A: Allocator = Global> {
     values: Vec<u64, A>,
-    valued: [bool; 480],
+    busy: [bool; 480],
 }
 
 impl<A: Allocator> Model for Cells<A> {
@@ -19,9 +19,9 @@ impl<A: Allocator> Model for Cells<A> {
 
     ghost Value = { List (Option ℕ) };
 
-    ghost view = { λ c. cells_of c.values.items c.valued };
+    ghost view = { λ c. cells_of c.values.items c.busy };
 
-    ghost invariant = { λ c. (length c.values.items ≤ 480) × (length c.valued ≡ 480) };
+    ghost invariant = { λ c. (length c.values.items ≤ 480) × (length c.busy ≡ 480) };
 }
 
 impl<A: Allocator> Cells<A> {
@@ -32,7 +32,7 @@ impl<A: Allocator> Cells<A> {
     {
         Ok(Cells {
             values: vec![in alloc; 0; count]?,
-            valued: [true; 480],
+            busy: [false; 480],
         })
     }
 
@@ -42,7 +42,7 @@ impl<A: Allocator> Cells<A> {
         requires { number < length self.now }
         ensures { IsTrue result ↔ IsSome (slice_index_or self.now number None) }
     {
-        self.valued[number]
+        !self.busy[number]
     }
 
     // The value of a register, once it is there.
@@ -51,10 +51,10 @@ impl<A: Allocator> Cells<A> {
         requires { number < length self.now }
         ensures { result ≡ slice_index_or self.now number None }
     {
-        if self.valued[number] {
-            Some(self.values[number])
-        } else {
+        if self.busy[number] {
             None
+        } else {
+            Some(self.values[number])
         }
     }
 
@@ -65,7 +65,7 @@ impl<A: Allocator> Cells<A> {
         ensures { self.new ≡ slice_set self.old number (Some value) }
     {
         self.values[number] = value;
-        self.valued[number] = true;
+        self.busy[number] = false;
     }
 
     // Takes the value of a register away.
@@ -74,6 +74,6 @@ impl<A: Allocator> Cells<A> {
         requires { number < length self.old }
         ensures { self.new ≡ slice_set self.old number None }
     {
-        self.valued[number] = false;
+        self.busy[number] = true;
     }
 }
