@@ -1,3 +1,4 @@
+pub mod Valued
 pub mod Numbered
 pub mod Written
 pub mod Maps

@@ -1,5 +1,6 @@
 pub mod FaultText
 pub mod File
+pub mod Valued
 pub mod Slots
 pub mod Numbered
 pub mod Fresh

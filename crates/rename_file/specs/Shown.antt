@@ -4,9 +4,9 @@ use Rattle.rename_file.specs.declared.registers.Registers.TheInside.{Inside}
 use Rattle.rename_file.specs.File.{File, IsFile}
 
 abbrev pub shown : {A : Type 0} → Inside A → File
-shown r = record { banks = r.maps; free = r.free.items; cells = r.cells.items }
+shown r = record { banks = r.maps; free = r.free.items; cells = r.cells }
 
 -- there are at most as many extra registers as the stack of the free has room for
 pub record IsShown {A : Type 0} (r : Inside A) : Type 0 where
   pub file : IsFile (shown r)
-  pub room : length r.cells.items ≤ 480
+  pub room : length r.cells ≤ 480

@@ -5,6 +5,7 @@
 //! the committed register. A physical register stands in one place: it is committed, renamed to, or free.
 #![tactic(auto)]
 
+mod cells;
 mod changes;
 mod fault;
 mod physical_register;

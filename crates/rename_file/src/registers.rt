@@ -5,6 +5,7 @@ ghost use Rattle.rename_file.specs.File.{IsFile, bank, cell, mapped, rename_coun
 ghost use Rattle.rename_file.specs.Fresh.{IsFresh};
 ghost use Rattle.rename_file.specs.Newest.{IsNewest};
 
+use crate::cells::Cells;
 use crate::rename_map::{RenameMap, first_maps};
 use crate::{PhysicalRegister, RenameFault};
 use arrayvec::ArrayVec;
@@ -16,7 +17,7 @@ use std::marker::Model;
 /// No call but `new` takes memory, and each is of one step.
 #[derive(Drop)]
 pub struct Registers<A: Allocator = Global> {
-    cells: Vec<Option<u64>, A>,
+    cells: Cells<A>,
     free: ArrayVec<PhysicalRegister, 224>,
     maps: [RenameMap; 8],
 }
@@ -51,7 +52,7 @@ impl<A: Allocator + Copy> Registers<A> {
         for number in 256..256 + extra {
             free.push(PhysicalRegister::at(number));
         }
-        let cells = zeros(alloc, 256 + extra)?;
+        let cells = Cells::new(alloc, 256 + extra)?;
         Ok(Registers { maps, free, cells })
     }
 }
@@ -65,7 +66,7 @@ impl<A: Allocator> Registers<A> {
     {
         let map = &self.maps[context.index()];
         let committed = map.committed(rd);
-        self.cells[committed.index()] = Some(value);
+        self.cells.write(committed.index(), value);
     }
 
     /// How many registers are free.
@@ -91,7 +92,7 @@ impl<A: Allocator> Registers<A> {
         requires { register < length self.now.cells }
         ensures { result ≡ cell self.now register }
     {
-        self.cells[register.index()]
+        self.cells.read(register.index())
     }
 
     /// Whether a register has its value.
@@ -99,7 +100,7 @@ impl<A: Allocator> Registers<A> {
         requires { register < length self.now.cells }
         ensures { IsTrue result ↔ IsSome (cell self.now register) }
     {
-        self.value(register).is_some()
+        self.cells.is_valued(register.index())
     }
 
     /// The value that is committed for one of x0 to x31.
@@ -108,7 +109,7 @@ impl<A: Allocator> Registers<A> {
         ensures { Some result ≡ cell self.now (slice_index (bank self.now context).committed rs) }
     {
         let map = &self.maps[context.index()];
-        self.cells[map.committed(rs).index()].unwrap()
+        self.cells.read(map.committed(rs).index()).unwrap()
     }
 
     /// Gives a register its value. Registers 0 to 7 are the contexts' x0, which stay 0.
@@ -117,8 +118,7 @@ impl<A: Allocator> Registers<A> {
         ensures written { self.new ≡ with_cell self.old register (Some value) }
         ensures file { IsFile self.new }
     {
-        let place = register.index();
-        self.cells[place] = Some(value);
+        self.cells.write(register.index(), value);
     }
 
     /// Gives a register its value, where a mask has all bits. Where it has none nothing changes, and it returns a register
@@ -139,7 +139,7 @@ impl<A: Allocator> Registers<A> {
         ensures file { IsFile self.new }
     {
         let target = masked(register, mask);
-        self.cells[target.index()] = Some(masked_value(value, mask));
+        self.cells.write(target.index(), masked_value(value, mask));
         target
     }
 
@@ -157,7 +157,7 @@ impl<A: Allocator> Registers<A> {
         let Some(taken) = self.free.pop() else {
             return Err(RenameFault::NoneFree);
         };
-        self.cells[taken.index()] = None;
+        self.cells.clear(taken.index());
         let map = &mut self.maps[context.index()];
         map.push(rd, taken);
         Ok(taken)
@@ -187,13 +187,6 @@ impl<A: Allocator> Registers<A> {
         let freed = map.undo();
         self.free.push(freed);
     }
-}
-
-/// So many registers that hold 0.
-fn zeros<A: Allocator>(alloc: A, count: usize) -> Result<Vec<Option<u64>, A>, AllocError>
-    ensures { IfOk result (λ v. v.items ≡ replicate count (Some 0)) }
-{
-    vec![in alloc; Some(0); count]
 }
 
 /// A value, where a mask has all bits, and 0, where it has none.

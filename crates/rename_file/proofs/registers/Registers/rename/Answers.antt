@@ -6,10 +6,10 @@ use Rattle.rename_file.proofs.Files.{newest_above}
 use Rattle.rename_file.proofs.FoundContext.{found, renamed_file, room_found}
 use Rattle.rename_file.proofs.registers.Registers.rename.Goals as goal
 
-pub index_mut-requires : goal.index_mut-requires
-index_mut-requires g c =
+pub clear-requires : goal.clear-requires
+clear-requires g c =
     let taken : slice_get c.self.inside.free.items (length c.self.inside.free.items - 1) ≡ Some c.in-Some.taken = search rules in
-    omega (arith, newest_free (shown c.self.inside) c.in-Some.taken c.self.invariant.file taken, c.index.ensures.value, c.self.inside.cells.ok.0)
+    omega (arith, newest_free (shown c.self.inside) c.in-Some.taken c.self.invariant.file taken, c.index.ensures.value)
 
 pub push-requires-clause-room : goal.push-requires-clause-room
 push-requires-clause-room g c =
@@ -21,7 +21,7 @@ pub invariant_of-self-2 : goal.invariant_of-self-2
 invariant_of-self-2 g c =
     let taken : slice_get c.self.inside.free.items (length c.self.inside.free.items - 1) ≡ Some c.in-Some.taken = search rules in
     let at = found (shown c.self.inside) c.args.context c.index-2.result (get_or c.self.inside.maps c.index-2.result c.index-self-index.result) c.index-2.ensures.value (omega arith) (ap (get_or c.self.inside.maps c.index-2.result) c.index-self-index.is) in
-    rw (c.pop.ensures.rest, c.index.ensures.value) (record {
+    rw (c.pop.ensures.rest, c.clear.ensures, c.index.ensures.value) (record {
       file = renamed_file (shown c.self.inside) c.args.context c.index-2.result c.args.rd c.in-Some.taken (get_or c.self.inside.maps c.index-2.result c.index-self-index.result) c.push.new.self c.self.invariant.file at c.requires.0 c.requires.1 taken c.push.ensures;
       room = rw length-set c.self.invariant.room;
     })

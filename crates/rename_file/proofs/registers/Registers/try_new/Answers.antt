@@ -12,10 +12,10 @@ loop-number-preserved g c =
 
 pub invariant_of-result : goal.invariant_of-result
 invariant_of-result g c =
-    let cells : c.in_ok-cells.cells.items ≡ replicate (256 + c.args.extra) (Some 0) = search rules in
+    let cells : c.in_ok-cells.cells ≡ replicate (256 + c.args.extra) (Some 0) = search rules in
     let len : length c.loop-number.free.items ≡ c.args.extra = omega arith in
     record {
-      file = first_file c.args.extra c.first_maps-maps.result c.loop-number.free.items c.in_ok-cells.cells.items cells c.first_maps-maps.ensures.eight c.first_maps-maps.ensures.first len c.loop-number.invariant.row;
+      file = first_file c.args.extra c.first_maps-maps.result c.loop-number.free.items c.in_ok-cells.cells cells c.first_maps-maps.ensures.eight c.first_maps-maps.ensures.first len c.loop-number.invariant.row;
       room = rw cells (omega (arith, length-replicate {A = Option ℕ} (256 + c.args.extra) (Some 0)));
     }
 
