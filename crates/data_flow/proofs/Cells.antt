@@ -7,7 +7,7 @@ use Rattle.std.proofs.lemmas.List.{length-set, set_past, get_or-set_other}
 use Rattle.std.proofs.lemmas.List.Sums.{sum_by-cons, sum_by-set, get_or-le-sum_by}
 use Rattle.rename_file.specs.declared.rename_map.Rename.{Rename}
 use Rattle.rename_file.specs.File.{Bank, bank, no_bank, File, IsFile, IsNewestFree, uses_in, at}
-use Rattle.rename_file.proofs.Uses.{at_self, used_in_range, used_once, newest_use}
+use Rattle.rename_file.proofs.Laws.{at_self, used_in_range, used_once, newest_use}
 use Rattle.circular_buffer.specs.Buffer.{Buffer}
 use Rattle.hart_step.specs.State.{written}
 use Rattle.data_flow.specs.declared.operands.Renamed.{Renamed}

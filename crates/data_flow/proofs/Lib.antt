@@ -1,4 +1,3 @@
-pub mod Numbered
 pub mod Written
 pub mod Ties
 pub mod Places

@@ -5,7 +5,7 @@ use Rattle.std.proofs.lemmas.List.{get_or-replicate, length-replicate}
 use Rattle.std.proofs.lemmas.List.Elements.{All-nil}
 use Rattle.rename_file.specs.File.{Bank, no_bank, File}
 use Rattle.rename_file.specs.Fresh.{IsFresh}
-use Rattle.rename_file.proofs.Uses.{committed_in_range}
+use Rattle.rename_file.proofs.Laws.{committed_in_range}
 use Rattle.circular_buffer.specs.Buffer.{Buffer, buffer}
 use Rattle.issue_queue.specs.IssueQueue.{IssueQueue}
 use Rattle.data_flow.specs.declared.operands.Renamed.{Renamed}

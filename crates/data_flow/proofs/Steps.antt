@@ -8,7 +8,7 @@ use Rattle.std.proofs.lemmas.List.{length-set, set-get_or, take_more, take_all}
 use Rattle.std.proofs.lemmas.Option.{slice_get_within}
 use Rattle.std.proofs.lemmas.List.Sums.{get_or-le-sum_by}
 use Rattle.rename_file.specs.File.{Bank, bank, no_bank, File, uses_in, at, with_cell, committed_one, undone}
-use Rattle.rename_file.proofs.Uses.{used_once, committed_in_range, at_self}
+use Rattle.rename_file.proofs.Laws.{used_once, committed_in_range, at_self}
 use Rattle.reorder_buffer.specs.Growing.{IsGrowing}
 use Rattle.reorder_buffer.proofs.Stamps.{growing_front}
 use Rattle.circular_buffer.specs.Buffer.{Buffer, buffer}

@@ -8,3 +8,4 @@ pub mod Files
 pub mod Sources
 pub mod FoundContext
 pub mod Starts
+pub mod Laws

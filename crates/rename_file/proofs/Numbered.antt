@@ -1,5 +1,5 @@
--- Items in the slots of their numbers.
-use Rattle.std.proofs.Common.{◌≡◌, ◌≢◌, ℕ, zero, suc, ◌+◌, ◌-◌, ◌<◌, ◌%◌, List, [], ◌∷◌, ◌++◌, length, get_or, take, drop, slice_get, Some, refl, sym, ap, ◌∙◌, arith, inl, inr}
+-- Items that are numbered modulo 256: which are listed, after each change of the numbers.
+use Rattle.std.proofs.Common.{◌≡◌, ℕ, zero, suc, ◌+◌, ◌-◌, ◌<◌, ◌%◌, List, [], ◌∷◌, ◌++◌, length, get_or, take, drop, slice_get, Some, refl, sym, ap, ◌∙◌, arith, inl, inr}
 use Rattle.std.proofs.lemmas.Bool.{cases_eq}
 use Rattle.std.proofs.lemmas.List.{length_push, get_or_push, get_or_append_left, take-append-le, take_all}
 use Rattle.std.proofs.lemmas.Option.{slice_get-get_or}
@@ -10,7 +10,7 @@ module _ {X : Type 0} where
   length-numbered at h zero = refl
   length-numbered at h (suc n) = omega (arith, length_push (numbered at h n) (at ((h + n) % 256)), length-numbered at h n)
 
-  -- slots that hold the same
+  -- the same items at the numbers listed
   numbered_same : (f g : ℕ → X) (h n : ℕ) → ((k : ℕ) → k < n → f ((h + k) % 256) ≡ g ((h + k) % 256)) → numbered f h n ≡ numbered g h n
   numbered_same f g h zero same = refl
   numbered_same f g h (suc n) same = rw (numbered_same f g h n (λ k lt. same k (omega arith)), same n (omega arith)) refl
@@ -37,10 +37,10 @@ module _ {X : Type 0} where
 
   -- ---- what is listed in now, and after each change
 
-  counted : (at : ℕ → X) (h t : ℕ) (now : List X) → numbered at h (count h t) ≡ now → length now ≡ count h t
+  pub counted : (at : ℕ → X) (h t : ℕ) (now : List X) → numbered at h (count h t) ≡ now → length now ≡ count h t
   counted at h t now is = ap length (sym is) ∙ length-numbered at h (count h t)
 
-  found_at : (at : ℕ → X) (h t k : ℕ) (now : List X) → numbered at h (count h t) ≡ now → k < length now → slice_get now k ≡ Some (at ((h + k) % 256))
+  pub found_at : (at : ℕ → X) (h t k : ℕ) (now : List X) → numbered at h (count h t) ≡ now → k < length now → slice_get now k ≡ Some (at ((h + k) % 256))
   found_at at h t k now is lt =
       let len = counted at h t now is in
       let found : X = at ((h + k) % 256) in
@@ -57,13 +57,13 @@ module _ {X : Type 0} where
       let last : (h + (length now - 1)) % 256 ≡ (t + 255) % 256 = omega (arith, len, some) in
       found_at at h t (length now - 1) now is (omega (arith, some)) ∙ ap (λ i. Some (at i)) last
 
-  pub pushed : (f g : ℕ → X) (h t : ℕ) (now : List X) (x : X) → numbered f h (count h t) ≡ now → h < 256 → t < 256 → length now < 255 → g t ≡ x → ((i : ℕ) → i ≢ t → g i ≡ f i) → numbered g h (count h ((t + 1) % 256)) ≡ now ++ x ∷ []
+  pub pushed : (f g : ℕ → X) (h t : ℕ) (now : List X) (x : X) → numbered f h (count h t) ≡ now → h < 256 → t < 256 → length now < 255 → g t ≡ x → ((k : ℕ) → k < length now → g ((h + k) % 256) ≡ f ((h + k) % 256)) → numbered g h (count h ((t + 1) % 256)) ≡ now ++ x ∷ []
   pushed f g h t now x is below below' room new others =
       let n : ℕ = count h t in
       let len = counted f h t now is in
       let more : count h ((t + 1) % 256) ≡ suc n = omega (arith, len, room) in
       let last : (h + n) % 256 ≡ t = omega arith in
-      let before : numbered g h n ≡ numbered f h n = numbered_same g f h n (λ k lt. others ((h + k) % 256) (λ e. omega (arith, e, last, len, room, lt))) in
+      let before : numbered g h n ≡ numbered f h n = numbered_same g f h n (λ k lt. others k (omega (arith, len, lt))) in
       rw more (ap (λ (xs : List X). xs ++ g ((h + n) % 256) ∷ []) (before ∙ is) ∙ ap (λ (i : ℕ). now ++ g i ∷ []) last ∙ ap (λ (y : X). now ++ y ∷ []) new)
 
   pub popped_back : (at : ℕ → X) (h t : ℕ) (now : List X) → numbered at h (count h t) ≡ now → h < 256 → t < 256 → 0 < length now → numbered at h (count h ((t + 255) % 256)) ≡ take (length now - 1) now

@@ -3,6 +3,7 @@ pub mod File
 pub mod Valued
 pub mod Slots
 pub mod Numbered
+pub mod Listed
 pub mod Fresh
 pub mod Newest
 pub mod ShownMap

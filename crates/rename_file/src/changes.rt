@@ -20,7 +20,8 @@ pub(crate) struct Changes {
 impl Model for Changes {
     ghost use Rattle.std.specs.Prelude.{◌≤◌, List};
     ghost use Rattle.rename_file.specs.declared.rename_map.Change.{Change};
-    ghost use Rattle.rename_file.specs.Numbered.{listed, count};
+    ghost use Rattle.rename_file.specs.Numbered.{count};
+    ghost use Rattle.rename_file.specs.Listed.{listed};
 
     ghost Value = { List Change };
 

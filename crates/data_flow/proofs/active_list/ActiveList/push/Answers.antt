@@ -1,8 +1,9 @@
-use Rattle.std.proofs.Common.{ℕ, ◌<◌, ◌%◌, ap, length, arith}
+use Rattle.std.proofs.Common.{ℕ, ◌+◌, ◌<◌, ◌%◌, ap, length, arith}
 use Rattle.circular_buffer.specs.Buffer.{Buffer, buffer}
+use Rattle.rename_file.proofs.Laws.{counted, pushed}
 use Rattle.data_flow.specs.declared.operands.Renamed.{Renamed}
-use Rattle.data_flow.specs.Slots.{slot_at, with_slot}
-use Rattle.data_flow.proofs.Numbered.{pushed}
+use Rattle.data_flow.specs.Slots.{with_slot}
+use Rattle.data_flow.specs.Listed.{of_number}
 use Rattle.data_flow.proofs.Written.{AreWide, slot_written, slot_kept}
 use Rattle.data_flow.proofs.active_list.ActiveList.push.Goals as goal
 
@@ -19,7 +20,12 @@ returns c =
       renamed_firsts = omega arith;
       renamed_seconds = omega arith;
     } in
-    let room : length c.args.self.now.items < 64 = omega (arith, c.requires, ap (λ (b : Buffer Renamed). b.capacity) c.self.view_is, c.self.invariant.1) in
-    let items = pushed (slot_at slots) (slot_at (with_slot slots here c.args.renamed)) c.self.inside.head c.self.inside.tail c.args.self.now.items c.args.renamed
-    (ap (λ (b : Buffer Renamed). b.items) c.self.view_is) (omega arith) (omega arith) room (slot_written slots here c.args.renamed wide (omega arith)) (λ i other. slot_kept slots here i c.args.renamed other) in
+    let first : ℕ = c.self.inside.head in
+    let now = c.args.self.now.items in
+    let view = ap (λ (b : Buffer Renamed). b.items) c.self.view_is in
+    let len = counted (of_number slots) first c.self.inside.tail now view in
+    let room : length now < 64 = omega (arith, c.requires, ap (λ (b : Buffer Renamed). b.capacity) c.self.view_is, c.self.invariant.1) in
+    let items = pushed (of_number slots) (of_number (with_slot slots here c.args.renamed)) first c.self.inside.tail now c.args.renamed
+    view (omega arith) (omega arith) (omega (arith, room)) (slot_written slots here c.args.renamed wide (omega arith))
+    (λ k lt. slot_kept slots here (((first + k) % 256) % 64) c.args.renamed (λ e. omega (arith, e, len, lt, room))) in
     rw (c.write.ensures, c.from.ensures, items) (ap (buffer _) (ap (λ (b : Buffer Renamed). b.capacity) c.self.view_is))
