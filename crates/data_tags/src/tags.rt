@@ -88,6 +88,7 @@ impl<A: Allocator> Delay for Tags<A> {
         self.latencies.greatest()
     }
 
+    #[inline(always)]
     fn delay(&mut self, context: Ctx, kind: Kind, address: u64) -> Lag
         ensures answer { IsTrue (is_lag_of self.old.latencies kind result) }
         ensures within { IsWithin (greatest_latency self.old.latencies) result }

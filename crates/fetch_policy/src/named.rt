@@ -37,13 +37,13 @@ impl Pick for NamedPick {
     }
 
     fn count(&self) -> Option<Count> {
-        match self {
-            NamedPick::RoundRobin => RoundRobin.count(),
-            NamedPick::Icount => Icount.count(),
-            NamedPick::Brcount => Brcount.count(),
-            NamedPick::Misscount => Misscount.count(),
-            NamedPick::Iqposn => Iqposn.count(),
-        }
+        [
+            RoundRobin.count(),
+            Icount.count(),
+            Brcount.count(),
+            Misscount.count(),
+            Iqposn.count(),
+        ][*self as usize]
     }
 
     fn reads_places(&self) -> bool {

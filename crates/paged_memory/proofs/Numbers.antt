@@ -36,3 +36,15 @@ number_at-same f g a b k same = number_at-little f a k ∙ go k same ∙ sym (nu
     go : (k : ℕ) → ((i : ℕ) → i < k → f (a + i) ≡ g (b + i)) → little f a k ≡ little g b k
     go zero same = refl
     go (suc k) same = rw (go k (λ i h. same i (omega arith)), same k (omega arith)) refl
+
+-- a number of eight bytes is two of four
+little-halves : (f : ℕ → ℕ) (a : ℕ) → little f a 8 ≡ little f a 4 + 2 ^ 32 * little f (a + 4) 4
+little-halves f a =
+    let at-0 : a + 4 + 0 ≡ a + 4 = omega arith in
+    let at-1 : a + 4 + 1 ≡ a + 5 = omega arith in
+    let at-2 : a + 4 + 2 ≡ a + 6 = omega arith in
+    let at-3 : a + 4 + 3 ≡ a + 7 = omega arith in
+    rw (at-0, at-1, at-2, at-3) (omega arith)
+
+pub number_at-halves : (f : ℕ → ℕ) (a : ℕ) → number_at f a 8 ≡ number_at f a 4 + 2 ^ 32 * number_at f (a + 4) 4
+number_at-halves f a = rw (number_at-little f a 8, number_at-little f a 4, number_at-little f (a + 4) 4) (little-halves f a)
