@@ -116,7 +116,7 @@ pub fn following(pc: u64) -> u64
 
 /// A value, and on to the next instruction in line.
 #[inline(always)]
-fn value_at(pc: u64, value: u64) -> Effect
+pub(crate) fn value_at(pc: u64, value: u64) -> Effect
     ensures { result ≡ value_at_of pc value }
 {
     Effect::Writes {
@@ -141,7 +141,7 @@ fn went_to(target: u64) -> Effect
 
 /// The same, with the address of the next instruction in line as the value.
 #[inline(always)]
-fn linked_to(pc: u64, target: u64) -> Effect
+pub(crate) fn linked_to(pc: u64, target: u64) -> Effect
     ensures { result ≡ linked_to_of pc target }
 {
     if target % 4 == 0 {
@@ -166,7 +166,7 @@ pub fn offset_by(base: u64, offset: i64) -> u64
 
 /// The value of an upper immediate, with its sign.
 #[inline(always)]
-fn upper(immediate: UpperImmediate) -> u64
+pub(crate) fn upper(immediate: UpperImmediate) -> u64
     ensures { result ≡ extended_of (immediate * 2 ^ 12) }
 {
     extended(immediate.value() << 12)
@@ -174,7 +174,7 @@ fn upper(immediate: UpperImmediate) -> u64
 
 /// The target of `jalr`, whose bit 0 is cleared.
 #[inline(always)]
-fn register_target(a: u64, immediate: Immediate) -> u64
+pub(crate) fn register_target(a: u64, immediate: Immediate) -> u64
     ensures { result ≡ offset_from a immediate / 2 * 2 }
 {
     offset_by(a, i64::from(immediate.value())) / 2 * 2
@@ -182,7 +182,7 @@ fn register_target(a: u64, immediate: Immediate) -> u64
 
 /// The low 32 bits of a sum, with their sign.
 #[inline(always)]
-fn word_sum(a: u64, immediate: Immediate) -> u64
+pub(crate) fn word_sum(a: u64, immediate: Immediate) -> u64
     ensures { result ≡ extended_of (low_of (sum a (bits immediate))) }
 {
     extended(low(offset_by(a, i64::from(immediate.value()))))
@@ -190,7 +190,13 @@ fn word_sum(a: u64, immediate: Immediate) -> u64
 
 /// On at the target of a branch where its condition holds, else at the next instruction in line.
 #[inline(always)]
-fn branched(condition: BranchCondition, offset: BranchOffset, pc: u64, a: u64, b: u64) -> Effect
+pub(crate) fn branched(
+    condition: BranchCondition,
+    offset: BranchOffset,
+    pc: u64,
+    a: u64,
+    b: u64,
+) -> Effect
     ensures effect { result ≡ (if condition_holds condition a b then went_to_of (offset_from pc offset) else Effect.Goes (following_of pc)) }
     ensures aligned { pc % 4 ≡ 0 → LeadsToAligned result }
 {

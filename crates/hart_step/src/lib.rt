@@ -5,6 +5,7 @@ mod decode_cache;
 mod effect;
 mod environment;
 mod hart;
+mod mnemonic;
 mod stop;
 mod values;
 
