@@ -1,7 +1,6 @@
 //! Eight contexts, and the data flow that they share.
 
 ghost use Rattle.std.specs.Prelude.{◌≡◌, ℕ, ◌+◌, ◌-◌, ◌<◌, ◌≤◌, ◌^◌, ◌&&◌, ◌==◌, false, not, length, count_by, slice_get, slice_index, slice_index_or, [], IfOk, IfSome, IsSome, MatchOption, Some, None, true, is_some, IsTrue, ◌↔◌};
-ghost use Rattle.arrayvec.specs.ArrayVec.{array_vec_len};
 ghost use Rattle.core_view.specs.declared.outcome.Outcome.TheVariants.{Stops};
 ghost use Rattle.core_view.specs.Events.{retire_event, stop_event, complete_event};
 ghost use Rattle.core_view.specs.Operations.{is_guessed};
@@ -25,7 +24,6 @@ ghost use Rattle.join_law.specs.Eight.{place_of};
 use crate::fetching::fetch_block;
 use crate::first::{first_flow, first_tracks, marks_of, origins_of};
 use crate::selection::Selection;
-use arrayvec::ArrayVec;
 use branch_predict::Guess;
 use checkpoint::Mark;
 use core_context::events::Retired;
@@ -37,6 +35,7 @@ use data_tags::{Delay, Lag};
 use hart_step::Stop;
 use issue_queue::Order;
 use join_law::{Ctx, Eight};
+use listing::Listing;
 use origin_set::Origin;
 use paged_memory::Memory;
 use std::alloc::{AllocError, Allocator, Global};
@@ -433,18 +432,18 @@ impl<A: Allocator> Machine<A> {
     /// greater than a limit, and fewer than a width are listed. What is renamed is listed in order.
     // It stays out of line: in a caller's loop its conditional moves become jumps, which are guessed wrongly.
     #[inline(never)]
-    pub fn rename_run(
+    pub fn rename_run<L: Listing<EntryId, 8>>(
         &mut self,
         context: Ctx,
         limit: u64,
         width: usize,
-        renamed: &mut ArrayVec<EntryId, 8>,
+        renamed: &mut L,
     )
         requires idle { self.old.names ≡ [] }
         requires width { width ≤ 8 }
-        requires room { length renamed.old.items ≤ width }
-        ensures run { IsRenamedRun context limit width self.old self.new renamed.old.items renamed.new.items }
-        ensures cannot { length renamed.new.items < width → (e : Entry) → e.stamp ≤ limit → ¬ (CanRename self.new.view context e) }
+        requires room { length (L.items renamed.old) ≤ width }
+        ensures run { IsRenamedRun context limit width self.old self.new (L.items renamed.old) (L.items renamed.new) }
+        ensures cannot { length (L.items renamed.new) < width → (e : Entry) → e.stamp ≤ limit → ¬ (CanRename self.new.view context e) }
         ensures flights { in_flight self.new ≡ in_flight self.old }
         ensures alike { IsAlike self.old self.new }
         ensures idle { self.new.names ≡ [] }
@@ -521,22 +520,22 @@ impl<A: Allocator> Machine<A> {
     /// A context that may fetch does so in its turn, at most so many entries and up to the end of a block, at most eight of
     /// all contexts in a cycle. What is fetched is listed in order.
     #[inline(always)]
-    pub fn fetch_block<G: Guess>(
+    pub fn fetch_block<G: Guess, L: Listing<EntryId, 8>>(
         &mut self,
         context: Ctx,
         num2: u8,
         guess: &mut G,
-        fetched: &mut ArrayVec<EntryId, 8>,
+        fetched: &mut L,
     )
         requires idle { self.old.names ≡ [] }
         requires cycle { self.old.view.cycle < 2 ^ 56 }
-        requires room { self.old.fetch_room + array_vec_len fetched.old ≡ 8 }
+        requires room { self.old.fetch_room + length (L.items fetched.old) ≡ 8 }
         requires eligible { is_eligible (context_at self.old context) ≡ true }
-        ensures turn { IsPickTurn (G.may_answer guess.old) self.old self.new context num2 fetched.old.items fetched.new.items }
-        ensures room { self.new.fetch_room + array_vec_len fetched.new ≡ 8 }
+        ensures turn { IsPickTurn (G.may_answer guess.old) self.old self.new context num2 (L.items fetched.old) (L.items fetched.new) }
+        ensures room { self.new.fetch_room + length (L.items fetched.new) ≡ 8 }
         ensures idle { self.new.names ≡ [] }
         ensures keeps { G.may_answer guess.new ≡ G.may_answer guess.old }
-        ensures flights { in_flight self.new + array_vec_len fetched.old ≡ in_flight self.old + array_vec_len fetched.new }
+        ensures flights { in_flight self.new + length (L.items fetched.old) ≡ in_flight self.old + length (L.items fetched.new) }
     {
         let track = &mut self.tracks[context.index()];
         let most = usize::from(num2.min(self.fetch_room)).min(track.front_room());

@@ -1,42 +1,41 @@
 //! The part of a cycle in which entries retire.
 
-ghost use Rattle.std.specs.Prelude.{◌≡◌, ℕ, ◌+◌, ◌<◌, ◌≤◌, List, [], IsSome, IsTrue, None};
+ghost use Rattle.std.specs.Prelude.{◌≡◌, ℕ, ◌+◌, ◌<◌, ◌≤◌, List, [], IsSome, IsTrue, None, length};
 ghost use Rattle.std.specs.Int.{bit_at};
 ghost use Rattle.hart_step.specs.State.{State};
 ghost use Rattle.core_view.specs.declared.note.EntryId.{EntryId};
 ghost use Rattle.core_view.specs.View.{IsLive};
 ghost use Rattle.core_context.specs.Heads.{first_done};
-ghost use Rattle.arrayvec.specs.ArrayVec.{array_vec_len};
 ghost use Rattle.fetch_policy.specs.Lawful.{turn as turn_of};
 ghost use Rattle.lawful_cycle.specs.Retire.{IsRetire};
 ghost use Rattle.core_back.specs.Machine.{Machine as MachineView, IsAlike, in_flight, context_at, with_context};
 ghost use Rattle.core_back.specs.Turn.{IsInTurn, GoesOn, ended};
 
 use crate::machine::Machine;
-use arrayvec::ArrayVec;
 use bit_vector::{clear_where, next, push, turn_eight};
 use branch_predict::Guess;
 use core_view::EntryId;
 use join_law::Ctx;
+use listing::Listing;
 use std::alloc::Allocator;
 
 /// The oldest entries retire, at most as many as the retire width in all. Contexts are taken from the cycle's number
 /// upwards, and each goes on while its oldest entry is done. One that is done with a stop stops its context, and takes no
 /// place of the width. What retires is listed in order. Returns how many entries were dropped: all of a context that
 /// stops, and what is left of one that is parked.
-pub fn retire<A: Allocator, G: Guess>(
+pub fn retire<A: Allocator, G: Guess, L: Listing<EntryId, 16>>(
     machine: &mut Machine<A>,
     guess: &mut G,
-    retired: &mut ArrayVec<EntryId, 16>,
+    retired: &mut L,
 ) -> usize
     requires idle { machine.old.names ≡ [] }
-    requires fresh { retired.old.items ≡ [] }
+    requires fresh { L.items retired.old ≡ [] }
     ensures alike { IsAlike machine.old machine.new }
     ensures idle { machine.new.names ≡ [] }
     ensures keeps { G.may_answer guess.new ≡ G.may_answer guess.old }
-    ensures dropped { result + array_vec_len retired.new + in_flight machine.new ≡ in_flight machine.old }
+    ensures dropped { result + length (L.items retired.new) + in_flight machine.new ≡ in_flight machine.old }
     ensures bound { result ≤ 10880 }
-    ensures lawful { IsRetire machine.old.view machine.new.view retired.new.items }
+    ensures lawful { IsRetire machine.old.view machine.new.view (L.items retired.new) }
 {
     let first = machine.cycle();
     let mut waiting = done_in_turn(machine, first);
@@ -94,26 +93,26 @@ fn context_in_turn(cycle: u64, turn: usize) -> Ctx
 
 /// The oldest entry of a context, which is done, retires, where something is left of the width, or stops the context.
 #[inline(always)]
-fn retire_oldest<A: Allocator, G: Guess>(
+fn retire_oldest<A: Allocator, G: Guess, L: Listing<EntryId, 16>>(
     machine: &mut Machine<A>,
     guess: &mut G,
     context: Ctx,
     left: usize,
-    retired: &mut ArrayVec<EntryId, 16>,
+    retired: &mut L,
 ) -> Turn
     requires idle { machine.old.names ≡ [] }
     requires done { IsSome (first_done (context_at machine.old context).flight) }
-    requires room { array_vec_len retired.old + left ≤ 16 }
+    requires room { length (L.items retired.old) + left ≤ 16 }
     ensures alike { IsAlike machine.old machine.new }
     ensures idle { machine.new.names ≡ [] }
-    ensures width { array_vec_len retired.new + result.left ≤ 16 }
-    ensures turn { (s : State) (stamp : ℕ) (b : MachineView) (k room : ℕ) (old : List EntryId) → IsLive s stamp (context_at b context) → IsInTurn b machine.old context k room left old retired.old.items →
-        GoesOn result.goes_on b machine.new context (k + 1) room result.left old retired.new.items }
+    ensures width { length (L.items retired.new) + result.left ≤ 16 }
+    ensures turn { (s : State) (stamp : ℕ) (b : MachineView) (k room : ℕ) (old : List EntryId) → IsLive s stamp (context_at b context) → IsInTurn b machine.old context k room left old (L.items retired.old) →
+        GoesOn result.goes_on b machine.new context (k + 1) room result.left old (L.items retired.new) }
     ensures more { IsTrue result.goes_on → IsSome (first_done (context_at machine.new context).flight) }
     ensures fewer { result.left ≤ left }
     ensures one_fewer { IsTrue result.goes_on → result.left + 1 ≡ left }
     ensures keeps { G.may_answer guess.new ≡ G.may_answer guess.old }
-    ensures dropped { result.dropped + array_vec_len retired.new + in_flight machine.new ≡ array_vec_len retired.old + in_flight machine.old }
+    ensures dropped { result.dropped + length (L.items retired.new) + in_flight machine.new ≡ length (L.items retired.old) + in_flight machine.old }
     ensures bound { result.dropped ≤ 80 }
 {
     if left == 0 {

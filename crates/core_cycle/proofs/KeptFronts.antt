@@ -16,7 +16,7 @@ use Rattle.lawful_cycle.specs.Rename.{CanRename, of_all, renamed_by, has_registe
 use Rattle.core_back.specs.Machine.{Machine, context_at, no_context}
 use Rattle.core_back.specs.Fetched.{IsRenamed}
 use Rattle.core_back.specs.Renamable.{IsPastFront, IsPastFrontStamp}
-use Rattle.core_cycle.specs.Fronts.{IsFront, AreFronts, IsLeast, IsOldest, front_of}
+use Rattle.core_cycle.specs.Fronts.{IsFront, IsLeast, IsOldest, front_of}
 
 -- ---- one front
 

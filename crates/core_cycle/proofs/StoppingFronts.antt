@@ -1,14 +1,13 @@
 -- What is known of whether fronts stop at fetch, and that nothing else can be renamed where the issue queue is full.
-use Rattle.std.proofs.Common.{◌≡◌, ◌≢◌, ℕ, ◌<◌, Bool, true, false, not, ◌&&◌, ◌||◌, eqb, Option, refl, sym, ap, subst, ◌∙◌, inl, inr}
+use Rattle.std.proofs.Common.{◌≡◌, ◌≢◌, ℕ, Bool, true, false, not, ◌&&◌, ◌||◌, eqb, Option, refl, sym, ap, subst, ◌∙◌, inl, inr}
 use Rattle.std.specs.Option.{option_map_or}
 use Rattle.std.proofs.lemmas.Bool.{cases_eq, ne_eqb}
 use Rattle.word_mask.specs.Mask.{has}
 use Rattle.core_view.specs.declared.entry.Entry.{Entry}
-use Rattle.core_view.specs.Flight.{is_queued}
 use Rattle.core_view.specs.Operations.{stops_at_fetch}
 use Rattle.core_view.specs.View.{View}
 use Rattle.lawful_cycle.specs.Views.{context_in}
-use Rattle.lawful_cycle.specs.Rename.{CanRename, of_all}
+use Rattle.lawful_cycle.specs.Rename.{CanRename}
 use Rattle.core_back.specs.Renamable.{front_stops}
 use Rattle.core_cycle.specs.Fronts.{NoneStops}
 

@@ -4,3 +4,4 @@ pub mod Runs
 pub mod Fronts
 pub mod Shown
 pub mod ShownViews
+pub mod Notes

@@ -1,23 +1,30 @@
 //! Eight contexts between two cycles, when nothing is selected.
 
-ghost use Rattle.std.specs.Prelude.{◌≡◌, ℕ, ◌+◌, ◌<◌, ◌^◌, []};
-ghost use Rattle.arrayvec.specs.ArrayVec.{array_vec_len};
+ghost use Rattle.std.specs.Prelude.{◌≡◌, ℕ, ◌+◌, ◌<◌, ◌^◌, [], length};
 ghost use Rattle.core_view.specs.View.{IsLive};
 ghost use Rattle.origin_set.specs.Start.{start};
 ghost use Rattle.lawful_cycle.specs.Cycle.{IsLawfulCycle, laws_of};
 ghost use Rattle.lawful_cycle.specs.Timing.{AreTimely};
 ghost use Rattle.core_back.specs.Machine.{context_at, in_flight};
+ghost use Rattle.core_cycle.specs.Notes.{note_with};
 
 use crate::{fetching, renaming};
-use arrayvec::ArrayVec;
 use branch_predict::Guess;
 use core_back::{Machine, complete, issue, retire};
-use core_view::CycleNote;
+use core_view::{EntryId, Issue};
 use data_tags::Delay;
 use fetch_policy::Pick;
 use issue_queue::Order;
+use listing::Listing;
 use std::alloc::{Allocator, Global};
 use std::marker::Model;
+
+/// How many entries completed in a cycle, and how many left the flights without retiring.
+#[derive(Clone, Copy)]
+pub(crate) struct EntryCounts {
+    pub(crate) completed: u32,
+    pub(crate) cut: u32,
+}
 
 /// Eight contexts between two cycles, when each entry was fetched by the cycle that comes, and what was issued is due
 /// in it or later. A contract sees the machine.
@@ -69,16 +76,31 @@ impl<A: Allocator> Contexts<A> {
         self.machine
     }
 
-    /// The parts of a cycle, in order. The note says what was done, and nothing of what it said before.
-    pub(crate) fn cycle<G: Guess, P: Pick, O: Order, D: Delay>(
+    /// The parts of a cycle, in order. What is done is listed, in four lists that are empty before. Returns what no list tells.
+    pub(crate) fn cycle<
+        G: Guess,
+        P: Pick,
+        O: Order,
+        D: Delay,
+        L: Listing<EntryId, 8>,
+        I: Listing<Issue, 8>,
+        R: Listing<EntryId, 16>,
+    >(
         &mut self,
         guess: &mut G,
         pick: &P,
         order: &O,
         delay: &mut D,
-        note: &mut CycleNote,
-    )
-        requires { self.old.view.cycle < 2 ^ 56 }
+        fetched: &mut L,
+        renamed: &mut L,
+        issued: &mut I,
+        retired: &mut R,
+    ) -> EntryCounts
+        requires cycle { self.old.view.cycle < 2 ^ 56 }
+        requires fetched { L.items fetched.old ≡ [] }
+        requires renamed { L.items renamed.old ≡ [] }
+        requires issued { I.items issued.old ≡ [] }
+        requires retired { R.items retired.old ≡ [] }
         ensures live { (c : ℕ) → c < 8 → IsLive (start self.new.origin c) self.new.view.stamp (context_at self.new c) }
         ensures cycle { self.new.view.cycle ≡ self.old.view.cycle + 1 }
         ensures origin { self.new.origin ≡ self.old.origin }
@@ -89,34 +111,21 @@ impl<A: Allocator> Contexts<A> {
         ensures guess { G.may_answer guess.new ≡ G.may_answer guess.old }
         ensures delay { D.may_answer delay.new ≡ D.may_answer delay.old }
         ensures greatest { D.greatest_lag delay.new ≡ D.greatest_lag delay.old }
-        ensures lawful { IsLawfulCycle (laws_of (P.key_of pick.now) (O.key_of order.now) (G.may_answer guess.old) (D.may_answer delay.old)) self.old.view self.new.view note.new }
+        ensures lawful { IsLawfulCycle (laws_of (P.key_of pick.now) (O.key_of order.now) (G.may_answer guess.old) (D.may_answer delay.old)) self.old.view self.new.view (note_with (L.items fetched.new) (L.items renamed.new) (I.items issued.new) (R.items retired.new) result.completed result.cut) }
         ensures timely { AreTimely self.new.view.cycle self.new.view }
-        ensures flights { note.new.cut + array_vec_len note.new.retired + in_flight self.new ≡ in_flight self.old + array_vec_len note.new.fetched }
+        ensures flights { result.cut + length (R.items retired.new) + in_flight self.new ≡ in_flight self.old + length (L.items fetched.new) }
     {
-        clear(note);
-        let dropped = retire(&mut self.machine, guess, &mut note.retired);
+        let dropped = retire(&mut self.machine, guess, retired);
         let completion = complete(&mut self.machine);
-        note.completed = completion.completed as u32;
-        note.cut = (dropped + completion.cut) as u32;
-        issue(&mut self.machine, order, delay, &mut note.issued);
-        renaming::rename(&mut self.machine, &mut note.renamed);
-        fetching::fetch(&mut self.machine, pick, guess, &mut note.fetched);
+        issue(&mut self.machine, order, delay, issued);
+        renaming::rename(&mut self.machine, renamed);
+        fetching::fetch(&mut self.machine, pick, guess, fetched);
         self.machine.tick();
         // `cycle` ensures that each context is live.
         let _live = self.machine.cycle();
+        EntryCounts {
+            completed: completion.completed as u32,
+            cut: (dropped + completion.cut) as u32,
+        }
     }
-}
-
-/// A note of a cycle before says nothing any more.
-// New lists are written at once, where `clear` fills each as far as it reached, by a call.
-fn clear(note: &mut CycleNote)
-    ensures fetched { note.new.fetched.items ≡ [] }
-    ensures renamed { note.new.renamed.items ≡ [] }
-    ensures issued { note.new.issued.items ≡ [] }
-    ensures retired { note.new.retired.items ≡ [] }
-{
-    note.fetched = ArrayVec::new();
-    note.renamed = ArrayVec::new();
-    note.issued = ArrayVec::new();
-    note.retired = ArrayVec::new();
 }

@@ -14,6 +14,7 @@ ghost use Rattle.core_back.specs.First.{IsFirst, AreMarksAt};
 ghost use Rattle.core_cycle.specs.Faults.{IsBehind, IsRefusal};
 
 use crate::contexts::Contexts;
+use crate::counts::CycleCounts;
 use crate::fault::CoreFault;
 use branch_predict::Guess;
 use checkpoint::Mark;
@@ -24,6 +25,7 @@ use data_tags::Delay;
 use fetch_policy::Pick;
 use issue_queue::Order;
 use join_law::{Ctx, Eight};
+use listing::Tally;
 use paged_memory::Memory;
 use std::alloc::{Allocator, Global};
 
@@ -114,6 +116,7 @@ impl<G: Guess + Drop, P: Pick + Drop, O: Order + Drop, D: Delay + Drop, A: Alloc
     D,
     A,
 > {
+    ghost use Rattle.core_cycle.specs.Notes.{note_of};
     ghost use Rattle.core_cycle.specs.Shown.{shown};
 
     /// One cycle: entries retire, complete, issue, are renamed and are fetched. It takes no memory. Returns what was
@@ -139,13 +142,23 @@ impl<G: Guess + Drop, P: Pick + Drop, O: Order + Drop, D: Delay + Drop, A: Alloc
         ensures flights { result.cut + array_vec_len result.retired + in_flight (shown self.new) ≡ in_flight (shown self.old) + array_vec_len result.fetched }
     {
         let mut note = CycleNote::new();
-        self.cycle_into(&mut note);
+        let counts = self.contexts.cycle(
+            &mut self.guess,
+            &self.pick,
+            &self.order,
+            &mut self.delay,
+            &mut note.fetched,
+            &mut note.renamed,
+            &mut note.issued,
+            &mut note.retired,
+        );
+        note.completed = counts.completed;
+        note.cut = counts.cut;
         note
     }
 
-    /// The same, told by a note that is there: what it said before is forgotten. A note that serves for many cycles is
-    /// made once.
-    pub fn cycle_into(&mut self, note: &mut CycleNote)
+    /// The same, told by counts alone.
+    pub fn cycle_counted(&mut self) -> CycleCounts
         requires { (shown self.old).view.cycle < 2 ^ 56 }
         ensures live { (c : ℕ) → c < 8 → IsLive (start (shown self.new).origin c) (shown self.new).view.stamp (context_at (shown self.new) c) }
         ensures cycle { (shown self.new).view.cycle ≡ (shown self.old).view.cycle + 1 }
@@ -159,17 +172,33 @@ impl<G: Guess + Drop, P: Pick + Drop, O: Order + Drop, D: Delay + Drop, A: Alloc
         ensures greatest { D.greatest_lag self.new.delay ≡ D.greatest_lag self.old.delay }
         ensures pick { self.new.pick ≡ self.old.pick }
         ensures order { self.new.order ≡ self.old.order }
-        ensures lawful { IsLawfulCycle (laws_of (P.key_of self.old.pick) (O.key_of self.old.order) (G.may_answer self.old.guess) (D.may_answer self.old.delay)) (shown self.old).view (shown self.new).view note.new }
+        ensures lawful { IsLawfulCycle (laws_of (P.key_of self.old.pick) (O.key_of self.old.order) (G.may_answer self.old.guess) (D.may_answer self.old.delay)) (shown self.old).view (shown self.new).view (note_of result) }
         ensures timely { AreTimely (shown self.new).view.cycle (shown self.new).view }
-        ensures flights { note.new.cut + array_vec_len note.new.retired + in_flight (shown self.new) ≡ in_flight (shown self.old) + array_vec_len note.new.fetched }
+        ensures flights { result.cut + length result.retired + in_flight (shown self.new) ≡ in_flight (shown self.old) + length result.fetched }
     {
-        self.contexts.cycle(
+        // Each by itself: in one struct that is lent field by field they stand in memory, and not in registers.
+        let mut fetched = Tally::new();
+        let mut renamed = Tally::new();
+        let mut issued = Tally::new();
+        let mut retired = Tally::new();
+        let counts = self.contexts.cycle(
             &mut self.guess,
             &self.pick,
             &self.order,
             &mut self.delay,
-            note,
+            &mut fetched,
+            &mut renamed,
+            &mut issued,
+            &mut retired,
         );
+        CycleCounts {
+            fetched,
+            renamed,
+            issued,
+            retired,
+            completed: counts.completed,
+            cut: counts.cut,
+        }
     }
 
     /// The number of the cycle that comes. Each context is live and the view sound, at most 80 of its entries are in

@@ -2,11 +2,13 @@
 #![tactic(auto)]
 
 mod contexts;
+mod counts;
 mod cycle;
 mod fault;
 mod fetching;
 mod fronts;
 mod renaming;
 
+pub use counts::CycleCounts;
 pub use cycle::Core;
 pub use fault::CoreFault;

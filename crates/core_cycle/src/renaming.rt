@@ -8,10 +8,10 @@ ghost use Rattle.core_cycle.specs.Fronts.{AreFronts, IsFront, IsLeast, NoneStops
 ghost use Rattle.core_cycle.specs.Runs.{AreBehind, IsRun};
 
 use crate::fronts::Fronts;
-use arrayvec::ArrayVec;
 use core_back::Machine;
 use core_view::EntryId;
 use join_law::Ctx;
+use listing::Listing;
 use std::alloc::Allocator;
 
 /// Entries are renamed, one by one, at most as many as the rename width: each is the one with the least stamp of the
@@ -21,13 +21,16 @@ use std::alloc::Allocator;
 /// looked at only where one of theirs may come first.
 // It stays out of line: among the other parts of a cycle its loop has too few of the host's registers.
 #[inline(never)]
-pub(crate) fn rename<A: Allocator>(machine: &mut Machine<A>, renamed: &mut ArrayVec<EntryId, 8>)
+pub(crate) fn rename<A: Allocator, L: Listing<EntryId, 8>>(
+    machine: &mut Machine<A>,
+    renamed: &mut L,
+)
     requires idle { machine.old.names ≡ [] }
-    requires fresh { renamed.old.items ≡ [] }
+    requires fresh { L.items renamed.old ≡ [] }
     ensures alike { IsAlike machine.old machine.new }
     ensures idle { machine.new.names ≡ [] }
     ensures flights { in_flight machine.new ≡ in_flight machine.old }
-    ensures lawful { IsRename machine.old.view machine.new.view renamed.new.items }
+    ensures lawful { IsRename machine.old.view machine.new.view (L.items renamed.new) }
 {
     let width = usize::from(machine.profile().rename_width);
     // `cycle` ensures that each context is live, so its stamps grow.
@@ -64,22 +67,22 @@ fn next_front<A: Allocator>(machine: &Machine<A>, fronts: &Fronts, stops: bool) 
 /// Entries of a context are renamed for as long as they can be, come before what can be renamed of the other contexts, and
 /// there are fewer in all than the width. What can be renamed of another context then could be before, so that none but
 /// this context's front changes.
-fn rename_run<A: Allocator>(
+fn rename_run<A: Allocator, L: Listing<EntryId, 8>>(
     machine: &mut Machine<A>,
-    renamed: &mut ArrayVec<EntryId, 8>,
+    renamed: &mut L,
     context: Ctx,
     limit: u64,
     width: usize,
 )
     requires idle { machine.old.names ≡ [] }
     requires width { width ≤ 8 }
-    requires room { length renamed.old.items ≤ width }
+    requires room { length (L.items renamed.old) ≤ width }
     requires behind { AreBehind machine.old.view context limit }
     ensures alike { IsAlike machine.old machine.new }
     ensures idle { machine.new.names ≡ [] }
     ensures flights { in_flight machine.new ≡ in_flight machine.old }
-    ensures run { IsRun context width machine.old.view machine.new.view renamed.old.items renamed.new.items }
-    ensures cannot { length renamed.new.items < width → (e : Entry) → e.stamp ≤ limit → ¬ (CanRename machine.new.view context e) }
+    ensures run { IsRun context width machine.old.view machine.new.view (L.items renamed.old) (L.items renamed.new) }
+    ensures cannot { length (L.items renamed.new) < width → (e : Entry) → e.stamp ≤ limit → ¬ (CanRename machine.new.view context e) }
 {
     machine.rename_run(context, limit, width, renamed);
 }

@@ -2,9 +2,11 @@
 
 ghost use Rattle.std.specs.Prelude.{◌≡◌};
 ghost use Rattle.lawful_cycle.specs.Runs.{added, no_figures};
+ghost use Rattle.core_cycle.specs.Notes.{note_of};
 ghost use Rattle.core_run.specs.Told.{HasRoom, IsShort, figures_of};
 
-use core_view::CycleNote;
+use core_cycle::CycleCounts;
+use listing::Listing;
 
 /// What a run did: how many cycles it took, and how many entries were fetched, renamed, issued, retired and squashed in
 /// them.
@@ -39,17 +41,17 @@ impl Figures {
         }
     }
 
-    /// Adds one more cycle by its note. Each figure has to be below 2^63.
-    pub fn add(&mut self, note: &CycleNote)
+    /// Adds one more cycle by its counts. Each figure has to be below 2^63.
+    pub fn add(&mut self, counts: &CycleCounts)
         requires { HasRoom (figures_of self.old) }
-        ensures added { figures_of self.new ≡ added (figures_of self.old) note.now }
-        ensures short { IsShort note.now }
+        ensures added { figures_of self.new ≡ added (figures_of self.old) (note_of counts.now) }
+        ensures short { IsShort (note_of counts.now) }
     {
         self.cycles += 1;
-        self.fetched += note.fetched.len() as u64;
-        self.renamed += note.renamed.len() as u64;
-        self.issued += note.issued.len() as u64;
-        self.retired += note.retired.len() as u64;
-        self.squashed += u64::from(note.cut);
+        self.fetched += counts.fetched.len() as u64;
+        self.renamed += counts.renamed.len() as u64;
+        self.issued += counts.issued.len() as u64;
+        self.retired += counts.retired.len() as u64;
+        self.squashed += u64::from(counts.cut);
     }
 }

@@ -11,7 +11,6 @@ use crate::figures::Figures;
 use branch_predict::Guess;
 use checkpoint::Mark;
 use core_cycle::Core;
-use core_view::CycleNote;
 use data_tags::Delay;
 use fetch_policy::Pick;
 use issue_queue::Order;
@@ -66,13 +65,12 @@ fn advance<G: Guess + Drop, P: Pick + Drop, O: Order + Drop, D: Delay + Drop, A:
     // `cycles` ensures that what is in flight can be counted.
     let _first = core.cycles();
     let mut figures = Figures::new();
-    let mut note = CycleNote::new();
     for _cycle in 0..limit {
         if !some_runs(core) {
             return (Outcome::Reached, figures);
         }
-        core.cycle_into(&mut note);
-        figures.add(&note);
+        let counts = core.cycle_counted();
+        figures.add(&counts);
     }
     if some_runs(core) {
         (Outcome::CycleLimit, figures)

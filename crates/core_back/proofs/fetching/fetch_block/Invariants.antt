@@ -1,5 +1,4 @@
-use Rattle.std.proofs.Common.{◌≡◌, ◌+◌, ◌-◌, ◌≤◌}
-use Rattle.arrayvec.specs.ArrayVec.{array_vec_len}
+use Rattle.std.proofs.Common.{◌≡◌, ◌+◌, ◌-◌, ◌≤◌, length}
 use Rattle.core_view.specs.Flight.{pc_past}
 use Rattle.core_back.proofs.Blocks.{GoesOn}
 use Rattle.core_back.proofs.BlockTurns.{HasFetched}
@@ -8,10 +7,10 @@ use Rattle.core_back.proofs.fetching.fetch_block.Given as goal
 abbrev pub invariant-loop-number : goal.invariant-loop-number
 invariant-loop-number g l = record {
   within : l.number ≤ l.most;
-  fetched : HasFetched (g.G.Guess.may_answer l.fn.guess l.fn.context) l.fn.cycle l.fn.stamp l.fn.context l.number l.fn.track l.track l.fn.fetched.items l.fetched.items;
+  fetched : HasFetched (g.G.Guess.may_answer l.fn.guess l.fn.context) l.fn.cycle l.fn.stamp l.fn.context l.number l.fn.track l.track (g.L.Listing.items l.fn.fetched) (g.L.Listing.items l.fetched);
   goes : GoesOn l.number l.track.context;
   pc : l.pc ≡ pc_past l.track.context.state.pc l.track.context.flight;
-  long : array_vec_len l.fetched ≡ array_vec_len l.fn.fetched + l.number;
+  long : length (g.L.Listing.items l.fetched) ≡ length (g.L.Listing.items l.fn.fetched) + l.number;
   keeps : g.G.Guess.may_answer l.guess ≡ g.G.Guess.may_answer l.fn.guess;
 }
 

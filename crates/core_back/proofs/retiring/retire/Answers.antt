@@ -28,10 +28,10 @@ loop-turn-init g c =
       idle = c.requires.idle;
       room = omega (arith, most, c.from-left.ensures, ap length c.requires.fresh);
       waiting = waits;
-      turns = arrives m.view.profile.retire_width m c.cycle-first.ensures.live m c.from-left.result c.args.retired.now.items 0 c.next-turn.result (omega arith) (omega arith)
+      turns = arrives m.view.profile.retire_width m c.cycle-first.ensures.live m c.from-left.result (g.L.Listing.items c.args.retired.now) 0 c.next-turn.result (omega arith) (omega arith)
           (λ t d from below low ld is. c.done_in_turn-waiting.ensures.none t d low ld (at t d is) (c.next-turn.ensures.clear t from below))
           (λ low d ld is. left_done m c.done_in_turn-waiting.result c.next-turn.result d waits (omega (arith, low)) ld is)
-          (turned_none m.view.profile.retire_width c.from-left.result m c.args.retired.now.items c.cycle-first.ensures.contexts c.requires.fresh (c.from-left.ensures ∙ ap (λ (p : Profile). p.retire_width) c.profile.ensures));
+          (turned_none m.view.profile.retire_width c.from-left.result m (g.L.Listing.items c.args.retired.now) c.cycle-first.ensures.contexts c.requires.fresh (c.from-left.ensures ∙ ap (λ (p : Profile). p.retire_width) c.profile.ensures));
       live = c.cycle-first.ensures.live;
       first = c.cycle-first.ensures.value;
       dropped = omega (arith, ap length c.requires.fresh);
@@ -76,7 +76,7 @@ loop-turn-preserved g c =
       idle = c.retire_oldest-after.ensures.idle;
       room = c.retire_oldest-after.ensures.width;
       waiting = waits;
-      turns = goes_to m.view.profile.retire_width m h.live c.loop-turn.machine c.retire_oldest-after.new.machine t c.context_in_turn-context.result c.loop-turn.left c.retire_oldest-after.result.left c.loop-turn.retired.items c.retire_oldest-after.new.retired.items
+      turns = goes_to m.view.profile.retire_width m h.live c.loop-turn.machine c.retire_oldest-after.new.machine t c.context_in_turn-context.result c.loop-turn.left c.retire_oldest-after.result.left (g.L.Listing.items c.loop-turn.retired) (g.L.Listing.items c.retire_oldest-after.new.retired)
           (h.turns.in_turn small) c.context_in_turn-context.ensures.small at c.loop-turn.waiting u (bool_byte (not on)) on refl small
           (h.waiting.here c.loop-turn-test.true) from between h.waiting.none
           (λ low d ld is. left_done m c.clear_where-waiting.result u d waits (omega (arith, low)) ld is) c.retire_oldest-after.ensures.more
@@ -107,5 +107,5 @@ returns-clause-bound g c = omega (arith, c.loop-turn.invariant.bound, c.loop-tur
 
 pub returns-clause-lawful : goal.returns-clause-lawful
 returns-clause-lawful g c =
-    retire_lawful c.loop-turn.left c.args.machine.now c.loop-turn.machine c.loop-turn.retired.items c.loop-turn.invariant.live c.cycle-live.ensures.live
+    retire_lawful c.loop-turn.left c.args.machine.now c.loop-turn.machine (g.L.Listing.items c.loop-turn.retired) c.loop-turn.invariant.live c.cycle-live.ensures.live
     (c.loop-turn.invariant.turns.over (omega (arith, c.loop-turn-test.false, c.loop-turn.invariant.waiting.few)))

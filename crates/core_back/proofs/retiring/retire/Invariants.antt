@@ -1,5 +1,4 @@
-use Rattle.std.proofs.Common.{◌≡◌, ◌+◌, ◌-◌, ◌*◌, ◌≤◌, []}
-use Rattle.arrayvec.specs.ArrayVec.{array_vec_len}
+use Rattle.std.proofs.Common.{◌≡◌, ◌+◌, ◌-◌, ◌*◌, ◌≤◌, [], length}
 use Rattle.core_back.specs.Machine.{IsAlike, in_flight}
 use Rattle.core_back.proofs.RetireTurns.{AllLive}
 use Rattle.core_back.proofs.RetireSteps.{AtTurn}
@@ -10,12 +9,12 @@ abbrev pub invariant-loop-turn : goal.invariant-loop-turn
 invariant-loop-turn g l = record {
   alike : IsAlike l.fn.machine l.machine;
   idle : l.machine.names ≡ [];
-  room : array_vec_len l.retired + l.left ≤ 16;
+  room : length (g.L.Listing.items l.retired) + l.left ≤ 16;
   waiting : AreLeft l.fn.machine l.waiting l.turn;
-  turns : AtTurn l.fn.machine.view.profile.retire_width l.turn l.fn.machine l.machine l.left l.retired.items;
+  turns : AtTurn l.fn.machine.view.profile.retire_width l.turn l.fn.machine l.machine l.left (g.L.Listing.items l.retired);
   live : AllLive l.fn.machine;
   first : l.first ≡ l.fn.machine.view.cycle;
-  dropped : l.dropped + array_vec_len l.retired + in_flight l.machine ≡ in_flight l.fn.machine;
+  dropped : l.dropped + length (g.L.Listing.items l.retired) + in_flight l.machine ≡ in_flight l.fn.machine;
   width : l.left ≤ 16;
   bound : l.dropped + l.left * 80 ≤ 1280 + l.turn * 80;
   keeps : g.G.Guess.may_answer l.guess ≡ g.G.Guess.may_answer l.fn.guess;

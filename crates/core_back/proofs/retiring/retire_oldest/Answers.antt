@@ -15,7 +15,7 @@ id_at c k = record { context = c; stamp = k }
 
 pub returns-then-left-eq0-clause-turn : goal.returns-then-left-eq0-clause-turn
 returns-then-left-eq0-clause-turn g c s stamp b k room old live so_far =
-    turn_used_up s stamp b c.args.machine.now c.stop_done-stopped.new.machine c.args.context k room c.args.left old c.args.retired.now.items live so_far c.if-left-eq0.true c.stop_done-stopped.ensures.stopped
+    turn_used_up s stamp b c.args.machine.now c.stop_done-stopped.new.machine c.args.context k room c.args.left old (g.L.Listing.items c.args.retired.now) live so_far c.if-left-eq0.true c.stop_done-stopped.ensures.stopped
 
 -- ---- the oldest entry retires
 
@@ -36,8 +36,8 @@ pub returns-in-None-clause-turn : goal.returns-in-None-clause-turn
 returns-in-None-clause-turn g c s stamp b k room old live so_far =
     let step : Step = step_on (first_done (context_at c.args.machine.now c.args.context).flight) in
     let fewer : c.args.left - 1 + 1 ≡ c.args.left = omega (arith, c.if-left-eq0.false) in
-    turn_goes_on s stamp b c.retire-gone.new.self c.args.context (k + 1) room (c.args.left - 1) old c.push.new.self.items c.is_head_done-goes_on.result live
-    (turn_retires s stamp b c.args.machine.now c.retire-gone.new.self c.args.context k room c.args.left old c.args.retired.now.items live so_far step (c.args.left - 1) c.push.new.self.items
+    turn_goes_on s stamp b c.retire-gone.new.self c.args.context (k + 1) room (c.args.left - 1) old (g.L.Listing.items c.push.new.self) c.is_head_done-goes_on.result live
+    (turn_retires s stamp b c.args.machine.now c.retire-gone.new.self c.args.context k room c.args.left old (g.L.Listing.items c.args.retired.now) live so_far step (c.args.left - 1) (g.L.Listing.items c.push.new.self)
     (id_at c.args.context c.retire-gone.result.stamp) (c.in-None.ensures.goes refl) c.retire-gone.ensures.retired fewer (ap (id_at c.args.context) c.retire-gone.ensures.stamp) c.push.ensures.items) c.is_head_done-goes_on.ensures
 
 -- ---- it stops the context
@@ -51,4 +51,4 @@ returns-in-Some-clause-idle g c = ap (λ (m : Machine). m.names) c.stop-stopped.
 
 pub returns-in-Some-clause-turn : goal.returns-in-Some-clause-turn
 returns-in-Some-clause-turn g c s stamp b k room old live so_far =
-    turn_stops s stamp b c.args.machine.now c.stop-stopped.new.self c.args.context k room c.args.left old c.args.retired.now.items live so_far c.in-Some.why c.in-Some.ensures.stops c.stop-stopped.ensures.stopped
+    turn_stops s stamp b c.args.machine.now c.stop-stopped.new.self c.args.context k room c.args.left old (g.L.Listing.items c.args.retired.now) live so_far c.in-Some.why c.in-Some.ensures.stops c.stop-stopped.ensures.stopped

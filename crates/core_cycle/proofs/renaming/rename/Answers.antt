@@ -2,7 +2,7 @@ use Rattle.std.proofs.Common.{◌≡◌, ◌<◌, ◌≤◌, ◌∙◌, refl, sy
 use Rattle.std.proofs.lemmas.Bool.{le-ltb}
 use Rattle.std.proofs.lemmas.Bool.{ltb-false}
 use Rattle.core_view.specs.declared.note.EntryId.{EntryId}
-use Rattle.core_cycle.specs.Fronts.{IsFront, IsOldest}
+use Rattle.core_cycle.specs.Fronts.{IsFront}
 use Rattle.core_cycle.specs.Runs.{IsGrown}
 use Rattle.core_cycle.proofs.Alike.{alike_none, alike_chain}
 use Rattle.core_cycle.proofs.KeptRuns.{behind_fronts, others_left, none_left, turn_decreases}
@@ -21,7 +21,7 @@ loop-context-init g c =
       fronts = c.find-stops.ensures.fronts;
       eight = c.find-stops.ensures.eight;
       way = record {
-        so_far = rename_none c.args.machine.now.view c.args.renamed.now.items c.cycle-live.ensures.contexts c.requires.fresh;
+        so_far = rename_none c.args.machine.now.view (g.L.Listing.items c.args.renamed.now) c.cycle-live.ensures.contexts c.requires.fresh;
         each = λ j lt. absurd (omega (arith, lt, none));
       };
       most = omega (arith, none);
@@ -66,7 +66,7 @@ returns-then-len-width-clause-lawful g c =
       is = way.so_far;
       each = way.each;
       most = rw (sym profile) (omega (arith, full, len, width));
-      until = λ short. absurd (let less = subst (λ p. length c.rename_run.new.renamed.items < p.rename_width) (sym profile) short in omega (arith, less, full, len, width));
+      until = λ short. absurd (let less = subst (λ p. length (g.L.Listing.items c.rename_run.new.renamed) < p.rename_width) (sym profile) short in omega (arith, less, full, len, width));
     }
 
 pub loop-context-smaller : goal.loop-context-smaller
@@ -74,7 +74,7 @@ loop-context-smaller g c =
     let run = c.rename_run.ensures.run in
     let before = c.len-before.ensures.value in
     let now = c.len-in-Some.ensures.value in
-    turn_decreases c.loop-context.fronts c.end_run.new.fronts c.in-Some.context c.from-width.result (length c.loop-context.renamed.items) (length c.rename_run.new.renamed.items) c.in-Some.ensures.least c.end_run.ensures.eight run.more run.most
+    turn_decreases c.loop-context.fronts c.end_run.new.fronts c.in-Some.context c.from-width.result (length (g.L.Listing.items c.loop-context.renamed)) (length (g.L.Listing.items c.rename_run.new.renamed)) c.in-Some.ensures.least c.end_run.ensures.eight run.more run.most
     (λ stayed. c.end_run.ensures.same (le-ltb c.len-before.result c.len-in-Some.result (omega (arith, stayed, before, now))) ∙ c.take-limit.ensures.taken)
 
 pub loop-context-preserved : goal.loop-context-preserved
@@ -102,6 +102,6 @@ returns-clause-lawful g c =
     record {
       is = i.way.so_far;
       each = i.way.each;
-      most = subst (λ p. length c.loop-context.renamed.items ≤ p.rename_width) c.profile.ensures (omega (arith, most, width));
+      most = subst (λ p. length (g.L.Listing.items c.loop-context.renamed) ≤ p.rename_width) c.profile.ensures (omega (arith, most, width));
       until = λ _. c.next_front.ensures.none c.in_default.is;
     }

@@ -13,12 +13,12 @@ invariant-loop-context g l = record {
   flights : in_flight l.machine ≡ in_flight l.fn.machine;
   fronts : AreFronts l.machine.view l.fronts;
   eight : length l.fronts ≡ 8;
-  way : IsOnWay l.fn.machine.view l.machine.view l.renamed.items;
-  most : length l.renamed.items ≤ l.width;
+  way : IsOnWay l.fn.machine.view l.machine.view (g.L.Listing.items l.renamed);
+  most : length (g.L.Listing.items l.renamed) ≤ l.width;
   width : l.width ≤ 8;
   stops : l.stops ≡ false → (c : ℕ) → NoneStops l.machine.view c;
 }
 
 -- each turn lists more entries or leaves a front less
 abbrev pub decreases-loop-context : goal.decreases-loop-context
-decreases-loop-context g l = (l.width - length l.renamed.items) * 9 + count_by is_some l.fronts
+decreases-loop-context g l = (l.width - length (g.L.Listing.items l.renamed)) * 9 + count_by is_some l.fronts

@@ -1,6 +1,7 @@
 use Rattle.std.proofs.Common.{◌≡◌, refl, subst, ◌∙◌, arith, rules}
 use Rattle.lawful_cycle.specs.Cycle.{Laws, IsLawfulCycle, laws_of}
 use Rattle.lawful_cycle.specs.Runs.{SomeRuns}
+use Rattle.core_cycle.specs.Notes.{note_of}
 use Rattle.core_cycle.specs.Shown.{shown}
 use Rattle.core_run.specs.Told.{figures_of}
 use Rattle.core_run.proofs.Runs.{few_in_flight, underway_first, underway_next, underway_room}
@@ -28,11 +29,11 @@ loop-cycle-preserved g c =
     let runs : SomeRuns (shown old).view = search (rules, c.some_runs.ensures.0) in
     record {
       few = c.loop-cycle.invariant.few;
-      pick = c.cycle_into.ensures.pick ∙ c.loop-cycle.invariant.pick;
-      order = c.cycle_into.ensures.order ∙ c.loop-cycle.invariant.order;
-      guesses = c.cycle_into.ensures.guess ∙ c.loop-cycle.invariant.guesses;
-      delays = c.cycle_into.ensures.delay ∙ c.loop-cycle.invariant.delays;
-      way = underway_next laws (shown c.args.core.now) (shown old) (shown c.cycle_into.new.self) c.loop-cycle._cycle (figures_of c.loop-cycle.figures) (figures_of c.add.new.self) c.cycle_into.new.note c.loop-cycle.invariant.way c.add.ensures.added c.add.ensures.short runs
-          (subst (λ (l : Laws). IsLawfulCycle l (shown old).view (shown c.cycle_into.new.self).view c.cycle_into.new.note) same c.cycle_into.ensures.lawful)
-          c.cycle_into.ensures.origin c.cycle_into.ensures.profile c.cycle_into.ensures.cycle c.cycle_into.ensures.targets c.cycle_into.ensures.live c.cycle_into.ensures.flights;
+      pick = c.cycle_counted-counts.ensures.pick ∙ c.loop-cycle.invariant.pick;
+      order = c.cycle_counted-counts.ensures.order ∙ c.loop-cycle.invariant.order;
+      guesses = c.cycle_counted-counts.ensures.guess ∙ c.loop-cycle.invariant.guesses;
+      delays = c.cycle_counted-counts.ensures.delay ∙ c.loop-cycle.invariant.delays;
+      way = underway_next laws (shown c.args.core.now) (shown old) (shown c.cycle_counted-counts.new.self) c.loop-cycle._cycle (figures_of c.loop-cycle.figures) (figures_of c.add.new.self) (note_of c.cycle_counted-counts.result) c.loop-cycle.invariant.way c.add.ensures.added c.add.ensures.short runs
+          (subst (λ (l : Laws). IsLawfulCycle l (shown old).view (shown c.cycle_counted-counts.new.self).view (note_of c.cycle_counted-counts.result)) same c.cycle_counted-counts.ensures.lawful)
+          c.cycle_counted-counts.ensures.origin c.cycle_counted-counts.ensures.profile c.cycle_counted-counts.ensures.cycle c.cycle_counted-counts.ensures.targets c.cycle_counted-counts.ensures.live c.cycle_counted-counts.ensures.flights;
     }

@@ -51,23 +51,23 @@ returns-clause-turn g c =
     let front : c.front_room.result ≡ front_room t.context = c.front_room.ensures ∙ ap (λ n. 16 - n) (sym (fetched_count t.renamed t.context.flight h.core.are_renamed h.core.are_fetched)) in
     let room = ap (λ (v : Machine). v.fetch_room) c.self.view_is in
     let contexts = ap (λ (v : Machine). length v.view.contexts) c.self.view_is in
-    pick_turn (g.G.Guess.may_answer c.args.guess.now) c.args.self.now _ c.args.context c.args.num2 c.fetch_block-number.result c.self.inside.cycle c.self.inside.stamp t.context c.fetch_block-number.new.track.context c.args.fetched.now.items c.fetch_block-number.new.fetched.items
+    pick_turn (g.G.Guess.may_answer c.args.guess.now) c.args.self.now _ c.args.context c.args.num2 c.fetch_block-number.result c.self.inside.cycle c.self.inside.stamp t.context c.fetch_block-number.new.track.context (g.L.Listing.items c.args.fetched.now) (g.L.Listing.items c.fetch_block-number.new.fetched)
     (shown_fetched c.self.inside c.args.self.now c.args.context c.index.result c.fetch_block-number.result c.fetch_block-number.new.track (c.self.inside.fetch_room - c.fetch_block-number.result) c.self.view_is c.index.ensures.value)
     (omega (arith, h.in_tracks, contexts, length-map c.self.inside.tracks.items (λ (t : Track). t.context)))
     h.context (ap (λ (v : Machine). v.view.cycle) c.self.view_is) (ap (λ (v : Machine). v.view.stamp) c.self.view_is) c.fetch_block-number.ensures.block.block
-    (takes_turn t.context c.fetch_block-number.new.track.context c.args.num2 c.self.inside.fetch_room c.front_room.result (length c.args.fetched.now.items) c.min-most.result c.fetch_block-number.result front
+    (takes_turn t.context c.fetch_block-number.new.track.context c.args.num2 c.self.inside.fetch_room c.front_room.result (length (g.L.Listing.items c.args.fetched.now)) c.min-most.result c.fetch_block-number.result front
     (omega (arith, room, c.requires.room)) (omega (arith, c.min.ensures, c.from.ensures, c.min-most.ensures)) c.fetch_block-number.ensures.most c.fetch_block-number.ensures.fewer)
     c.fetch_block-number.ensures.listed
 
 pub returns-clause-room : goal.returns-clause-room
 returns-clause-room g c =
     let room = ap (λ (v : Machine). v.fetch_room) c.self.view_is in
-    let long = ids_length c.args.fetched.now.items c.fetch_block-number.new.fetched.items c.self.inside.stamp c.args.context c.fetch_block-number.result c.fetch_block-number.ensures.listed in
+    let long = ids_length (g.L.Listing.items c.args.fetched.now) (g.L.Listing.items c.fetch_block-number.new.fetched) c.self.inside.stamp c.args.context c.fetch_block-number.result c.fetch_block-number.ensures.listed in
     omega (arith, room, long, c.requires.room, c.fetch_block-number.ensures.most, c.min.ensures, c.from.ensures, c.min-most.ensures)
 
 pub returns-clause-flights : goal.returns-clause-flights
 returns-clause-flights g c =
     let h = at_context c.self.inside c.args.self.now c.args.context c.index.result c.index_mut-track.result.now c.self.view_is c.self.invariant (omega (arith, c.index.ensures)) c.index.ensures.value c.index_mut-track.ensures.value in
     let contexts = ap (λ (v : Machine). length v.view.contexts) c.self.view_is in
-    in_flight_turn c.args.self.now _ c.args.context c.args.num2 c.args.fetched.now.items c.fetch_block-number.new.fetched.items (returns-clause-turn g c)
+    in_flight_turn c.args.self.now _ c.args.context c.args.num2 (g.L.Listing.items c.args.fetched.now) (g.L.Listing.items c.fetch_block-number.new.fetched) (returns-clause-turn g c)
     (omega (arith, h.in_tracks, contexts, length-map c.self.inside.tracks.items (λ (t : Track). t.context)))

@@ -10,7 +10,7 @@ loop-context-init g c = record {
   alike = alike_none c.args.self.now;
   idle = c.requires.idle;
   flights = refl;
-  run = run_none c.args.context c.args.limit c.args.width c.args.self.now c.args.renamed.now.items c.requires.room;
+  run = run_none c.args.context c.args.limit c.args.width c.args.self.now (g.L.Listing.items c.args.renamed.now) c.requires.room;
 }
 
 pub loop-context-preserved : goal.loop-context-preserved
@@ -22,6 +22,6 @@ loop-context-preserved g c =
       alike = alike_chain c.args.self.now u n i.alike c.try_rename.ensures.alike;
       idle = c.try_rename.ensures.idle;
       flights = c.try_rename.ensures.flights ∙ i.flights;
-      run = subst (λ (after : List EntryId). IsRenamedRun c.args.context c.args.limit c.args.width c.args.self.now n c.args.renamed.now.items after) (sym c.push.ensures.items)
-          (run_more c.args.context c.args.limit c.args.width c.in-Some.stamp c.args.self.now u n c.args.renamed.now.items c.loop-context.renamed.items c.in-Some.ensures.within (omega (arith, c.len.ensures.value, c.loop-context-test.true)) c.in-Some.ensures.renamed i.run);
+      run = subst (λ (after : List EntryId). IsRenamedRun c.args.context c.args.limit c.args.width c.args.self.now n (g.L.Listing.items c.args.renamed.now) after) (sym c.push.ensures.items)
+          (run_more c.args.context c.args.limit c.args.width c.in-Some.stamp c.args.self.now u n (g.L.Listing.items c.args.renamed.now) (g.L.Listing.items c.loop-context.renamed) c.in-Some.ensures.within (omega (arith, c.len.ensures.value, c.loop-context-test.true)) c.in-Some.ensures.renamed i.run);
     }

@@ -6,6 +6,7 @@ use Rattle.lawful_cycle.specs.Cycle.{IsLawfulCycle, laws_of}
 use Rattle.lawful_cycle.specs.Timing.{AreTimely}
 use Rattle.lawful_cycle.proofs.Laws.{cycle_timely}
 use Rattle.core_back.specs.Machine.{Machine, context_at}
+use Rattle.core_cycle.specs.Notes.{note_with}
 use Rattle.core_cycle.proofs.Whole.{in_flight_is}
 use Rattle.core_cycle.proofs.contexts.Contexts.cycle.Goals as goal
 
@@ -18,14 +19,7 @@ pub returns-clause-lawful : goal.returns-clause-lawful
 returns-clause-lawful g c =
     let count_before = c.retire-dropped.ensures.lawful.contexts.contexts.count_before in
     let count_after = c.complete-completion.ensures.lawful.contexts.contexts.count_after in
-    subst (λ (m : Machine). IsLawfulCycle (laws_of (g.P.Pick.key_of c.args.pick.now) (g.O.Order.key_of c.args.order.now) (g.G.Guess.may_answer c.args.guess.now) (g.D.Delay.may_answer c.args.delay.now)) m.view c.tick.new.self.view (record {
-      fetched = c.fetch.new.fetched;
-      renamed = c.rename.new.renamed;
-      issued = c.issue.new.issued;
-      retired = c.retire-dropped.new.retired;
-      completed = c.complete-completion.result.completed;
-      cut = c.retire-dropped.result + c.complete-completion.result.cut;
-    })) c.self.view_is (record {
+    subst (λ (m : Machine). IsLawfulCycle (laws_of (g.P.Pick.key_of c.args.pick.now) (g.O.Order.key_of c.args.order.now) (g.G.Guess.may_answer c.args.guess.now) (g.D.Delay.may_answer c.args.delay.now)) m.view c.tick.new.self.view (note_with (g.L.Listing.items c.fetch.new.fetched) (g.L.Listing.items c.rename.new.renamed) (g.I.Listing.items c.issue.new.issued) (g.R.Listing.items c.retire-dropped.new.retired) c.complete-completion.result.completed (c.retire-dropped.result + c.complete-completion.result.cut))) c.self.view_is (record {
       retired = c.retire-dropped.new.machine.view;
       completed = c.complete-completion.new.machine.view;
       issued = c.issue.new.machine.view;
@@ -35,7 +29,7 @@ returns-clause-lawful g c =
       complete = c.complete-completion.ensures.lawful;
       issue = c.issue.ensures.lawful;
       rename = c.rename.ensures.lawful;
-      fetch = subst (λ (says : ℕ → ℕ → Insn → ℕ → Bool). IsFetch (g.P.Pick.key_of c.args.pick.now) says c.rename.new.machine.view c.fetch.new.machine.view c.fetch.new.fetched.items) c.retire-dropped.ensures.keeps c.fetch.ensures.lawful;
+      fetch = subst (λ (says : ℕ → ℕ → Insn → ℕ → Bool). IsFetch (g.P.Pick.key_of c.args.pick.now) says c.rename.new.machine.view c.fetch.new.machine.view (g.L.Listing.items c.fetch.new.fetched)) c.retire-dropped.ensures.keeps c.fetch.ensures.lawful;
       next = ap (λ (m : Machine). m.view) c.tick.ensures.next;
       cut = omega (arith, c.retire-dropped.ensures.dropped, c.complete-completion.ensures.cut, in_flight_is c.self.inside.machine count_before, in_flight_is c.complete-completion.new.machine count_after);
     })

@@ -7,7 +7,7 @@ use Rattle.fetch_policy.proofs.Laws.{item, one_more}
 use Rattle.lawful_cycle.specs.Fetch.{fetch_context}
 use Rattle.core_back.specs.Machine.{context_at}
 use Rattle.core_cycle.proofs.LookedFor.{ranked}
-use Rattle.core_cycle.proofs.fetching.ranks.Goals as goal
+use Rattle.core_cycle.proofs.fetching.other_ranks.Goals as goal
 
 pub loop-context-preserved : goal.loop-context-preserved
 loop-context-preserved g c =
