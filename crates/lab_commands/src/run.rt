@@ -5,11 +5,11 @@ ghost use Rattle.std.specs.Prelude.{◌≡◌, false, IfErr, IfOk, IfSome, None,
 ghost use Rattle.lab_commands.specs.CommandLine.{IsBounded};
 ghost use Rattle.lab_commands.specs.Commands as spec;
 
+mod asm;
 mod command_line;
 mod ending;
 mod help;
 mod jobs;
-mod listing;
 mod output;
 mod program;
 mod refusal;
@@ -38,7 +38,7 @@ fn output_of<'a, A: Allocator>(
     ensures err { IfErr result (spec.IsTextRefusal request.entry text.now) }
 {
     match request {
-        Request::Asm { .. } => Ok(Output::whole(listing::listing_of(alloc, text)?)),
+        Request::Asm { .. } => Ok(Output::whole(asm::listing_of(alloc, text)?)),
         Request::Step { count, with, .. } => {
             Ok(Output::whole(step::block_of(alloc, text, count, with)?))
         }
