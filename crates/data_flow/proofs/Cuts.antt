@@ -13,11 +13,14 @@ use Rattle.reorder_buffer.proofs.Stamps.{take-below}
 use Rattle.circular_buffer.specs.Buffer.{Buffer, last_item}
 use Rattle.issue_queue.specs.IssueQueue.{IssueQueue, is_from}
 use Rattle.data_flow.specs.declared.operands.Renamed.{Renamed}
+use Rattle.data_flow.specs.declared.operands.Slot.{Slot}
 use Rattle.data_flow.specs.declared.data_flow.DataFlow.TheInside.{Inside}
 use Rattle.data_flow.specs.Flow.{Node, Lane, Waiter, Flow, lane, no_lane, no_node, node_at, with_lane, without_newest, cut_from, cut_flow, waits_in, is_waiter, is_waiter_from}
+use Rattle.data_flow.specs.Slots.{slot_of}
 use Rattle.data_flow.specs.Wired.{waiter_of, IsWaiting, node_of, flow, IsWiredUp, no_buffer, no_renamed}
 use Rattle.data_flow.proofs.LaneEvents.{stamp_of}
 use Rattle.data_flow.proofs.Places.{Here, here_unread}
+use Rattle.data_flow.proofs.Sources.{is_read}
 use Rattle.data_flow.proofs.Steps.{shown}
 use Rattle.data_flow.proofs.Ties.{get_or-map, lengths}
 use Rattle.data_flow.proofs.Waiters.{waiters_dropped, none_from}
@@ -43,8 +46,10 @@ last_stamp d now c k found h =
     ∙ ap (option_map node_stamp) (slice_get-map (node_of cells) found.items (length found.items - 1))
     ∙ stamps_of_map cells (last_item found.items)
 
-pub stamp_of_last : (ns : List Renamed) (n : Renamed) (k : ℕ) → k ≡ length ns → slice_get ns (k - 1) ≡ Some n → option_map stamp_of (last_item ns) ≡ Some n.operands.stamp
-stamp_of_last ns n k all found = ap (λ i. option_map stamp_of (slice_get ns (i - 1))) (sym all) ∙ ap (option_map stamp_of) found
+pub stamp_of_last : (ns : List Renamed) (s : Slot) (k : ℕ) → k ≡ length ns → option_map slot_of (slice_get ns (k - 1)) ≡ Some s → option_map stamp_of (last_item ns) ≡ Some s.stamp
+stamp_of_last ns s k all found =
+    let item = is_read (slice_get ns (k - 1)) s found in
+    ap (λ i. option_map stamp_of (slice_get ns (i - 1))) (sym all) ∙ ap (option_map stamp_of) item.there ∙ ap (λ (x : Slot). Some x.stamp) item.read
 
 pub stamp_of_none : (ns : List Renamed) → length ns ≡ 0 → option_map stamp_of (last_item ns) ≡ None
 stamp_of_none [] none = refl

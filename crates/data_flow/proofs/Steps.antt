@@ -2,8 +2,8 @@
 use Rattle.std.proofs.Common.{◌≡◌, ℕ, ◌+◌, ◌-◌, ◌<◌, ◌≤◌, Bool, true, false, List, [], ◌∷◌, ◌++◌, length, get_or, take, drop, map, slice_get, Option, Some, None, refl, sym, ap, subst, ◌∙◌, arith}
 use Rattle.std.specs.Prelude.{set, sum_by, slice_index, IsSome, All, ◌==◌}
 use Rattle.std.specs.List.{list_any}
+use Rattle.std.specs.Option.{option_map}
 use Rattle.std.proofs.lemmas.Bool.{eqb-true, eqb-false}
-use Rattle.std.proofs.lemmas.Bool.Decides.{nat_tests}
 use Rattle.std.proofs.lemmas.List.{length-set, set-get_or, take_more, take_all}
 use Rattle.std.proofs.lemmas.Option.{slice_get_within}
 use Rattle.std.proofs.lemmas.List.Sums.{get_or-le-sum_by}
@@ -11,18 +11,20 @@ use Rattle.rename_file.specs.File.{Bank, bank, no_bank, File, uses_in, at, with_
 use Rattle.rename_file.proofs.Laws.{used_once, committed_in_range, at_self}
 use Rattle.reorder_buffer.specs.Growing.{IsGrowing}
 use Rattle.reorder_buffer.proofs.Stamps.{growing_front}
-use Rattle.circular_buffer.specs.Buffer.{Buffer, buffer}
+use Rattle.circular_buffer.specs.Buffer.{Buffer, buffer, last_item}
 use Rattle.issue_queue.specs.Entry.{is_named}
 use Rattle.issue_queue.specs.IssueQueue.{IssueQueue, awake}
 use Rattle.data_flow.specs.declared.operands.Renamed.{Renamed}
+use Rattle.data_flow.specs.declared.operands.Slot.{Slot}
 use Rattle.data_flow.specs.declared.data_flow.DataFlow.TheInside.{Inside}
 use Rattle.data_flow.specs.Flow.{Node, Lane, Waiter, Flow, lane, no_lane, no_node, node_at, with_lane, with_register, with_result, without_oldest, without_newest, waits_in, is_waiter}
+use Rattle.data_flow.specs.Slots.{slot_of}
 use Rattle.data_flow.specs.Wired.{node_of, lane_of, lanes_of, flow, waiter_of, IsTied, AreTied, IsWaiting, IsWiredUp, no_buffer, no_renamed}
 use Rattle.data_flow.proofs.Ties.{lanes-set, tied-set, get_or-map}
 use Rattle.data_flow.proofs.Cells.{same_all_tied, used_is_cell}
 use Rattle.data_flow.proofs.LaneEvents.{stamp_of, finished, one_lane, finish_lane, set_lane, result_used, result_above, bank_past, commits, committable, IsCommittable, bank_before, undoes, undoable}
 use Rattle.data_flow.proofs.Places.{Here, here_unread}
-use Rattle.data_flow.proofs.Sources.{IsAt}
+use Rattle.data_flow.proofs.Sources.{IsAt, IsReadAt, read_at, is_read}
 use Rattle.data_flow.proofs.Waiters.{waiters_awake}
 use Rattle.data_flow.proofs.Waits.{all_awake, waiting_finish, waiting_set, waiting_drop, waiting_take, waits_named}
 
@@ -52,12 +54,14 @@ pub record IsResult (cells : List (Option ℕ)) (p : ℕ) : Type 0 where
   pub above : 8 ≤ p
   pub in_range : p < length cells
 
-pub result_register : {A : Type 0} (d : Inside A) (now : Flow) (c k i : ℕ) (found : Buffer Renamed) (n : Renamed) → IsWiredUp d → Here d now c k found → IsAt found i n → (n.operands.destination == 0) ≡ false → IsResult d.registers.cells n.destination
-result_register d now c k i found n up h at has =
-    let has' : ((get_or found.items i n).operands.destination == 0) ≡ false = rw at.is has in
+pub result_register : {A : Type 0} (d : Inside A) (now : Flow) (c k i : ℕ) (found : Buffer Renamed) (s : Slot) → IsWiredUp d → Here d now c k found → IsReadAt found i s → (s.name == 0) ≡ false → IsResult d.registers.cells s.destination
+result_register d now c k i found s up h slot has =
+    let n : Renamed = slot.renamed in
+    let at = slot.at in
+    let has' : ((get_or found.items i n).operands.destination == 0) ≡ false = ap (λ (x : Renamed). x.operands.destination == 0) at.is ∙ ap (λ (x : Slot). x.name == 0) slot.read ∙ has in
     let used = result_used d.registers.cells (bank d.registers c) found i n h.tied at.within has' in
     let above = result_above d.registers.cells (bank d.registers c) found i n h.tied (up.file.banks c h.below).renamed at.within has' in
-    record { above = rw at.is at above; in_range = used_is_cell d.registers c n.destination up.file h.in_banks (rw at.is at used) }
+    subst (λ (x : Slot). IsResult d.registers.cells x.destination) slot.read (record { above = rw at.is at above; in_range = used_is_cell d.registers c n.destination up.file h.in_banks (rw at.is at used) })
 
 pub finish_leaves : {A : Type 0} (d : Inside A) (now : Flow) (c k i v : ℕ) (found : Buffer Renamed) (n : Renamed) (r : File) (q : IssueQueue) → flow d ≡ now → IsWiredUp d → Here d now c k found → IsAt found i n → (n.operands.destination == 0) ≡ false
     → r ≡ with_cell d.registers n.destination (Some v) → q ≡ record d.queue { entries = map (awake n.destination) d.queue.entries } → Leaves r d.renamed q (with_lane now c (with_result (lane now c) i v))
@@ -103,10 +107,10 @@ has_masked n mask none some = by_test (n == 0) refl
     by_test true is = let zero_ = none (eqb-true n 0 is) in absurd (omega (arith, zero_, some))
 
 -- either way, where it is written and woken as a mask tells
-pub finish_masked : {A : Type 0} (d : Inside A) (now : Flow) (c k i v : ℕ) (found : Buffer Renamed) (n : Renamed) (r : File) (q : IssueQueue) (p mask : ℕ) → flow d ≡ now → IsWiredUp d → Here d now c k found → IsAt found i n
+finish_renamed : {A : Type 0} (d : Inside A) (now : Flow) (c k i v : ℕ) (found : Buffer Renamed) (n : Renamed) (r : File) (q : IssueQueue) (p mask : ℕ) → flow d ≡ now → IsWiredUp d → Here d now c k found → IsAt found i n
     → (n.operands.destination ≡ 0 → mask ≡ 0) → (0 < n.operands.destination → 0 < mask) → (0 < mask → r ≡ with_cell d.registers n.destination (Some v)) → (0 < mask → p ≡ n.destination) → (mask ≡ 0 → r ≡ d.registers)
     → (mask ≡ 0 → IsSome (get_or d.registers.cells p None)) → q ≡ record d.queue { entries = map (awake p) d.queue.entries } → Leaves r d.renamed q (with_lane now c (with_result (lane now c) i v))
-finish_masked d now c k i v found n r q p mask shows up h at none all written there same valued woken = by_test (n.operands.destination == 0) refl
+finish_renamed d now c k i v found n r q p mask shows up h at none all written there same valued woken = by_test (n.operands.destination == 0) refl
   where
     by_test : (b : Bool) → (n.operands.destination == 0) ≡ b → Leaves r d.renamed q (with_lane now c (with_result (lane now c) i v))
     by_test false is =
@@ -117,6 +121,16 @@ finish_masked d now c k i v found n r q p mask shows up h at none all written th
         let queue : q ≡ d.queue = woken ∙ ap (λ es. let e : IssueQueue = record d.queue { entries = es } in e) (all_awake d.registers.cells d.renamed p d.queue.entries (valued zero_) up.waiting) in
         let stays = finish_none d now c k i v found n h at is in
         rw (same zero_, queue) (record { tied = up.tied; waiting = up.waiting; shows = shows ∙ stays })
+
+-- the same of the slot that was read of it
+pub finish_masked : {A : Type 0} (d : Inside A) (now : Flow) (c k i v : ℕ) (found : Buffer Renamed) (s : Slot) (r : File) (q : IssueQueue) (p mask : ℕ) → flow d ≡ now → IsWiredUp d → Here d now c k found → IsReadAt found i s
+    → (s.name ≡ 0 → mask ≡ 0) → (0 < s.name → 0 < mask) → (0 < mask → r ≡ with_cell d.registers s.destination (Some v)) → (0 < mask → p ≡ s.destination) → (mask ≡ 0 → r ≡ d.registers)
+    → (mask ≡ 0 → IsSome (get_or d.registers.cells p None)) → q ≡ record d.queue { entries = map (awake p) d.queue.entries } → Leaves r d.renamed q (with_lane now c (with_result (lane now c) i v))
+finish_masked d now c k i v found s r q p mask shows up h slot none all written there same valued woken =
+    let back : s ≡ slot_of slot.renamed = sym slot.read in
+    finish_renamed d now c k i v found slot.renamed r q p mask shows up h slot.at
+    (subst (λ (x : Slot). x.name ≡ 0 → mask ≡ 0) back none) (subst (λ (x : Slot). 0 < x.name → 0 < mask) back all)
+    (subst (λ (x : Slot). 0 < mask → r ≡ with_cell d.registers x.destination (Some v)) back written) (subst (λ (x : Slot). 0 < mask → p ≡ x.destination) back there) same valued woken
 
 -- ---- a committed register
 
@@ -169,44 +183,56 @@ idle_at d now c k i found shows h lt idle =
 
 -- ---- the oldest
 
--- the oldest instruction of a buffer, and the others
-pub record IsFront (found : Buffer Renamed) (n : Renamed) : Type 0 where
-  pub is : found ≡ buffer (n ∷ drop 1 found.items) found.capacity
+-- the oldest instruction of a buffer, of which a slot was read, and the others
+pub record IsFront (found : Buffer Renamed) (s : Slot) : Type 0 where
+  pub renamed : Renamed
+  pub is : found ≡ buffer (renamed ∷ drop 1 found.items) found.capacity
   pub some : 0 < length found.items
+  pub name : renamed.operands.destination ≡ s.name
 
-pub front_is : (found : Buffer Renamed) (n : Renamed) → slice_get found.items 0 ≡ Some n → IsFront found n
-front_is found n e =
-    let split = split_front found.items n e in
-    record { is = ap (λ (ns : List Renamed). buffer ns found.capacity) split; some = slice_get_within found.items 0 n e }
+pub front_is : (found : Buffer Renamed) (s : Slot) → option_map slot_of (slice_get found.items 0) ≡ Some s → IsFront found s
+front_is found s e =
+    let item = is_read (slice_get found.items 0) s e in
+    let split = split_front found.items item.renamed item.there in
+    record {
+      renamed = item.renamed;
+      is = ap (λ (ns : List Renamed). buffer ns found.capacity) split;
+      some = slice_get_within found.items 0 item.renamed item.there;
+      name = ap (λ (x : Slot). x.name) item.read;
+    }
   where
     split_front : (ns : List Renamed) (n : Renamed) → slice_get ns 0 ≡ Some n → ns ≡ n ∷ drop 1 ns
     split_front [] n e = absurd cc
     split_front (x ∷ ns) n e = cc
 
 -- what committing asks
-pub commit_asks : {A : Type 0} (d : Inside A) (now : Flow) (c k : ℕ) (found : Buffer Renamed) (n : Renamed) → Here d now c k found → IsFront found n → (n.operands.destination == 0) ≡ false
+pub commit_asks : {A : Type 0} (d : Inside A) (now : Flow) (c k : ℕ) (found : Buffer Renamed) (s : Slot) → Here d now c k found → IsFront found s → (s.name == 0) ≡ false
     → (0 < (node_at (lane now c) 0).operands.destination → IsSome (node_at (lane now c) 0).result) → IsCommittable d.registers.cells (bank d.registers c)
-commit_asks d now c k found n h front has done =
+commit_asks d now c k found s h front named done =
     let cells : List (Option ℕ) = d.registers.cells in
+    let n : Renamed = front.renamed in
+    let has : (n.operands.destination == 0) ≡ false = ap (λ x. x == 0) front.name ∙ named in
     let tied : IsTied cells (bank d.registers c) (buffer (n ∷ drop 1 found.items) found.capacity) = subst (IsTied cells (bank d.registers c)) front.is h.tied in
     let lane-is : lane now c ≡ lane_of cells (bank d.registers c) (buffer (n ∷ drop 1 found.items) found.capacity) = h.lane_is ∙ ap (lane_of cells (bank d.registers c)) front.is in
     let node-is : node_at (lane now c) 0 ≡ node_of cells n = rw lane-is refl in
-    let named : 0 < n.operands.destination = grind (arith, nat_tests) in
-    let done' : IsSome (node_of cells n).result = subst (λ (x : Node). 0 < x.operands.destination → IsSome x.result) node-is done named in
+    let some : 0 < n.operands.destination = has_one n.operands.destination has in
+    let done' : IsSome (node_of cells n).result = subst (λ (x : Node). 0 < x.operands.destination → IsSome x.result) node-is done some in
     committable cells (bank d.registers c) n (drop 1 found.items) found.capacity tied has done'
 
-pub commit_leaves : {A : Type 0} (d : Inside A) (now : Flow) (c k : ℕ) (found left : Buffer Renamed) (n : Renamed) (r : File) → flow d ≡ now → IsWiredUp d → Here d now c k found → IsFront found n
+pub commit_leaves : {A : Type 0} (d : Inside A) (now : Flow) (c k : ℕ) (found left : Buffer Renamed) (s : Slot) (r : File) → flow d ≡ now → IsWiredUp d → Here d now c k found → IsFront found s
     → waits_in now c (node_at (lane now c) 0).operands.stamp ≡ false → left ≡ buffer (drop 1 found.items) found.capacity
-    → r.banks ≡ set d.registers.banks c (bank_past (bank d.registers c) (n.operands.destination == 0)) → r.cells ≡ d.registers.cells → Leaves r (set d.renamed k left) d.queue (with_lane now c (without_oldest (lane now c)))
-commit_leaves d now c k found left n r shows up h front idle left-is banks cells-are =
+    → r.banks ≡ set d.registers.banks c (bank_past (bank d.registers c) (s.name == 0)) → r.cells ≡ d.registers.cells → Leaves r (set d.renamed k left) d.queue (with_lane now c (without_oldest (lane now c)))
+commit_leaves d now c k found left s r shows up h front idle left-is banks cells-are =
     let cells : List (Option ℕ) = d.registers.cells in
     let b : Bank = bank d.registers c in
+    let n : Renamed = front.renamed in
     let rest : List Renamed = drop 1 found.items in
     let tied : IsTied cells b (buffer (n ∷ rest) found.capacity) = subst (IsTied cells b) front.is h.tied in
     let lane-is : lane now c ≡ lane_of cells b (buffer (n ∷ rest) found.capacity) = h.lane_is ∙ ap (lane_of cells b) front.is in
     let step = commits cells b n rest found.capacity tied in
     let waits = waiting_drop cells d.renamed c d.queue.entries h.in_buffers (rw h.place at (idle_at d now c k 0 found shows h front.some idle)) up.waiting in
-    leaves d now c k found left r (bank_past b (n.operands.destination == 0)) (without_oldest (lane now c)) shows up h banks cells-are (rw left-is step.tied)
+    let banks' = banks ∙ ap (λ x. set d.registers.banks c (bank_past b (x == 0))) (sym front.name) in
+    leaves d now c k found left r (bank_past b (n.operands.destination == 0)) (without_oldest (lane now c)) shows up h banks' cells-are (rw left-is step.tied)
     (rw left-is (step.lane ∙ ap without_oldest (sym lane-is))) (rw (left-is, h.place) waits)
 
 -- without a destination no bank changes
@@ -220,35 +246,43 @@ one_commit d c false r e r-is = ap (λ (f : File). f.banks) r-is
 
 -- ---- the youngest
 
--- the youngest instruction of a buffer, and the others
-pub record IsBack (found : Buffer Renamed) (n : Renamed) : Type 0 where
-  pub is : found ≡ buffer (take (length found.items - 1) found.items ++ n ∷ []) found.capacity
+-- the youngest instruction of a buffer, of which a slot was read, and the others
+pub record IsBack (found : Buffer Renamed) (s : Slot) : Type 0 where
+  pub renamed : Renamed
+  pub is : found ≡ buffer (take (length found.items - 1) found.items ++ renamed ∷ []) found.capacity
   pub some : 0 < length found.items
-  pub at : IsAt found (length found.items - 1) n
+  pub at : IsAt found (length found.items - 1) renamed
+  pub name : renamed.operands.destination ≡ s.name
 
-pub back_is : (found : Buffer Renamed) (n : Renamed) → IsAt found (length found.items - 1) n → IsBack found n
-back_is found n at =
+pub back_is : (found : Buffer Renamed) (s : Slot) → option_map slot_of (last_item found.items) ≡ Some s → IsBack found s
+back_is found s e =
     let xs : List Renamed = found.items in
     let k : ℕ = length xs - 1 in
+    let slot = read_at found k s e in
+    let at = slot.at in
     let one : k + 1 ≡ length xs = omega (arith, at.within) in
     let whole : take (k + 1) xs ≡ xs = take_all (k + 1) xs (omega arith) in
-    let split : xs ≡ take k xs ++ n ∷ [] = sym whole ∙ take_more xs k n at.within ∙ ap (λ (x : Renamed). take k xs ++ x ∷ []) at.is in
+    let split : xs ≡ take k xs ++ slot.renamed ∷ [] = sym whole ∙ take_more xs k slot.renamed at.within ∙ ap (λ (x : Renamed). take k xs ++ x ∷ []) at.is in
     record {
+      renamed = slot.renamed;
       is = ap (λ (ns : List Renamed). buffer ns found.capacity) split;
       some = omega (arith, at.within);
       at = at;
+      name = ap (λ (x : Slot). x.name) slot.read;
     }
 
-pub undo_asks : {A : Type 0} (d : Inside A) (now : Flow) (c k : ℕ) (found : Buffer Renamed) (n : Renamed) → Here d now c k found → IsBack found n → (n.operands.destination == 0) ≡ false → 0 < length (bank d.registers c).renames
-undo_asks d now c k found n h back has =
-    undoable d.registers.cells (bank d.registers c) n (take (length found.items - 1) found.items) found.capacity (subst (IsTied d.registers.cells (bank d.registers c)) back.is h.tied) has
+pub undo_asks : {A : Type 0} (d : Inside A) (now : Flow) (c k : ℕ) (found : Buffer Renamed) (s : Slot) → Here d now c k found → IsBack found s → (s.name == 0) ≡ false → 0 < length (bank d.registers c).renames
+undo_asks d now c k found s h back named =
+    let has : (back.renamed.operands.destination == 0) ≡ false = ap (λ x. x == 0) back.name ∙ named in
+    undoable d.registers.cells (bank d.registers c) back.renamed (take (length found.items - 1) found.items) found.capacity (subst (IsTied d.registers.cells (bank d.registers c)) back.is h.tied) has
 
-pub undo_leaves : {A : Type 0} (d : Inside A) (now : Flow) (c k : ℕ) (found left : Buffer Renamed) (n : Renamed) (r : File) → flow d ≡ now → IsWiredUp d → Here d now c k found → IsBack found n
+pub undo_leaves : {A : Type 0} (d : Inside A) (now : Flow) (c k : ℕ) (found left : Buffer Renamed) (s : Slot) (r : File) → flow d ≡ now → IsWiredUp d → Here d now c k found → IsBack found s
     → waits_in now c (node_at (lane now c) (length (lane now c).nodes - 1)).operands.stamp ≡ false → left ≡ buffer (take (length found.items - 1) found.items) found.capacity
-    → r.banks ≡ set d.registers.banks c (bank_before (bank d.registers c) (n.operands.destination == 0)) → r.cells ≡ d.registers.cells → Leaves r (set d.renamed k left) d.queue (with_lane now c (without_newest (lane now c)))
-undo_leaves d now c k found left n r shows up h back idle left-is banks cells-are =
+    → r.banks ≡ set d.registers.banks c (bank_before (bank d.registers c) (s.name == 0)) → r.cells ≡ d.registers.cells → Leaves r (set d.renamed k left) d.queue (with_lane now c (without_newest (lane now c)))
+undo_leaves d now c k found left s r shows up h back idle left-is banks cells-are =
     let cells : List (Option ℕ) = d.registers.cells in
     let b : Bank = bank d.registers c in
+    let n : Renamed = back.renamed in
     let front : List Renamed = take (length found.items - 1) found.items in
     let tied : IsTied cells b (buffer (front ++ n ∷ []) found.capacity) = subst (IsTied cells b) back.is h.tied in
     let lane-is : lane now c ≡ lane_of cells b (buffer (front ++ n ∷ []) found.capacity) = h.lane_is ∙ ap (lane_of cells b) back.is in
@@ -256,7 +290,8 @@ undo_leaves d now c k found left n r shows up h back idle left-is banks cells-ar
     let step = undoes cells b n front found.capacity tied growing in
     let idle' : waits_in now c (node_at (lane now c) (length found.items - 1)).operands.stamp ≡ false = rw h.count at idle in
     let waits = waiting_take cells d.renamed c d.queue.entries h.in_buffers (rw h.place at (idle_at d now c k (length found.items - 1) found shows h back.at.within idle')) up.waiting in
-    leaves d now c k found left r (bank_before b (n.operands.destination == 0)) (without_newest (lane now c)) shows up h banks cells-are (rw left-is step.tied)
+    let banks' = banks ∙ ap (λ x. set d.registers.banks c (bank_before b (x == 0))) (sym back.name) in
+    leaves d now c k found left r (bank_before b (n.operands.destination == 0)) (without_newest (lane now c)) shows up h banks' cells-are (rw left-is step.tied)
     (rw left-is (step.lane ∙ ap without_newest (sym lane-is))) (rw (left-is, h.place) waits)
 
 pub no_undo : {A : Type 0} (d : Inside A) (c : ℕ) (none : Bool) → none ≡ true → d.registers.banks ≡ set d.registers.banks c (bank_before (bank d.registers c) none)

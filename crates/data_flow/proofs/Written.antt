@@ -1,5 +1,6 @@
 -- What stands in a slot after one is written.
 use Rattle.std.proofs.Common.{◌≡◌, ◌≢◌, ℕ, ◌<◌, length, refl, arith}
+use Rattle.std.proofs.lemmas.Bool.{eq-eqb, ne_eqb}
 use Rattle.std.proofs.lemmas.List.{get_or-set_same, get_or-set_other}
 use Rattle.data_flow.specs.declared.operands.Renamed.{Renamed}
 use Rattle.data_flow.specs.declared.slots.Slots.{Slots}
@@ -9,8 +10,6 @@ use Rattle.data_flow.specs.Slots.{slot_at, with_slot}
 pub record AreWide (s : Slots) : Type 0 where
   pub stamps : length s.stamps ≡ 64
   pub destinations : length s.destinations ≡ 64
-  pub firsts : length s.firsts ≡ 64
-  pub seconds : length s.seconds ≡ 64
   pub renamed_destinations : length s.renamed_destinations ≡ 64
   pub renamed_firsts : length s.renamed_firsts ≡ 64
   pub renamed_seconds : length s.renamed_seconds ≡ 64
@@ -20,8 +19,7 @@ slot_written s i n wide lt =
     rw (
       get_or-set_same s.stamps i n.operands.stamp 0 (omega (arith, wide.stamps)),
       get_or-set_same s.destinations i n.operands.destination 0 (omega (arith, wide.destinations)),
-      get_or-set_same s.firsts i n.operands.first 0 (omega (arith, wide.firsts)),
-      get_or-set_same s.seconds i n.operands.second 0 (omega (arith, wide.seconds)),
+      eq-eqb i i refl,
       get_or-set_same s.renamed_destinations i n.destination 0 (omega (arith, wide.renamed_destinations)),
       get_or-set_same s.renamed_firsts i n.first 0 (omega (arith, wide.renamed_firsts)),
       get_or-set_same s.renamed_seconds i n.second 0 (omega (arith, wide.renamed_seconds)),
@@ -32,8 +30,7 @@ slot_kept s i k n other =
     rw (
       get_or-set_other s.stamps i k n.operands.stamp 0 other,
       get_or-set_other s.destinations i k n.operands.destination 0 other,
-      get_or-set_other s.firsts i k n.operands.first 0 other,
-      get_or-set_other s.seconds i k n.operands.second 0 other,
+      ne_eqb k i other,
       get_or-set_other s.renamed_destinations i k n.destination 0 other,
       get_or-set_other s.renamed_firsts i k n.first 0 other,
       get_or-set_other s.renamed_seconds i k n.second 0 other,

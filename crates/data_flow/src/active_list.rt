@@ -1,9 +1,10 @@
 //! The instructions of a context that are in flight, oldest first.
 
-ghost use Rattle.std.specs.Prelude.{◌≡◌, ◌-◌, ◌<◌, ◌≤◌, [], ◌∷◌, ◌++◌, Some, length, take, drop, replicate, slice_get};
+ghost use Rattle.std.specs.Prelude.{◌≡◌, ◌-◌, ◌<◌, ◌≤◌, [], ◌∷◌, ◌++◌, Some, option_map, length, take, drop, replicate, slice_get};
 ghost use Rattle.circular_buffer.specs.Buffer.{buffer, last_item};
+ghost use Rattle.data_flow.specs.Slots.{slot_of};
 
-use crate::operands::Renamed;
+use crate::operands::{Renamed, Slot};
 use crate::slots::Slots;
 use std::marker::Model;
 
@@ -58,9 +59,9 @@ impl ActiveList {
 
     /// The instruction at a place, counted from the oldest.
     #[inline(always)]
-    pub(crate) fn at(&self, place: usize) -> Renamed
+    pub(crate) fn at(&self, place: usize) -> Slot
         requires { place < length self.now.items }
-        ensures { slice_get self.now.items place ≡ Some result }
+        ensures { option_map slot_of (slice_get self.now.items place) ≡ Some result }
     {
         self.slots.read((usize::from(self.head) + place) % 64)
     }
@@ -77,9 +78,9 @@ impl ActiveList {
 
     /// The oldest instruction, which is taken off.
     #[inline(always)]
-    pub(crate) fn pop_front(&mut self) -> Renamed
+    pub(crate) fn pop_front(&mut self) -> Slot
         requires { 0 < length self.old.items }
-        ensures oldest { slice_get self.old.items 0 ≡ Some result }
+        ensures oldest { option_map slot_of (slice_get self.old.items 0) ≡ Some result }
         ensures rest { self.new ≡ buffer (drop 1 self.old.items) self.old.capacity }
     {
         let oldest = self.at(0);
@@ -88,9 +89,9 @@ impl ActiveList {
     }
 
     /// The youngest instruction, which is taken off.
-    pub(crate) fn pop_back(&mut self) -> Renamed
+    pub(crate) fn pop_back(&mut self) -> Slot
         requires { 0 < length self.old.items }
-        ensures youngest { last_item self.old.items ≡ Some result }
+        ensures youngest { option_map slot_of (last_item self.old.items) ≡ Some result }
         ensures rest { self.new ≡ buffer (take (length self.old.items - 1) self.old.items) self.old.capacity }
     {
         let youngest = self.at(self.len() - 1);

@@ -200,7 +200,7 @@ impl<A: Allocator> DataFlow<A> {
             return None;
         }
         let newest = list.at(len - 1);
-        Some(newest.operands.stamp)
+        Some(newest.stamp)
     }
 
     // The youngest instruction of a context, which doesn't wait, is forgotten.

@@ -31,21 +31,36 @@ pub(crate) struct Renamed {
     pub second: PhysicalRegister,
 }
 
-impl Renamed {
+/// What is read of an instruction in flight: all but its source registers, for which the physical ones stand.
+#[derive(Clone, Copy)]
+pub(crate) struct Slot {
+    /// Its stamp.
+    pub stamp: u64,
+    /// The register that its result goes to: x0 where it has no destination.
+    pub name: Register,
+    /// The physical register of its result. It is of no use where it has no destination.
+    pub destination: PhysicalRegister,
+    /// The physical register of its first source.
+    pub first: PhysicalRegister,
+    /// The physical register of its second source.
+    pub second: PhysicalRegister,
+}
+
+impl Slot {
     /// Whether it has a result that others may read.
     pub fn has_destination(&self) -> bool
-        ensures { result ≡ not (self.now.operands.destination == 0) }
+        ensures { result ≡ not (self.now.name == 0) }
     {
-        self.operands.destination.index() != 0
+        self.name.index() != 0
     }
 
     /// All bits where it has a result that others may read, and none where it has not.
     #[inline(always)]
     pub fn result_mask(&self) -> u64
-        ensures none { self.now.operands.destination ≡ 0 → result ≡ 0 }
-        ensures all { 0 < self.now.operands.destination → result ≡ 18446744073709551615 }
+        ensures none { self.now.name ≡ 0 → result ≡ 0 }
+        ensures all { 0 < self.now.name → result ≡ 18446744073709551615 }
     {
-        let count = (u64::from(self.operands.destination.index()) + 31) / 32;
+        let count = (u64::from(self.name.index()) + 31) / 32;
         0u64.wrapping_sub(count)
     }
 }

@@ -1,11 +1,13 @@
 //! Where the instructions of an active list stand.
 
 ghost use Rattle.std.specs.Prelude.{◌≡◌, ◌<◌};
-ghost use Rattle.data_flow.specs.Slots.{slot_at, with_slot};
+ghost use Rattle.data_flow.specs.Slots.{slot_at, slot_of, with_slot};
 
-use crate::operands::{Operands, Renamed};
+use crate::operands::{Renamed, Slot};
 use rename_file::PhysicalRegister;
 use rv64_decode::Register;
+use std::mem;
+use std::snapshot::Snapshot;
 
 // An array for each field: an instruction that enters has no padding to clear, and a slot is found without a
 // multiplication.
@@ -13,11 +15,18 @@ use rv64_decode::Register;
 pub(crate) struct Slots {
     pub stamps: [u64; 64],
     pub destinations: [Register; 64],
-    pub firsts: [Register; 64],
-    pub seconds: [Register; 64],
     pub renamed_destinations: [PhysicalRegister; 64],
     pub renamed_firsts: [PhysicalRegister; 64],
     pub renamed_seconds: [PhysicalRegister; 64],
+    // Contracts see the source registers, and no code reads them: a `Snapshot` has no bytes.
+    pub sources: Snapshot<Sources>,
+}
+
+/// The source registers of what was written to slots: of nothing, or of what was written before, then to one slot.
+#[derive(Drop)]
+pub(crate) enum Sources {
+    Nothing,
+    After(Snapshot<Sources>, usize, Register, Register),
 }
 
 impl Slots {
@@ -28,27 +37,22 @@ impl Slots {
         Slots {
             stamps: [0; 64],
             destinations: [zero; 64],
-            firsts: [zero; 64],
-            seconds: [zero; 64],
             renamed_destinations: [unused; 64],
             renamed_firsts: [unused; 64],
             renamed_seconds: [unused; 64],
+            sources: Snapshot::of(&Sources::Nothing),
         }
     }
 
     /// What stands in a slot.
     #[inline(always)]
-    pub(crate) fn read(&self, slot: usize) -> Renamed
+    pub(crate) fn read(&self, slot: usize) -> Slot
         requires { slot < 64 }
-        ensures { result ≡ slot_at self.now slot }
+        ensures { result ≡ slot_of (slot_at self.now slot) }
     {
-        Renamed {
-            operands: Operands {
-                stamp: self.stamps[slot],
-                destination: self.destinations[slot],
-                first: self.firsts[slot],
-                second: self.seconds[slot],
-            },
+        Slot {
+            stamp: self.stamps[slot],
+            name: self.destinations[slot],
             destination: self.renamed_destinations[slot],
             first: self.renamed_firsts[slot],
             second: self.renamed_seconds[slot],
@@ -64,10 +68,10 @@ impl Slots {
         let operands = renamed.operands;
         self.stamps[slot] = operands.stamp;
         self.destinations[slot] = operands.destination;
-        self.firsts[slot] = operands.first;
-        self.seconds[slot] = operands.second;
         self.renamed_destinations[slot] = renamed.destination;
         self.renamed_firsts[slot] = renamed.first;
         self.renamed_seconds[slot] = renamed.second;
+        let before = mem::replace(&mut self.sources, Snapshot::of(&Sources::Nothing));
+        self.sources = Snapshot::of(&Sources::After(before, slot, operands.first, operands.second));
     }
 }

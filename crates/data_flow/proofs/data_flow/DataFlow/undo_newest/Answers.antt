@@ -1,7 +1,7 @@
-use Rattle.std.proofs.Common.{◌-◌, length, get_or, arith, ap, sym, refl}
+use Rattle.std.proofs.Common.{get_or, arith, ap, sym, refl}
 use Rattle.rename_file.specs.File.{File}
 use Rattle.data_flow.proofs.Places.{here}
-use Rattle.data_flow.proofs.Sources.{IsAt, is_at, not_true, not_false}
+use Rattle.data_flow.proofs.Sources.{not_true, not_false}
 use Rattle.data_flow.proofs.Steps.{back_is, undo_asks, undo_leaves, one_undo, no_undo}
 use Rattle.data_flow.proofs.data_flow.DataFlow.undo_newest.Goals as goal
 
@@ -14,16 +14,14 @@ pub undo-requires : goal.undo-requires
 undo-requires g c =
     let h = here c.self.inside c.args.self.now c.args.context c.index.result c.index-self-index.result c.self.view_is c.self.invariant c.index.ensures.value c.index.ensures.bound in
     let found = get_or c.self.inside.renamed c.index.result c.index-self-index.result in
-    let at : IsAt found (length found.items - 1) c.pop_back-newest.result = is_at found (length found.items - 1) c.pop_back-newest.result c.pop_back-newest.ensures.youngest in
-    let back = back_is found c.pop_back-newest.result at in
+    let back = back_is found c.pop_back-newest.result c.pop_back-newest.ensures.youngest in
     undo_asks c.self.inside c.args.self.now c.args.context c.index.result found c.pop_back-newest.result h back (not_true _ (sym c.if-has_destination.ensures))
 
 pub invariant_of-self : goal.invariant_of-self
 invariant_of-self g c =
     let h = here c.self.inside c.args.self.now c.args.context c.index.result c.index-self-index.result c.self.view_is c.self.invariant c.index.ensures.value c.index.ensures.bound in
     let found = get_or c.self.inside.renamed c.index.result c.index-self-index.result in
-    let at : IsAt found (length found.items - 1) c.pop_back-newest.result = is_at found (length found.items - 1) c.pop_back-newest.result c.pop_back-newest.ensures.youngest in
-    let back = back_is found c.pop_back-newest.result at in
+    let back = back_is found c.pop_back-newest.result c.pop_back-newest.ensures.youngest in
     let k = undo_leaves c.self.inside c.args.self.now c.args.context c.index.result found c.pop_back-newest.new.self c.pop_back-newest.result c.undo.new.self c.self.view_is c.self.invariant h back c.requires.idle c.pop_back-newest.ensures.rest
     (one_undo c.self.inside c.args.context _ c.undo.new.self (not_true _ (sym c.if-has_destination.ensures)) c.undo.ensures.undone) (ap (λ (f : File). f.cells) c.undo.ensures.undone) in
     record { file = c.undo.ensures.file; tied = k.tied; waiting = k.waiting }
@@ -32,8 +30,7 @@ pub invariant_of-self-else-has_destination : goal.invariant_of-self-else-has_des
 invariant_of-self-else-has_destination g c =
     let h = here c.self.inside c.args.self.now c.args.context c.index.result c.index-self-index.result c.self.view_is c.self.invariant c.index.ensures.value c.index.ensures.bound in
     let found = get_or c.self.inside.renamed c.index.result c.index-self-index.result in
-    let at : IsAt found (length found.items - 1) c.pop_back-newest.result = is_at found (length found.items - 1) c.pop_back-newest.result c.pop_back-newest.ensures.youngest in
-    let back = back_is found c.pop_back-newest.result at in
+    let back = back_is found c.pop_back-newest.result c.pop_back-newest.ensures.youngest in
     let k = undo_leaves c.self.inside c.args.self.now c.args.context c.index.result found c.pop_back-newest.new.self c.pop_back-newest.result c.self.inside.registers c.self.view_is c.self.invariant h back c.requires.idle c.pop_back-newest.ensures.rest
     (no_undo c.self.inside c.args.context _ (not_false _ (sym c.if-has_destination.ensures))) refl in
     record { file = c.self.invariant.file; tied = k.tied; waiting = k.waiting }
@@ -42,8 +39,7 @@ pub returns-then-has_destination : goal.returns-then-has_destination
 returns-then-has_destination g c =
     let h = here c.self.inside c.args.self.now c.args.context c.index.result c.index-self-index.result c.self.view_is c.self.invariant c.index.ensures.value c.index.ensures.bound in
     let found = get_or c.self.inside.renamed c.index.result c.index-self-index.result in
-    let at : IsAt found (length found.items - 1) c.pop_back-newest.result = is_at found (length found.items - 1) c.pop_back-newest.result c.pop_back-newest.ensures.youngest in
-    let back = back_is found c.pop_back-newest.result at in
+    let back = back_is found c.pop_back-newest.result c.pop_back-newest.ensures.youngest in
     let k = undo_leaves c.self.inside c.args.self.now c.args.context c.index.result found c.pop_back-newest.new.self c.pop_back-newest.result c.undo.new.self c.self.view_is c.self.invariant h back c.requires.idle c.pop_back-newest.ensures.rest
     (one_undo c.self.inside c.args.context _ c.undo.new.self (not_true _ (sym c.if-has_destination.ensures)) c.undo.ensures.undone) (ap (λ (f : File). f.cells) c.undo.ensures.undone) in
     k.shows
@@ -52,8 +48,7 @@ pub returns-else-has_destination : goal.returns-else-has_destination
 returns-else-has_destination g c =
     let h = here c.self.inside c.args.self.now c.args.context c.index.result c.index-self-index.result c.self.view_is c.self.invariant c.index.ensures.value c.index.ensures.bound in
     let found = get_or c.self.inside.renamed c.index.result c.index-self-index.result in
-    let at : IsAt found (length found.items - 1) c.pop_back-newest.result = is_at found (length found.items - 1) c.pop_back-newest.result c.pop_back-newest.ensures.youngest in
-    let back = back_is found c.pop_back-newest.result at in
+    let back = back_is found c.pop_back-newest.result c.pop_back-newest.ensures.youngest in
     let k = undo_leaves c.self.inside c.args.self.now c.args.context c.index.result found c.pop_back-newest.new.self c.pop_back-newest.result c.self.inside.registers c.self.view_is c.self.invariant h back c.requires.idle c.pop_back-newest.ensures.rest
     (no_undo c.self.inside c.args.context _ (not_false _ (sym c.if-has_destination.ensures))) refl in
     k.shows
