@@ -1,10 +1,10 @@
 pub mod Named
 pub mod Lists
-pub mod Ranked
 pub mod Walks
 pub mod Entered
 pub mod Masks
 pub mod Kept
+pub mod Ordered
 pub mod Arrived
 pub mod Best
 pub mod Chosen

@@ -12,7 +12,6 @@ use Rattle.issue_queue.specs.Entry.{is_named}
 use Rattle.issue_queue.specs.IssueQueue.{is_from}
 use Rattle.issue_queue.specs.Stamps.{stamp_at}
 use Rattle.issue_queue.specs.Views.{name_of}
-use Rattle.issue_queue.proofs.Ranked.{rank_in}
 
 -- the places of the word that are not left have another name
 pub record IsSought (b : Places) (context stamp left : ℕ) : Type 0 where
@@ -47,9 +46,3 @@ pub record IsLeast (slots : Slots) (word left least : ℕ) : Type 0 where
 pub record IsOlder (slots : Slots) (word left older stamp : ℕ) : Type 0 where
   pub within : (p : ℕ) → has left p ≡ true → has word p ≡ true
   pub bits : (p : ℕ) → has older p ≡ ((has word p && not (has left p)) && nat_lt (stamp_at slots p) stamp)
-
--- the ranks of the first i numbers stand at their places, and 0 at the others
-pub record IsRanked (numbers ranks : List ℕ) (i : ℕ) : Type 0 where
-  pub size : length ranks ≡ 64
-  pub done : (k : ℕ) → k < i → slice_index ranks k ≡ rank_in numbers (slice_index numbers k)
-  pub left : (k : ℕ) → i ≤ k → slice_index ranks k ≡ 0

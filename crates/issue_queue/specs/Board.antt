@@ -5,7 +5,7 @@ use Rattle.issue_queue.specs.declared.places.Places.{Places}
 use Rattle.issue_queue.specs.declared.arrivals.Arrivals.{Arrivals}
 use Rattle.issue_queue.specs.declared.slots.Slots.{Slots}
 use Rattle.word_mask.specs.Mask.{has}
-use Rattle.issue_queue.specs.Arrivals.{IsNumbered, arrived}
+use Rattle.issue_queue.specs.Arrivals.{arrived}
 use Rattle.issue_queue.specs.Entries.{entry_at}
 use Rattle.issue_queue.specs.Views.{as_entry}
 use Rattle.issue_queue.specs.Entry.{Entry, AreDistinct, is_supplied, waits_for_two}
@@ -51,17 +51,16 @@ listed slots order = map (slot slots) order
 
 -- the places that are taken, in the order in which entries came to them
 abbrev pub order_of : Places → Arrivals → List ℕ
-order_of b a = filter (λ p. has b.valid p) (arrived a.numbers)
+order_of b a = filter (λ p. has b.valid p) (arrived a.last.value)
 
 -- the entries in the order in which they were put
 abbrev pub entries_of : Places → Arrivals → List Entry
 entries_of b a = listed b.slots (order_of b a)
 
--- the places that are taken are numbered; entries have different names
+-- there are no more entries than the capacity; they have different names
 pub record IsKept (capacity : ℕ) (b : Places) (a : Arrivals) : Type 0 where
   pub bounded : capacity ≤ 64
   pub within : length (order_of b a) ≤ capacity
   pub in_step : InStep b
-  pub numbered : IsNumbered a
   pub taken : (p : ℕ) → has b.valid p ≡ true → p < 64
   pub distinct : AllPairs AreDistinct (entries_of b a)

@@ -6,8 +6,8 @@ use Rattle.issue_queue.proofs.Arrived.{count-taken, lists_taken, kept_more, entr
 use Rattle.issue_queue.proofs.Kept.{kept_put, entries_put}
 use Rattle.issue_queue.proofs.queue.Queue.enter.Goals as goal
 
-pub push-place-requires-clause-room : goal.push-place-requires-clause-room
-push-place-requires-clause-room c =
+pub push-place-requires : goal.push-place-requires
+push-place-requires c =
     let q = c.self.inside in
     let room = rw (← c.self.view_is, length-map (order_of q.places q.arrivals) (slot q.places.slots)) at c.requires.room in
     omega (arith, c.self.invariant.bounded, room, count-taken q.arrivals q.places.valid (search rules))
@@ -16,7 +16,7 @@ pub invariant_of-self : goal.invariant_of-self
 invariant_of-self c =
     let q = c.self.inside in
     let room = rw (← c.self.view_is, length-map (order_of q.places q.arrivals) (slot q.places.slots)) at c.requires.room in
-    kept_more q.capacity q.places c.put.new.self q.arrivals c.push-place.new.self c.push-place.result c.put.ensures.valid c.push-place.ensures.behind c.push-place.ensures.bound c.self.invariant.taken c.push-place.ensures.numbered
+    kept_more q.capacity q.places c.put.new.self q.arrivals c.push-place.new.self c.push-place.result c.put.ensures.valid c.push-place.ensures.behind c.push-place.ensures.bound c.self.invariant.taken
     (kept_put (entered c.args.reading) c.push-place.result q.capacity q.places c.put.new.self (order_of q.places q.arrivals) (lists_taken q.capacity q.places q.arrivals c.self.invariant)
     c.push-place.ensures.free room (rw (← c.self.view_is) at c.requires.fresh) c.put.ensures.slots c.put.ensures.valid c.put.ensures.step)
 
