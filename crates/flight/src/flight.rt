@@ -18,7 +18,7 @@ ghost use Rattle.flight.specs.Flights.{entry_in, empty_flight, fetched_one, rena
 
 use crate::finished::Finished;
 use crate::marks::{Marks, is_waiting};
-use bit_vector::{both, clear_slot, count, has_more, lowest, next, set_slot, turn, up_to_first};
+use bit_vector::{both, clear_slot, has_more, lowest, next, set_slot, turn, up_to_first};
 use core_view::{Entry, Execution, Outcome, Stage};
 use reorder_buffer::Ring;
 use std::alloc::{AllocError, Allocator, Global};
@@ -264,7 +264,7 @@ impl<A: Allocator> Flight<A> {
     pub fn missed_loads(&self) -> usize
         ensures { result ≡ count_by is_missed_load (take self.now.renamed self.now.entries) }
     {
-        count(self.marks.missed_loads)
+        self.marks.missed_count()
     }
 
     /// How many of the entries that are not renamed are guessed.
