@@ -63,12 +63,16 @@ hinted-still : (words : List ℕ) (base : ℕ) (es fs : List Entry) → IsHinted
     ((i : ℕ) (x : Execution) → (entry_in fs i).stage ≡ Issued x → (entry_in es i).stage ≡ Issued x) → IsHinted words base fs
 hinted-still words base es fs h still i x is = h i x (still i x is)
 
-slot-next : (base i : ℕ) → ((base + 1) % 64 + i) % 64 ≡ (base + (1 + i)) % 64
+slot-next : (base i : ℕ) → ((base + 1) % 256 + i) % 64 ≡ (base + (1 + i)) % 64
 slot-next base i = omega arith
 
-hinted-retired : (words : List ℕ) (base : ℕ) (es : List Entry) → IsHinted words base es → IsHinted words ((base + 1) % 64) (drop 1 es)
+-- where the slot of the oldest comes first
+pub slot-turned : (base slot i : ℕ) → slot ≡ (base + 0) % 64 → (slot + i) % 64 ≡ (base + i) % 64
+slot-turned base slot i is = omega arith
+
+hinted-retired : (words : List ℕ) (base : ℕ) (es : List Entry) → IsHinted words base es → IsHinted words ((base + 1) % 256) (drop 1 es)
 hinted-retired words base es h i x is =
-    let same : ((base + 1) % 64 + i) % 64 ≡ (base + (1 + i)) % 64 = slot-next base i in
+    let same : ((base + 1) % 256 + i) % 64 ≡ (base + (1 + i)) % 64 = slot-next base i in
     ap (λ s. bit_at (get_or words (x.due % 64) 0) s) same ∙ h (1 + i) x (ap (λ (e : Entry). e.stage) (sym (get_or_after_one es i no_entry)) ∙ is)
 
 hinted-here : (words : List ℕ) (base place : ℕ) (es : List Entry) (e : Entry) (x : Execution) → place < length es → length words ≡ 64 →
@@ -124,7 +128,7 @@ hinted-cleared words base place r cycle w es h ahead few renamed size idle other
 -- ---- events
 
 pub flight-retired : (es fs : List Entry) (r base : ℕ) (m n : Marks) (words : List ℕ) → IsFlight es r base m words → 0 < r → fs ≡ drop 1 es →
-    ((xs : List Entry) → m ≡ marks_of xs → n ≡ marks_of (drop 1 xs)) → IsFlight fs (r - 1) ((base + 1) % 64) n words
+    ((xs : List Entry) → m ≡ marks_of xs → n ≡ marks_of (drop 1 xs)) → IsFlight fs (r - 1) ((base + 1) % 256) n words
 flight-retired es fs r base m n words f some is marks = rw is (record {
   within = omega (arith, f.within, some, length-drop 1 es);
   few = omega (arith, f.few);
