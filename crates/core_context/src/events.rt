@@ -18,14 +18,14 @@ ghost use Rattle.core_context.specs.Cores.{operands_of, AllFetched};
 ghost use Rattle.core_context.specs.Heads.{IsGoing, first_done, step_on};
 ghost use Rattle.flight.specs.Flights.{execution_of, is_due, IsIssued};
 ghost use Rattle.core_context.specs.Left.{IsIdleCore, IsEventAt};
-ghost use Rattle.core_context.specs.Renamable.{IsPastFront, IsRenamable};
+ghost use Rattle.core_context.specs.Renamable.{HasPlaces, IsPastFront, IsRenamable};
 ghost use Rattle.core_context.specs.Steps.{retired_flow, settled_flow, completed_flow, cut_by, renamed_flow, IsRemarked, AreTold};
 
 use crate::issuing::{perform, perform_apart};
 use crate::track::Track;
 use branch_predict::Guess;
 use core_profile::Profile;
-use core_view::Entry;
+use core_view::{Decoded, Entry};
 use data_flow::{DataFlow, Operands};
 use data_tags::{Delay, Lag};
 use hart_step::Stop;
@@ -68,7 +68,7 @@ pub fn retire<A: Allocator, G: Guess>(
 }
 
 /// A context that has reached its target is parked, and its entries are dropped. Returns how many.
-#[inline(never)]
+#[cold]
 fn park<A: Allocator>(flow: &mut DataFlow<A>, track: &mut Track<A>, context: Ctx) -> usize
     ensures track { track.new ≡ parked track.old }
     ensures flow { flow.new ≡ cut_flow flow.old context 0 }
@@ -79,6 +79,7 @@ fn park<A: Allocator>(flow: &mut DataFlow<A>, track: &mut Track<A>, context: Ctx
 }
 
 /// The oldest entry, which is done with a stop, stops the context.
+#[cold]
 pub fn stop<A: Allocator>(flow: &mut DataFlow<A>, track: &mut Track<A>, context: Ctx, why: Stop)
     requires core { IsIdleCore flow.old context track.old }
     requires done { first_done track.old.context.flight ≡ Some (Stops why) }
@@ -259,16 +260,35 @@ fn renamable<A: Allocator>(
     if flow.free_count() == 0 && operation.destination().index() != 0 {
         return None;
     }
+    if has_places(flow, track, &operation) {
+        Some(entry.stamp)
+    } else {
+        None
+    }
+}
+
+/// Whether each place that an operation needs of the queues is free. Most operations take one test of what they are.
+#[inline(always)]
+fn has_places<A: Allocator>(flow: &DataFlow<A>, track: &Track<A>, operation: &Decoded) -> bool
+    ensures { IsTrue result ↔ HasPlaces flow.now track.now operation.now }
+{
+    if operation.accesses_or_stops() {
+        return has_places_apart(flow, track, operation);
+    }
+    flow.has_place()
+}
+
+/// The same of what accesses memory or stops at fetch.
+fn has_places_apart<A: Allocator>(flow: &DataFlow<A>, track: &Track<A>, operation: &Decoded) -> bool
+    ensures { IsTrue result ↔ HasPlaces flow.now track.now operation.now }
+{
     if operation.is_load() && !track.has_load_place() {
-        return None;
+        return false;
     }
     if operation.is_store() && !track.has_store_place() {
-        return None;
+        return false;
     }
-    if !operation.stops_at_fetch() && !flow.has_place() {
-        return None;
-    }
-    Some(entry.stamp)
+    operation.stops_at_fetch() || flow.has_place()
 }
 
 /// Whether an entry was fetched as many cycles ago as the front delay says.
@@ -344,7 +364,7 @@ fn next_stops<A: Allocator>(track: &Track<A>) -> bool
 
 /// The same of an entry that stops at fetch: it doesn't wait.
 // It is rare, and stays out of the way of the others.
-#[inline(never)]
+#[cold]
 fn rename_stop<A: Allocator>(flow: &mut DataFlow<A>, track: &mut Track<A>, context: Ctx, cycle: u64)
     requires some { track.old.renamed < length track.old.context.flight }
     requires few { track.old.renamed < 64 }
@@ -448,7 +468,7 @@ pub fn issue<A: Allocator, D: Delay>(
 }
 
 /// The same, where the place isn't known.
-#[inline(never)]
+#[cold]
 fn issue_searched<A: Allocator, D: Delay>(
     flow: &DataFlow<A>,
     track: &mut Track<A>,

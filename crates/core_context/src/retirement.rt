@@ -92,14 +92,18 @@ pub(crate) fn retire_access<A: Allocator>(
 pub(crate) fn learn<G: Guess>(guess: &mut G, context: Ctx, entry: &Entry, next: u64)
     ensures { G.may_answer guess.new ≡ G.may_answer guess.old }
 {
-    let Operation::Performs { insn } = entry.operation.operation() else {
-        return;
-    };
+    let operation = entry.operation.operation();
     if entry.operation.is_guessed() {
-        guess.learn(context, entry.pc, insn, next);
-    } else if let Insn::Jal { rd, offset } = *insn {
-        // A JAL is passed as one: a guess that learns nothing of it then has nothing to do here, and needs no test.
-        let jump = Insn::Jal { rd, offset };
-        guess.learn(context, entry.pc, &jump, next);
+        if let Operation::Performs { insn } = operation {
+            guess.learn(context, entry.pc, insn, next);
+        }
+        return;
+    }
+    // A JAL is passed as one: a guess that learns nothing of it then has nothing to do here, and needs no test.
+    if let Operation::Performs { insn } = operation {
+        if let Insn::Jal { rd, offset } = *insn {
+            let jump = Insn::Jal { rd, offset };
+            guess.learn(context, entry.pc, &jump, next);
+        }
     }
 }

@@ -38,26 +38,22 @@ impl Fronts {
         }
     }
 
-    /// The fronts of a machine, where there were none. Returns whether one of them may be of an entry that stops at fetch.
+    /// The fronts of a machine, where there were none.
     // They are put in place: a value that is returned would be copied.
     #[inline(always)]
-    pub(crate) fn find<A: Allocator>(&mut self, machine: &Machine<A>) -> bool
+    pub(crate) fn find<A: Allocator>(&mut self, machine: &Machine<A>)
         requires none { self.old ≡ replicate 8 None }
         requires idle { machine.now.names ≡ [] }
         ensures fronts { AreFronts machine.now.view self.new }
         ensures eight { length self.new ≡ 8 }
-        ensures stops { result ≡ false → (c : ℕ) → NoneStops machine.now.view c }
     {
-        let mut stops = false;
         let mut left = with_fetched(machine);
         while left != 0 {
             let place = lowest(left);
             left = cleared(left, place);
             let context = context_of(place);
-            stops |= machine.front_stops(context);
             self.set(context, machine.front(context));
         }
-        stops
     }
 
     /// The front of a context, if it has one, takes the place of the one that it had.
@@ -102,6 +98,23 @@ fn with_fetched<A: Allocator>(machine: &Machine<A>) -> u64
         word = added(word, context.index(), machine.has_fetched(context));
     }
     word
+}
+
+/// Whether the oldest fetched entry of a context stops at fetch.
+// It is asked where the issue queue is full alone, and stays out of line.
+#[inline(never)]
+pub(crate) fn has_stop<A: Allocator>(machine: &Machine<A>) -> bool
+    ensures { result ≡ false → (c : ℕ) → NoneStops machine.now.view c }
+{
+    let mut left = with_fetched(machine);
+    while left != 0 {
+        let place = lowest(left);
+        if machine.front_stops(context_of(place)) {
+            return true;
+        }
+        left = cleared(left, place);
+    }
+    false
 }
 
 /// A number among eight, and its place.

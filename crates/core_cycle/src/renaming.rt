@@ -4,10 +4,10 @@ ghost use Rattle.std.specs.Prelude.{◌≡◌, ◌≢◌, ◌+◌, ◌<◌, ◌�
 ghost use Rattle.core_view.specs.declared.entry.Entry.{Entry};
 ghost use Rattle.lawful_cycle.specs.Rename.{CanRename, IsRename};
 ghost use Rattle.core_back.specs.Machine.{IsAlike, in_flight};
-ghost use Rattle.core_cycle.specs.Fronts.{AreFronts, IsFront, IsLeast, NoneStops};
+ghost use Rattle.core_cycle.specs.Fronts.{AreFronts, IsFront, IsLeast};
 ghost use Rattle.core_cycle.specs.Runs.{AreBehind, IsRun};
 
-use crate::fronts::Fronts;
+use crate::fronts::{Fronts, has_stop};
 use core_back::Machine;
 use core_view::EntryId;
 use join_law::Ctx;
@@ -36,8 +36,8 @@ pub(crate) fn rename<A: Allocator, L: Listing<EntryId, 8>>(
     // `cycle` ensures that each context is live, so its stamps grow.
     let _live = machine.cycle();
     let mut fronts = Fronts::none();
-    let mut stops = fronts.find(machine);
-    while let Some(context) = next_front(machine, &fronts, stops) {
+    fronts.find(machine);
+    while let Some(context) = next_front(machine, &fronts) {
         let limit = fronts.take(context);
         let before = renamed.len();
         rename_run(machine, renamed, context, limit, width);
@@ -45,20 +45,18 @@ pub(crate) fn rename<A: Allocator, L: Listing<EntryId, 8>>(
             return;
         }
         end_run(machine, &mut fronts, context, renamed.len() > before);
-        stops |= machine.front_stops(context);
     }
 }
 
 /// The context of the oldest front, if something can be renamed: where the issue queue is full, nothing can but what stops
 /// at fetch.
-fn next_front<A: Allocator>(machine: &Machine<A>, fronts: &Fronts, stops: bool) -> Option<Ctx>
+fn next_front<A: Allocator>(machine: &Machine<A>, fronts: &Fronts) -> Option<Ctx>
     requires idle { machine.now.names ≡ [] }
     requires fronts { AreFronts machine.now.view fronts.now }
-    requires stops { stops ≡ false → (c : ℕ) → NoneStops machine.now.view c }
     ensures least { IfSome result (IsLeast fronts.now) }
     ensures none { result ≡ None → (c : ℕ) (e : Entry) → ¬ (CanRename machine.now.view c e) }
 {
-    if !stops && !machine.has_queue_place() {
+    if !machine.has_queue_place() && !has_stop(machine) {
         return None;
     }
     fronts.oldest()

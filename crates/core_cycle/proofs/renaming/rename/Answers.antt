@@ -7,7 +7,6 @@ use Rattle.core_cycle.specs.Runs.{IsGrown}
 use Rattle.core_cycle.proofs.Alike.{alike_none, alike_chain}
 use Rattle.core_cycle.proofs.KeptRuns.{behind_fronts, others_left, none_left, turn_decreases}
 use Rattle.core_cycle.proofs.Renamings.{rename_none}
-use Rattle.core_cycle.proofs.StoppingFronts.{front_goes, stops_after}
 use Rattle.core_cycle.proofs.renaming.rename.Goals as goal
 
 pub loop-context-init : goal.loop-context-init
@@ -18,15 +17,14 @@ loop-context-init g c =
       alike = alike_none c.args.machine.now;
       idle = c.requires.idle;
       flights = refl;
-      fronts = c.find-stops.ensures.fronts;
-      eight = c.find-stops.ensures.eight;
+      fronts = c.find.ensures.fronts;
+      eight = c.find.ensures.eight;
       way = record {
         so_far = rename_none c.args.machine.now.view (g.L.Listing.items c.args.renamed.now) c.cycle-live.ensures.contexts c.requires.fresh;
         each = λ j lt. absurd (omega (arith, lt, none));
       };
       most = omega (arith, none);
       width = omega (arith, most, c.from-width.ensures);
-      stops = c.find-stops.ensures.stops;
     }
 
 pub rename_run-requires-clause-behind : goal.rename_run-requires-clause-behind
@@ -90,8 +88,6 @@ loop-context-preserved g c =
       way = c.rename_run.ensures.run.way c.args.machine.now.view start i.way;
       most = c.rename_run.ensures.run.most;
       width = i.width;
-      stops = stops_after c.loop-context.machine.view c.rename_run.new.machine.view c.in-Some.context c.loop-context.stops c.front_stops-stops.result i.stops c.rename_run.ensures.run.others
-          (front_goes c.rename_run.new.machine.view c.in-Some.context c.front_stops-stops.result c.front_stops-stops.ensures);
     }
 
 pub returns-clause-lawful : goal.returns-clause-lawful

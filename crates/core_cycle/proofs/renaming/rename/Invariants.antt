@@ -1,8 +1,8 @@
-use Rattle.std.proofs.Common.{◌≡◌, ◌+◌, ◌-◌, ◌*◌, ◌≤◌, ℕ, [], false, length}
+use Rattle.std.proofs.Common.{◌≡◌, ◌+◌, ◌-◌, ◌*◌, ◌≤◌, [], length}
 use Rattle.std.specs.Prelude.{count_by}
 use Rattle.std.specs.Option.{is_some}
 use Rattle.core_back.specs.Machine.{IsAlike, in_flight}
-use Rattle.core_cycle.specs.Fronts.{AreFronts, NoneStops}
+use Rattle.core_cycle.specs.Fronts.{AreFronts}
 use Rattle.core_cycle.specs.Runs.{IsOnWay}
 use Rattle.core_cycle.proofs.renaming.rename.Given as goal
 
@@ -16,7 +16,6 @@ invariant-loop-context g l = record {
   way : IsOnWay l.fn.machine.view l.machine.view (g.L.Listing.items l.renamed);
   most : length (g.L.Listing.items l.renamed) ≤ l.width;
   width : l.width ≤ 8;
-  stops : l.stops ≡ false → (c : ℕ) → NoneStops l.machine.view c;
 }
 
 -- each turn lists more entries or leaves a front less

@@ -3,10 +3,9 @@ use Rattle.std.specs.Prelude.{set}
 use Rattle.std.proofs.lemmas.List.{length-set}
 use Rattle.word_mask.specs.Mask.{has}
 use Rattle.word_mask.proofs.Laws.{has_zero}
-use Rattle.core_cycle.specs.Fronts.{IsFront, NoneStops}
+use Rattle.core_cycle.specs.Fronts.{IsFront}
 use Rattle.core_cycle.proofs.KeptFronts.{front_asked}
 use Rattle.core_cycle.proofs.FrontWords.{few_cleared, fronts_cleared}
-use Rattle.core_cycle.proofs.StoppingFronts.{front_goes, stops_cleared}
 use Rattle.core_cycle.proofs.fronts.Fronts.find.Goals as goal
 
 pub loop-left-init : goal.loop-left-init
@@ -14,7 +13,6 @@ loop-left-init g c = record {
   few = c.with_fetched-left.ensures.few;
   fronts = λ k no_bit e can. absurd (c.with_fetched-left.ensures.none k no_bit e can);
   eight = ap (λ (fs : List (Option ℕ)). length fs) c.requires.none;
-  stops = λ off k no_bit e can. absurd (c.with_fetched-left.ensures.none k no_bit e can);
 }
 
 pub context_of-context-requires : goal.context_of-context-requires
@@ -39,15 +37,10 @@ loop-left-preserved g c =
       fronts = subst (λ (fs : List (Option ℕ)). (c : ℕ) → has less c ≡ false → IsFront v c (get_or fs c None)) (sym after)
           (fronts_cleared left less place bits v fronts front (omega (arith, eight, small)) i.fronts (subst (λ k. IsFront v k front) c.context_of-context.ensures asked));
       eight = ap (λ (fs : List (Option ℕ)). length fs) after ∙ length-set fronts place front ∙ eight;
-      stops = stops_cleared left less place bits v c.loop-left.stops c.front_stops-stops.result i.stops
-          (subst (λ k. c.front_stops-stops.result ≡ false → NoneStops v k) c.context_of-context.ensures (front_goes v c.context_of-context.result c.front_stops-stops.result c.front_stops-stops.ensures));
     }
 
 pub returns-clause-fronts : goal.returns-clause-fronts
 returns-clause-fronts g c = record { each = λ k. c.loop-left.invariant.fronts k (ap (λ w. has w k) c.loop-left-test.false ∙ has_zero k) }
-
-pub returns-clause-stops : goal.returns-clause-stops
-returns-clause-stops g c off k = c.loop-left.invariant.stops off k (ap (λ w. has w k) c.loop-left-test.false ∙ has_zero k)
 
 pub returns-clause-eight : goal.returns-clause-eight
 returns-clause-eight g c = c.loop-left.invariant.eight

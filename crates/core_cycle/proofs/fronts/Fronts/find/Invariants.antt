@@ -1,7 +1,7 @@
 use Rattle.std.proofs.Common.{◌≡◌, ℕ, ◌<◌, get_or, None, length, true, false}
 use Rattle.std.specs.Prelude.{count_ones}
 use Rattle.word_mask.specs.Mask.{has}
-use Rattle.core_cycle.specs.Fronts.{IsFront, NoneStops}
+use Rattle.core_cycle.specs.Fronts.{IsFront}
 use Rattle.core_cycle.proofs.fronts.Fronts.find.Given as goal
 
 abbrev pub invariant-loop-left : goal.invariant-loop-left
@@ -9,7 +9,6 @@ invariant-loop-left g l = record {
   few : (c : ℕ) → has l.left c ≡ true → c < 8;
   fronts : (c : ℕ) → has l.left c ≡ false → IsFront l.machine.view c (get_or l.self c None);
   eight : length l.self ≡ 8;
-  stops : l.stops ≡ false → (c : ℕ) → has l.left c ≡ false → NoneStops l.machine.view c;
 }
 
 -- each turn leaves a context less
