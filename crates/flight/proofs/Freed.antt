@@ -1,12 +1,12 @@
 -- What a completion leaves behind no guessed entry.
-use Rattle.std.proofs.Common.{◌≡◌, ◌≢◌, ℕ, ◌<◌, ◌≤◌, Bool, true, false, not, ◌&&◌, List, length, set, refl, sym, ◌∙◌, ap, arith, inl, inr}
+use Rattle.std.proofs.Common.{◌≡◌, ◌≢◌, ℕ, ◌<◌, ◌≤◌, Bool, true, false, List, length, set, refl, sym, ◌∙◌, ap, arith, inl, inr}
 use Rattle.std.specs.Int.{bit_at}
 use Rattle.std.proofs.lemmas.List.{get_or-set_same, get_or-set_other}
 use Rattle.core_view.specs.declared.entry.Entry.{Entry}
 use Rattle.core_view.specs.declared.entry.Execution.{Execution}
 use Rattle.core_view.specs.declared.entry.Stage.TheVariants.{Issued}
 use Rattle.core_view.specs.Events.{completed_entry}
-use Rattle.core_view.specs.Flight.{is_done, is_open_guess}
+use Rattle.core_view.specs.Flight.{is_open_guess}
 use Rattle.core_view.specs.Operations.{is_guessed}
 use Rattle.core_view.specs.View.{no_entry}
 use Rattle.flight.specs.declared.finished.Finished.{Finished}

@@ -63,12 +63,16 @@ hinted-still : (words : List ℕ) (base : ℕ) (es fs : List Entry) → IsHinted
     ((i : ℕ) (x : Execution) → (entry_in fs i).stage ≡ Issued x → (entry_in es i).stage ≡ Issued x) → IsHinted words base fs
 hinted-still words base es fs h still i x is = h i x (still i x is)
 
-slot-next : (base i : ℕ) → ((base + 1) % 64 + i) % 64 ≡ (base + (1 + i)) % 64
+slot-next : (base i : ℕ) → ((base + 1) % 256 + i) % 64 ≡ (base + (1 + i)) % 64
 slot-next base i = omega arith
 
-hinted-retired : (words : List ℕ) (base : ℕ) (es : List Entry) → IsHinted words base es → IsHinted words ((base + 1) % 64) (drop 1 es)
+-- where the slot of the oldest comes first
+pub slot-turned : (base slot i : ℕ) → slot ≡ (base + 0) % 64 → (slot + i) % 64 ≡ (base + i) % 64
+slot-turned base slot i is = omega arith
+
+hinted-retired : (words : List ℕ) (base : ℕ) (es : List Entry) → IsHinted words base es → IsHinted words ((base + 1) % 256) (drop 1 es)
 hinted-retired words base es h i x is =
-    let same : ((base + 1) % 64 + i) % 64 ≡ (base + (1 + i)) % 64 = slot-next base i in
+    let same : ((base + 1) % 256 + i) % 64 ≡ (base + (1 + i)) % 64 = slot-next base i in
     ap (λ s. bit_at (get_or words (x.due % 64) 0) s) same ∙ h (1 + i) x (ap (λ (e : Entry). e.stage) (sym (get_or_after_one es i no_entry)) ∙ is)
 
 hinted-here : (words : List ℕ) (base place : ℕ) (es : List Entry) (e : Entry) (x : Execution) → place < length es → length words ≡ 64 →
@@ -124,7 +128,7 @@ hinted-cleared words base place r cycle w es h ahead few renamed size idle other
 -- ---- events
 
 pub flight-retired : (es fs : List Entry) (r base : ℕ) (m n : Marks) (words : List ℕ) → IsFlight es r base m words → 0 < r → fs ≡ drop 1 es →
-    ((xs : List Entry) → m ≡ marks_of xs → n ≡ marks_of (drop 1 xs)) → IsFlight fs (r - 1) ((base + 1) % 64) n words
+    ((xs : List Entry) → m ≡ marks_of xs → n ≡ marks_of (drop 1 xs)) → IsFlight fs (r - 1) ((base + 1) % 256) n words
 flight-retired es fs r base m n words f some is marks = rw is (record {
   within = omega (arith, f.within, some, length-drop 1 es);
   few = omega (arith, f.few);
@@ -171,18 +175,18 @@ flight-cleared es place r base cycle w m words f renamed size idle others = reco
 }
 
 -- an issued entry is done
-pub flight-finished : (es fs : List Entry) (e : Entry) (x y : Execution) (place r base cycle w : ℕ) (m n : Marks) (words : List ℕ) → IsFlight es r base m words → (entry_in es place).stage ≡ Issued x → e.stage ≡ Done y → fs ≡ set es place e →
-    ((xs : List Entry) → m ≡ marks_of xs → place < length xs → length xs ≤ 64 → (entry_in xs place).stage ≡ Issued x → n ≡ marks_of (set xs place e)) → length words ≡ 64 →
+pub flight-finished : (es fs : List Entry) (e : Entry) (x : Execution) (place r base cycle w : ℕ) (m n : Marks) (words : List ℕ) → IsFlight es r base m words → (entry_in es place).stage ≡ Issued x → (entry_in es place).operation ≡ e.operation → e.stage ≡ Done x → fs ≡ set es place e →
+    ((xs : List Entry) → m ≡ marks_of xs → place < length xs → length xs ≤ 64 → (entry_in xs place).stage ≡ Issued x → (entry_in xs place).operation ≡ e.operation → n ≡ marks_of (set xs place e)) → length words ≡ 64 →
     ((j : ℕ) → j < 64 → j ≢ (base + place) % 64 → bit_at w j ≡ bit_at (get_or words (cycle % 64) 0) j) → IsFlight fs r base n (set words (cycle % 64) w)
-flight-finished es fs e x y place r base cycle w m n words f issued done made marks size others =
+flight-finished es fs e x place r base cycle w m n words f issued same done made marks size others =
     let within : place < r = issued-renamed es r place x f.ahead issued in
     let long : length (take r es) ≡ r = length-take-le r es f.within in
-    let word : n ≡ marks_of (set (take r es) place e) = marks (take r es) f.marked (omega arith) (omega (arith, f.few)) (ap (λ (e : Entry). e.stage) (get_or-take r es place no_entry within) ∙ issued) in
+    let word : n ≡ marks_of (set (take r es) place e) = marks (take r es) f.marked (omega arith) (omega (arith, f.few)) (ap (λ (e : Entry). e.stage) (get_or-take r es place no_entry within) ∙ issued) (ap (λ (e : Entry). e.operation) (get_or-take r es place no_entry within) ∙ same) in
     let put = flight-put es e place r base m n words words f within word (hinted-still words base es (set es place e) f.hinted (still within)) in
     rw made (flight-cleared (set es place e) place r base cycle w n words put (omega (arith, within, f.few)) size (λ z is. absurd (idle z (sym (ap (λ (e : Entry). e.stage) (get_or-set_same es place e no_entry (omega (arith, f.within)))) ∙ is))) others)
   where
     idle : (z : Execution) → e.stage ≡ Issued z → ⊥
-    idle z is = done-issued y z (sym done ∙ is)
+    idle z is = done-issued x z (sym done ∙ is)
 
     still : place < r → (i : ℕ) (z : Execution) → (entry_in (set es place e) i).stage ≡ Issued z → (entry_in es i).stage ≡ Issued z
     still within i z is = elim (eq-or i place) [

@@ -1,6 +1,6 @@
 -- What the words and the hints of a flight show of its entries.
 use Rattle.std.proofs.Common.{◌≡◌, ◌≢◌, ℕ, zero, suc, ◌+◌, ◌*◌, ◌%◌, ◌<◌, ◌≤◌, Bool, true, false, cond, List, [], ◌∷◌, length, take, get_or, Some, None, is_some, refl, sym, ◌∙◌, ap, arith, inl, inr, ◌⊎◌}
-use Rattle.std.specs.Prelude.{◌==◌, if◌then◌else◌, ◌&&◌, not}
+use Rattle.std.specs.Prelude.{◌==◌, if◌then◌else◌}
 use Rattle.std.specs.Int.{bit_at}
 use Rattle.std.proofs.lemmas.Bool.{eqb-true}
 use Rattle.std.proofs.lemmas.Bool.Decides.{nat_tests}
@@ -9,8 +9,6 @@ use Rattle.core_view.specs.declared.entry.Execution.{Execution}
 use Rattle.core_view.specs.declared.entry.Stage.{Stage}
 use Rattle.core_view.specs.declared.entry.Stage.TheVariants.{Fetched, Queued, Issued, Done}
 use Rattle.core_view.specs.Events.{due_at}
-use Rattle.core_view.specs.Flight.{is_open_guess, is_done}
-use Rattle.core_view.specs.Operations.{is_guessed}
 use Rattle.flight.specs.Marked.{word_of}
 use Rattle.flight.specs.Flights.{entry_in, IsHinted, IsAhead, NoneFrom, IsNext, IsIssued, is_due}
 use Rattle.flight.proofs.Words.{bit-clear, bit-set}

@@ -1,18 +1,25 @@
 -- The words of a flight at once, and what they count.
-use Rattle.std.proofs.Common.{◌≡◌, ℕ, zero, suc, ◌+◌, ◌*◌, ◌<◌, ◌≤◌, Bool, true, false, not, cond, List, [], ◌∷◌, ◌++◌, length, take, map, set, get_or, refl, sym, ◌∙◌, ap, arith, nat_eq, inl, inr, ◌⊎◌}
+use Rattle.std.proofs.Common.{◌≡◌, ℕ, zero, suc, ◌+◌, ◌-◌, ◌*◌, ◌^◌, ◌<◌, ◌≤◌, min, Bool, true, false, not, cond, List, [], ◌∷◌, ◌++◌, length, take, map, set, get_or, count_by, bit_and, refl, sym, ◌∙◌, ap, arith, nat_eq, inl, inr, ◌⊎◌}
 use Rattle.std.specs.Prelude.{◌||◌, ◌&&◌}
-use Rattle.std.specs.Int.{bit_at}
+use Rattle.std.specs.Int.{bit_at, bit_not, w64}
 use Rattle.std.specs.List.{list_any}
 use Rattle.std.specs.Simd.Lanes.{mask_l}
 use Rattle.std.proofs.lemmas.Bool.Decides.{nat_tests}
 use Rattle.std.proofs.lemmas.List.{map-set, map-append, length-map, take-map, get_or-take, length-take-le}
 use Rattle.std.proofs.Math.Seq.{map-set_same}
 use Rattle.std.proofs.lemmas.Simd.{bit_mask_l, mask_l-lt}
-use Rattle.std.proofs.lemmas.Nat.Bits.{bit_at_above}
+use Rattle.std.proofs.lemmas.List.Sums.{sum_by-cons}
+use Rattle.std.proofs.lemmas.Nat.{and_le_l}
+use Rattle.std.proofs.lemmas.Nat.Bits.{bit_at_above, bit_at_and, bit_at_not, same_from_bits_below}
+use Rattle.std.proofs.Math.Pow.{pow_mono}
 use Rattle.core_view.specs.declared.entry.Entry.{Entry}
+use Rattle.core_view.specs.declared.entry.Stage.{Stage}
+use Rattle.core_view.specs.declared.entry.Stage.TheVariants.{Fetched, Queued, Issued, Done}
+use Rattle.core_view.specs.Operations.{is_load}
+use Rattle.core_view.specs.Flight.{is_done, has_missed, is_missed_load}
 use Rattle.core_view.specs.View.{no_entry}
 use Rattle.flight.specs.declared.marks.Marks.{Marks}
-use Rattle.flight.specs.Marked.{word_of}
+use Rattle.flight.specs.Marked.{word_of, marks_of, missed_at_issue, is_load_that_missed, has_completed}
 use Rattle.flight.specs.Flights.{entry_in}
 
 pub five : (a b c d e a' b' c' d' e' : ℕ) → a ≡ a' → b ≡ b' → c ≡ c' → d ≡ d' → e ≡ e' →
@@ -27,6 +34,14 @@ bit-entry p (e ∷ es) (suc i) lt = bit-entry p es i (omega arith)
 pub word-push : (p : Entry → Bool) (es : List Entry) (e : Entry) (w r place : ℕ) (b : Bool) → w ≡ word_of p es → place ≡ length es → b ≡ p e →
     ((ms : List Bool) → w ≡ mask_l ms → place ≡ length ms → r ≡ mask_l (ms ++ b ∷ [])) → r ≡ word_of p (es ++ e ∷ [])
 word-push p es e w r place b is at bit h = h (map p es) is (at ∙ sym (length-map es p)) ∙ ap (λ x. mask_l (map p es ++ x ∷ [])) bit ∙ ap mask_l (sym (map-append p es (e ∷ [])))
+
+-- an entry that fails adds no bit
+pub word-unset : (p : Entry → Bool) (es : List Entry) (e : Entry) (w : ℕ) → w ≡ word_of p es → p e ≡ false → w ≡ word_of p (es ++ e ∷ [])
+word-unset p es e w is fails = is ∙ grown es
+  where
+    grown : (fs : List Entry) → word_of p fs ≡ word_of p (fs ++ e ∷ [])
+    grown [] = ap (λ b. cond b 1 0 + 2 * 0) (sym fails)
+    grown (f ∷ fs) = ap (λ n. cond (p f) 1 0 + 2 * n) (grown fs)
 
 pub word-set : (p : Entry → Bool) (es : List Entry) (e : Entry) (w r place : ℕ) (b : Bool) → w ≡ word_of p es → place < length es → length es ≤ 64 → b ≡ p e →
     ((ms : List Bool) → w ≡ mask_l ms → place < length ms → length ms ≤ 64 → r ≡ mask_l (set ms place b)) → r ≡ word_of p (set es place e)
@@ -107,3 +122,48 @@ bit-within p es w r i is within one =
       | inl lt ↦ lt
       | inr ge ↦ absurd (no-one (sym (ap (λ n. bit_at n i) is ∙ bit_at_above (mask_l (map p (take r es))) (length (map p (take r es))) i (mask_l-lt (map p (take r es))) (omega (arith, ge, long))) ∙ one))
     ]
+
+-- ---- loads that missed
+
+fits : (p : Entry → Bool) (es : List Entry) → length es ≤ 64 → word_of p es < 2 ^ 64
+fits p es short = let few : length (map p es) ≤ 64 = omega (arith, short, length-map es p) in
+    let le : 2 ^ length (map p es) ≤ 2 ^ 64 = pow_mono few in omega (arith, mask_l-lt (map p es), le)
+
+-- what passes one test and not another passes a third
+module _ (p q r : Entry → Bool) (is : (e : Entry) → (p e && not (q e)) ≡ r e) where
+  one : (a b c : Bool) → (a && not b) ≡ c → min (cond a 1 0) (1 - cond b 1 0) ≡ cond c 1 0
+  one true true c e = ap (λ d. cond {A = ℕ} d 1 0) e
+  one true false c e = ap (λ d. cond {A = ℕ} d 1 0) e
+  one false true c e = ap (λ d. cond {A = ℕ} d 1 0) e
+  one false false c e = ap (λ d. cond {A = ℕ} d 1 0) e
+
+  at : (es : List Entry) (i : ℕ) → min (cond (get_or (map p es) i false) 1 0) (1 - cond (get_or (map q es) i false) 1 0) ≡ cond (get_or (map r es) i false) 1 0
+  at [] i = refl
+  at (e ∷ es) zero = one (p e) (q e) (r e) (is e)
+  at (e ∷ es) (suc i) = at es i
+
+  bit : (es : List Entry) (i : ℕ) → length es ≤ 64 → i < 64 → bit_at (bit_and (word_of p es) (bit_not w64 (word_of q es))) i ≡ bit_at (word_of r es) i
+  bit es i short low = bit_at_and (word_of p es) (bit_not w64 (word_of q es)) i ∙ ap (λ n. min (bit_at (word_of p es) i) n) (bit_at_not w64 (word_of q es) i (fits q es short) low)
+      ∙ ap (λ n. min n (1 - bit_at (word_of q es) i)) (bit_mask_l (map p es) i) ∙ ap (λ n. min (cond (get_or (map p es) i false) 1 0) (1 - n)) (bit_mask_l (map q es) i) ∙ at es i ∙ sym (bit_mask_l (map r es) i)
+
+  pub word-without : (es : List Entry) → length es ≤ 64 → bit_and (word_of p es) (bit_not w64 (word_of q es)) ≡ word_of r es
+  word-without es short =
+      let le : bit_and (word_of p es) (bit_not w64 (word_of q es)) ≤ word_of p es = and_le_l _ _ in
+      same_from_bits_below 64 _ _ (omega (arith, le, fits p es short)) (fits r es short) (λ i low. bit es i short low)
+
+missed-is : (e : Entry) → (is_load_that_missed e && not (has_completed e)) ≡ is_missed_load e
+missed-is e = go (is_load e.operation) e.stage
+  where
+    go : (load : Bool) (s : Stage) → ((load && missed_at_issue s) && not (is_done s)) ≡ (load && has_missed s)
+    go false s = refl
+    go true Fetched = refl
+    go true Queued = refl
+    go true (Issued x) = sym (and-all x.miss)
+    go true (Done x) = sym (and-none x.miss)
+
+pub missed-word : (m : Marks) (es : List Entry) → m ≡ marks_of es → length es ≤ 64 → bit_and m.missed_loads (bit_not w64 m.done) ≡ word_of is_missed_load es
+missed-word m es is short = ap (λ (n : Marks). bit_and n.missed_loads (bit_not w64 n.done)) is ∙ word-without is_load_that_missed has_completed is_missed_load missed-is es short
+
+pub count-tests : (p : Entry → Bool) (es : List Entry) → count_by (λ b. b) (map p es) ≡ count_by p es
+count-tests p [] = refl
+count-tests p (e ∷ es) = sum_by-cons (λ b. cond b 1 0) (p e) (map p es) ∙ ap (λ n. cond (p e) 1 0 + n) (count-tests p es) ∙ sym (sum_by-cons (λ (f : Entry). cond (p f) 1 0) e es)

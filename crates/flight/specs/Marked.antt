@@ -1,9 +1,11 @@
 -- What the words of a flight say of its entries.
-use Rattle.std.specs.Prelude.{ℕ, Bool, ◌&&◌, List, map}
+use Rattle.std.specs.Prelude.{ℕ, Bool, false, ◌&&◌, List, map}
 use Rattle.std.specs.Simd.Lanes.{mask_l}
 use Rattle.core_view.specs.declared.entry.Entry.{Entry}
 use Rattle.core_view.specs.Operations.{is_load}
-use Rattle.core_view.specs.Flight.{is_queued, is_done, is_open_guess, is_missed_load}
+use Rattle.core_view.specs.declared.entry.Stage.{Stage}
+use Rattle.core_view.specs.declared.entry.Stage.TheVariants.{Fetched, Queued, Issued, Done}
+use Rattle.core_view.specs.Flight.{is_queued, is_done, is_open_guess}
 use Rattle.flight.specs.declared.marks.Marks.{Marks}
 
 abbrev pub is_waiting : Entry → Bool
@@ -15,6 +17,16 @@ is_waiting_load e = is_queued e.stage && is_load e.operation
 abbrev pub has_completed : Entry → Bool
 has_completed e = is_done e.stage
 
+-- issued with a miss, and completed or not
+abbrev pub missed_at_issue : Stage → Bool
+missed_at_issue Fetched = false
+missed_at_issue Queued = false
+missed_at_issue (Issued execution) = execution.miss
+missed_at_issue (Done execution) = execution.miss
+
+abbrev pub is_load_that_missed : Entry → Bool
+is_load_that_missed e = is_load e.operation && missed_at_issue e.stage
+
 -- a word with a bit an entry, bit 0 for the oldest
 abbrev pub word_of : (Entry → Bool) → List Entry → ℕ
 word_of p es = mask_l (map p es)
@@ -25,6 +37,6 @@ marks_of es = record {
   waiting = word_of is_waiting es;
   waiting_loads = word_of is_waiting_load es;
   open_guesses = word_of is_open_guess es;
-  missed_loads = word_of is_missed_load es;
+  missed_loads = word_of is_load_that_missed es;
   done = word_of has_completed es;
 }

@@ -18,7 +18,7 @@ ghost use Rattle.flight.specs.Flights.{entry_in, empty_flight, fetched_one, rena
 
 use crate::finished::Finished;
 use crate::marks::{Marks, is_waiting};
-use bit_vector::{both, clear_slot, count, has_more, lowest, next, set_slot, turn, up_to_first};
+use bit_vector::{both, clear_slot, has_more, lowest, next, set_slot, turn, up_to_first};
 use core_view::{Entry, Execution, Outcome, Stage};
 use reorder_buffer::Ring;
 use std::alloc::{AllocError, Allocator, Global};
@@ -32,8 +32,8 @@ pub struct Flight<A: Allocator = Global> {
     marks: Marks,
     // How many of the entries that are not renamed are guessed.
     guessed: usize,
-    // The slot of the oldest entry, below 64.
-    base: usize,
+    // How many entries have left as the oldest, modulo 256: modulo 64 it is the slot of the oldest.
+    base: u8,
     // A word a cycle modulo 64, with a bit a slot: what is due then has its bit.
     hints: [u64; 64],
     // The slot of what was renamed last of a stamp modulo 256.
@@ -41,7 +41,7 @@ pub struct Flight<A: Allocator = Global> {
 }
 
 impl<A: Allocator> Model for Flight<A> {
-    ghost use Rattle.std.specs.Prelude.{◌≡◌, ◌<◌};
+    ghost use Rattle.std.specs.Prelude.{◌≡◌};
     ghost use Rattle.flight.specs.Flights.{Flight, IsFlight, guesses_ahead};
     ghost use Rattle.flight.specs.FlightCode.{coded_flight};
 
@@ -49,7 +49,7 @@ impl<A: Allocator> Model for Flight<A> {
 
     ghost view = { λ f. record { entries = f.ring.items; renamed = f.renamed; capacity = f.ring.capacity } };
 
-    ghost invariant = { λ f. (f.base < 64) × IsFlight f.ring.items f.renamed f.base f.marks f.hints × (f.guessed ≡ guesses_ahead f.renamed f.ring.items) };
+    ghost invariant = { λ f. IsFlight f.ring.items f.renamed f.base f.marks f.hints × (f.guessed ≡ guesses_ahead f.renamed f.ring.items) };
 
     ghost coded = { coded_flight };
 }
@@ -146,7 +146,7 @@ impl<A: Allocator> Flight<A> {
         let entry = at(&self.ring, self.renamed).renamed(cycle);
         set_in(&mut self.ring, self.renamed, entry);
         self.marks.push(self.renamed, &entry);
-        self.slots[(entry.stamp % 256) as usize] = ((self.base + self.renamed) % 64) as u8;
+        self.slots[(entry.stamp % 256) as usize] = slot_of(self.base, self.renamed) as u8;
         self.renamed += 1;
         self.guessed -= usize::from(entry.operation.is_guessed());
     }
@@ -164,7 +164,7 @@ impl<A: Allocator> Flight<A> {
         let entry = waiting(at(&self.ring, place));
         set_in(&mut self.ring, place, entry);
         self.marks.push_waiting(place, &entry);
-        self.slots[(entry.stamp % 256) as usize] = ((self.base + place) % 64) as u8;
+        self.slots[(entry.stamp % 256) as usize] = slot_of(self.base, place) as u8;
         self.renamed = place + 1;
         let guessed = usize::from(entry.operation.is_guessed());
         self.guessed -= guessed;
@@ -181,7 +181,7 @@ impl<A: Allocator> Flight<A> {
         set_in(&mut self.ring, place, entry);
         self.marks.issue(place, &entry);
         let cycle = (execution.due % 64) as usize;
-        self.hints[cycle] = set_slot(self.hints[cycle], (self.base + place) % 64);
+        self.hints[cycle] = set_slot(self.hints[cycle], slot_of(self.base, place));
     }
 
     /// The same of one that is no load.
@@ -196,7 +196,7 @@ impl<A: Allocator> Flight<A> {
         set_in(&mut self.ring, place, issued);
         self.marks.issue_other(place);
         let word = (execution.due % 64) as usize;
-        self.hints[word] = set_slot(self.hints[word], (self.base + place) % 64);
+        self.hints[word] = set_slot(self.hints[word], slot_of(self.base, place));
     }
 
     /// The entry at a place, which is issued, completes. Nothing is cut.
@@ -215,7 +215,7 @@ impl<A: Allocator> Flight<A> {
         set_in(&mut self.ring, place, entry);
         self.marks.finish(place);
         let cycle = (execution.due % 64) as usize;
-        self.hints[cycle] = clear_slot(self.hints[cycle], (self.base + place) % 64);
+        self.hints[cycle] = clear_slot(self.hints[cycle], slot_of(self.base, place));
     }
 
     /// The oldest entry leaves.
@@ -228,7 +228,7 @@ impl<A: Allocator> Flight<A> {
         };
         self.marks.retire();
         self.renamed -= 1;
-        self.base = (self.base + 1) % 64;
+        self.base = self.base.wrapping_add(1);
     }
 
     /// The entries from a stamp on leave. The one at a place stays.
@@ -264,7 +264,7 @@ impl<A: Allocator> Flight<A> {
     pub fn missed_loads(&self) -> usize
         ensures { result ≡ count_by is_missed_load (take self.now.renamed self.now.entries) }
     {
-        count(self.marks.missed_loads)
+        self.marks.missed_count()
     }
 
     /// How many of the entries that are not renamed are guessed.
@@ -291,8 +291,7 @@ impl<A: Allocator> Flight<A> {
         ensures stamp { IfSome result (λ place. (entry_in self.now.entries place).stamp ≡ stamp) }
         ensures waits { IfSome result (λ place. is_waiting (entry_in self.now.entries place) ≡ true) }
     {
-        let slot = usize::from(self.slots[(stamp % 256) as usize]);
-        let place = (slot + 64 - self.base) % 64;
+        let place = place_of(self.base, self.slots[(stamp % 256) as usize]);
         let entry = self.get(place)?;
         if entry.stamp == stamp && is_waiting(entry) {
             Some(place)
@@ -424,7 +423,10 @@ impl<A: Allocator> Flight<A> {
         ensures within { result ≤ 64 }
         ensures none { (i : ℕ) → from ≤ i → i < result → is_due cycle (entry_in self.now.entries i) ≡ false }
     {
-        next(turn(self.hints[(cycle % 64) as usize], self.base), from)
+        next(
+            turn(self.hints[(cycle % 64) as usize], slot_of(self.base, 0)),
+            from,
+        )
     }
 
     /// The first place that may be due in a cycle, or 64.
@@ -433,7 +435,7 @@ impl<A: Allocator> Flight<A> {
         ensures within { result ≤ 64 }
         ensures none { (i : ℕ) → i < result → is_due cycle (entry_in self.now.entries i) ≡ false }
     {
-        lowest(turn(self.hints[(cycle % 64) as usize], self.base))
+        lowest(turn(self.hints[(cycle % 64) as usize], slot_of(self.base, 0)))
     }
 
     /// Whether the entry at a place is issued and due a number of times 64 cycles from a cycle.
@@ -454,8 +456,26 @@ impl<A: Allocator> Flight<A> {
             return;
         }
         let word = (cycle % 64) as usize;
-        self.hints[word] = clear_slot(self.hints[word], (self.base + place) % 64);
+        self.hints[word] = clear_slot(self.hints[word], slot_of(self.base, place));
     }
+}
+
+/// The slot of the entry at a place, after so many have left.
+#[inline(always)]
+fn slot_of(base: u8, place: usize) -> usize
+    requires { place ≤ 64 }
+    ensures { result ≡ (base + place) % 64 }
+{
+    (usize::from(base) + place) % 64
+}
+
+/// The place of the entry in a slot, after so many have left.
+#[inline(always)]
+fn place_of(base: u8, slot: u8) -> usize
+    ensures within { result < 64 }
+    ensures slot { (base + result) % 64 ≡ slot % 64 }
+{
+    usize::from(slot.wrapping_sub(base) % 64)
 }
 
 /// The entry at a place that is there.

@@ -1,15 +1,15 @@
 //! The words of a flight.
 
-ghost use Rattle.std.specs.Prelude.{◌≡◌, false, ◌&&◌, ◌<◌, ◌≤◌, List, [], ◌∷◌, ◌++◌, length, take, drop, slice_set};
+ghost use Rattle.std.specs.Prelude.{◌≡◌, false, ◌&&◌, ◌<◌, ◌≤◌, List, [], ◌∷◌, ◌++◌, length, take, drop, slice_set, count_by};
 ghost use Rattle.core_view.specs.declared.entry.Entry.{Entry};
 ghost use Rattle.core_view.specs.declared.entry.Execution.{Execution};
 ghost use Rattle.core_view.specs.declared.entry.Stage.TheVariants.{Queued, Issued, Done};
 ghost use Rattle.core_view.specs.Operations.{is_load};
-ghost use Rattle.core_view.specs.Flight.{is_open_guess, is_missed_load, has_missed};
-ghost use Rattle.flight.specs.Marked.{marks_of, is_waiting, is_waiting_load};
+ghost use Rattle.core_view.specs.Flight.{is_open_guess, is_missed_load};
+ghost use Rattle.flight.specs.Marked.{marks_of, is_waiting, is_waiting_load, is_load_that_missed, missed_at_issue};
 ghost use Rattle.flight.specs.Flights.{entry_in};
 
-use bit_vector::{assign, first, push, without_first};
+use bit_vector::{assign, count, first, push, without_first};
 use core_view::{Entry, Stage};
 
 /// A bit a renamed entry, bit 0 for the oldest.
@@ -21,7 +21,7 @@ pub struct Marks {
     pub waiting_loads: u64,
     /// It is guessed and has not completed.
     pub open_guesses: u64,
-    /// It is a load that was issued, has not completed, and missed.
+    /// It is a load that was issued and missed, done or not.
     pub missed_loads: u64,
     /// It is done.
     pub done: u64,
@@ -50,7 +50,7 @@ impl Marks {
         self.waiting = push(self.waiting, place, is_waiting(entry));
         self.waiting_loads = push(self.waiting_loads, place, is_waiting_load(entry));
         self.open_guesses = push(self.open_guesses, place, is_open_guess(entry));
-        self.missed_loads = push(self.missed_loads, place, is_missed_load(entry));
+        self.missed_loads = push(self.missed_loads, place, is_load_that_missed(entry));
         self.done = push(self.done, place, entry.stage.is_done());
     }
 
@@ -61,10 +61,11 @@ impl Marks {
         ensures { (es : List Entry) → self.old ≡ marks_of es → place ≡ length es → entry.now.stage ≡ Queued → self.new ≡ marks_of (es ++ entry.now ∷ []) }
     {
         self.waiting = push(self.waiting, place, true);
-        self.waiting_loads = push(self.waiting_loads, place, entry.operation.is_load());
         self.open_guesses = push(self.open_guesses, place, entry.operation.is_guessed());
-        self.missed_loads = push(self.missed_loads, place, false);
-        self.done = push(self.done, place, false);
+        // Their other bits are clear, that at the place too.
+        if entry.operation.is_load() {
+            self.waiting_loads = push(self.waiting_loads, place, true);
+        }
     }
 
     /// With an entry at a place that has issued, where it waited.
@@ -76,7 +77,7 @@ impl Marks {
     {
         self.waiting = assign(self.waiting, place, false);
         self.waiting_loads = assign(self.waiting_loads, place, false);
-        self.missed_loads = assign(self.missed_loads, place, is_missed_load(entry));
+        self.missed_loads = assign(self.missed_loads, place, is_load_that_missed(entry));
     }
 
     /// With another entry at a place, which is no load and has issued, where it waited.
@@ -94,10 +95,10 @@ impl Marks {
     #[inline]
     pub fn finish(&mut self, place: usize)
         requires { place < 64 }
-        ensures { (es : List Entry) (e : Entry) (x y : Execution) → self.old ≡ marks_of es → place < length es → length es ≤ 64 → (entry_in es place).stage ≡ Issued x → e.stage ≡ Done y → self.new ≡ marks_of (slice_set es place e) }
+        ensures { (es : List Entry) (e : Entry) (x : Execution) → self.old ≡ marks_of es → place < length es → length es ≤ 64 → (entry_in es place).stage ≡ Issued x → (entry_in es place).operation ≡ e.operation → e.stage ≡ Done x →
+            self.new ≡ marks_of (slice_set es place e) }
     {
         self.open_guesses = assign(self.open_guesses, place, false);
-        self.missed_loads = assign(self.missed_loads, place, false);
         self.done = assign(self.done, place, true);
     }
 
@@ -123,6 +124,14 @@ impl Marks {
         self.open_guesses = first(self.open_guesses, count);
         self.missed_loads = first(self.missed_loads, count);
         self.done = first(self.done, count);
+    }
+
+    /// How many loads were issued, have not completed, and missed.
+    #[inline]
+    pub(crate) fn missed_count(&self) -> usize
+        ensures { (es : List Entry) → self.now ≡ marks_of es → length es ≤ 64 → result ≡ count_by is_missed_load es }
+    {
+        count(self.missed_loads & !self.done)
     }
 }
 
@@ -150,21 +159,22 @@ fn is_open_guess(entry: &Entry) -> bool
     entry.operation.is_guessed() & !entry.stage.is_done()
 }
 
-/// Whether an entry is a load that was issued, has not completed, and missed.
+/// Whether an entry is a load that was issued and missed, done or not.
 #[inline]
-fn is_missed_load(entry: &Entry) -> bool
-    ensures { result ≡ is_missed_load entry.now }
+fn is_load_that_missed(entry: &Entry) -> bool
+    ensures { result ≡ is_load_that_missed entry.now }
 {
-    entry.operation.is_load() && has_missed(&entry.stage)
+    entry.operation.is_load() && missed_at_issue(&entry.stage)
 }
 
-/// Whether a stage is that of an execution that missed and has not completed.
+/// Whether a stage is that of an execution that missed, done or not.
 #[inline]
-fn has_missed(stage: &Stage) -> bool
-    ensures { result ≡ has_missed stage.now }
+fn missed_at_issue(stage: &Stage) -> bool
+    ensures { result ≡ missed_at_issue stage.now }
 {
     match stage {
         Stage::Issued { execution } => execution.miss,
+        Stage::Done { execution } => execution.miss,
         _ => false,
     }
 }

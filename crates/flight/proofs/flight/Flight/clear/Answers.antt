@@ -18,7 +18,7 @@ below-zero (e ∷ es) =
 pub invariant_of-self : goal.invariant_of-self
 invariant_of-self g c =
     let none : c.cut_from.new.self.items ≡ [] = ap (λ (b : Buffer Entry). b.items) c.cut_from.ensures.below ∙ below-zero c.self.inside.ring.items in
-    (c.self.invariant.0, rw (none, c.new-self-inside.ensures) (flight-none c.self.inside.base c.self.inside.hints), rw none refl)
+    (rw (none, c.new-self-inside.ensures) (flight-none c.self.inside.base c.self.inside.hints), rw none refl)
 
 pub returns : goal.returns
 returns g c = rw (← c.self.view_is, c.cut_from.ensures.below, below-zero c.self.inside.ring.items) refl

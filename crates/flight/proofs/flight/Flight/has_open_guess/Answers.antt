@@ -7,5 +7,5 @@ use Rattle.flight.proofs.Words.{none-set}
 use Rattle.flight.proofs.flight.Flight.has_open_guess.Goals as goal
 
 pub returns : goal.returns
-returns g c = ap (λ (m : Marks). not (nat_eq m.open_guesses 0)) c.self.invariant.1.marked ∙ none-set is_open_guess (take c.self.inside.renamed c.self.inside.ring.items)
+returns g c = ap (λ (m : Marks). not (nat_eq m.open_guesses 0)) c.self.invariant.0.marked ∙ none-set is_open_guess (take c.self.inside.renamed c.self.inside.ring.items)
     ∙ ap (λ (f : Flight). list_any is_open_guess (take f.renamed f.entries)) c.self.view_is

@@ -7,5 +7,5 @@ use Rattle.flight.proofs.Looks.{first-bit}
 use Rattle.flight.proofs.flight.Flight.is_head_done.Goals as goal
 
 pub returns : goal.returns
-returns g c = first-bit has_completed c.self.inside.ring.items c.self.inside.marks.done c.self.inside.renamed (ap (λ (m : Marks). m.done) c.self.invariant.1.marked) c.self.invariant.1.within c.self.invariant.1.ahead (λ e is. ap is_done is)
+returns g c = first-bit has_completed c.self.inside.ring.items c.self.inside.marks.done c.self.inside.renamed (ap (λ (m : Marks). m.done) c.self.invariant.0.marked) c.self.invariant.0.within c.self.invariant.0.ahead (λ e is. ap is_done is)
     ∙ ap (λ (f : Flight). is_done (entry_in f.entries 0).stage) c.self.view_is

@@ -12,5 +12,5 @@ pub returns-clause-next : goal.returns-clause-next
 returns-clause-next g c =
     let none = subst (λ (f : Flight). (i : ℕ) → c.args.from ≤ i → i < c.loop-place.place → is_due c.args.cycle (entry_in f.entries i) ≡ false) (sym c.self.view_is) c.loop-place.invariant.none in
     subst (λ (f : Flight). NoneFrom (is_due c.args.cycle) f.entries c.args.from) c.self.view_is
-    (none-from (is_due c.args.cycle) c.self.inside.ring.items c.args.from c.loop-place.place c.self.inside.renamed none (omega (arith, c.loop-place-test.false, c.self.invariant.1.few)) c.self.invariant.1.ahead
+    (none-from (is_due c.args.cycle) c.self.inside.ring.items c.args.from c.loop-place.place c.self.inside.renamed none (omega (arith, c.loop-place-test.false, c.self.invariant.0.few)) c.self.invariant.0.ahead
     (λ e is. ap (λ s. is_some (due_at c.args.cycle s)) is))

@@ -6,4 +6,4 @@ use Rattle.flight.specs.Marked.{is_waiting_load}
 use Rattle.flight.proofs.flight.Flight.next_waiting_load.Goals as goal
 
 pub returns-clause-next : goal.returns-clause-next
-returns-clause-next g c = c.next_marked.ensures.next is_waiting_load (rw (← c.self.view_is) (ap (λ (m : Marks). m.waiting_loads) c.self.invariant.1.marked)) (λ e is. ap (λ s. is_queued s && is_load e.operation) is)
+returns-clause-next g c = c.next_marked.ensures.next is_waiting_load (rw (← c.self.view_is) (ap (λ (m : Marks). m.waiting_loads) c.self.invariant.0.marked)) (λ e is. ap (λ s. is_queued s && is_load e.operation) is)

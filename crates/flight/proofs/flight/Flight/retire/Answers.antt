@@ -10,4 +10,4 @@ pub invariant_of-self : goal.invariant_of-self
 invariant_of-self g c =
     let some : 0 < c.self.inside.renamed = omega (arith, c.requires, ap (λ (f : Flight). f.renamed) c.self.view_is) in
     let left = ap (λ (b : Buffer Entry). b.items) c.retire.ensures.rest in
-    (omega arith, flight-retired _ _ _ _ _ _ _ c.self.invariant.1 some left c.retire-2.ensures, rw left (c.self.invariant.2 ∙ sym (guesses-retired c.self.inside.renamed c.self.inside.ring.items some)))
+    (flight-retired _ _ _ _ _ _ _ c.self.invariant.0 some left c.retire-2.ensures, rw left (c.self.invariant.1 ∙ sym (guesses-retired c.self.inside.renamed c.self.inside.ring.items some)))

@@ -1,4 +1,4 @@
-use Rattle.std.proofs.Common.{◌≡◌, ◌<◌, ℕ, true, false, ap, sym, subst, arith}
+use Rattle.std.proofs.Common.{◌≡◌, ◌<◌, true, ap, sym, subst, arith}
 use Rattle.core_view.specs.Flight.{is_open_guess}
 use Rattle.flight.specs.declared.marks.Marks.{Marks}
 use Rattle.flight.specs.Marked.{is_waiting}
@@ -10,7 +10,7 @@ pub returns-clause-set : goal.returns-clause-set
 returns-clause-set g c i lt waits none =
     let es = c.self.inside.ring.items in
     let r = c.self.inside.renamed in
-    let h = c.self.invariant.1 in
+    let h = c.self.invariant.0 in
     let below : i < r = omega (arith, lt, ap (λ (f : Flight). f.renamed) c.self.view_is) in
     let waits_there : is_waiting (entry_in es i) ≡ true = subst (λ (f : Flight). is_waiting (entry_in f.entries i) ≡ true) (sym c.self.view_is) waits in
     let none_there : NoneOpenBelow es i = subst (λ (f : Flight). NoneOpenBelow f.entries i) (sym c.self.view_is) none in
@@ -19,20 +19,20 @@ returns-clause-set g c i lt waits none =
 
 pub returns-clause-within : goal.returns-clause-within
 returns-clause-within g c i one =
-    let h = c.self.invariant.1 in
+    let h = c.self.invariant.0 in
     let below = bit-within is_waiting c.self.inside.ring.items c.self.inside.marks.waiting c.self.inside.renamed i (ap (λ (m : Marks). m.waiting) h.marked) h.within (c.both.ensures.first i one) in
     omega (arith, below, ap (λ (f : Flight). f.renamed) c.self.view_is)
 
 pub returns-clause-waits : goal.returns-clause-waits
 returns-clause-waits g c i one =
-    let h = c.self.invariant.1 in
+    let h = c.self.invariant.0 in
     let set_ = c.both.ensures.first i one in
     let below = bit-within is_waiting c.self.inside.ring.items c.self.inside.marks.waiting c.self.inside.renamed i (ap (λ (m : Marks). m.waiting) h.marked) h.within set_ in
     subst (λ (f : Flight). is_waiting (entry_in f.entries i) ≡ true) c.self.view_is (bit-set is_waiting c.self.inside.ring.items c.self.inside.marks.waiting c.self.inside.renamed i (ap (λ (m : Marks). m.waiting) h.marked) h.within below set_)
 
 pub returns-clause-none_open : goal.returns-clause-none_open
 returns-clause-none_open g c i one =
-    let h = c.self.invariant.1 in
+    let h = c.self.invariant.0 in
     let below = bit-within is_waiting c.self.inside.ring.items c.self.inside.marks.waiting c.self.inside.renamed i (ap (λ (m : Marks). m.waiting) h.marked) h.within (c.both.ensures.first i one) in
     subst (λ (f : Flight). NoneOpenBelow f.entries i) c.self.view_is
     (λ j before. bit-clear is_open_guess c.self.inside.ring.items c.self.inside.marks.open_guesses c.self.inside.renamed j (ap (λ (m : Marks). m.open_guesses) h.marked) h.within (omega (arith, before, below))

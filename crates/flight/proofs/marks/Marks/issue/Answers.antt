@@ -1,7 +1,7 @@
 use Rattle.std.proofs.Common.{ap, refl}
 use Rattle.flight.specs.declared.marks.Marks.{Marks}
-use Rattle.core_view.specs.Flight.{is_open_guess, is_missed_load}
-use Rattle.flight.specs.Marked.{is_waiting, is_waiting_load, has_completed}
+use Rattle.core_view.specs.Flight.{is_open_guess}
+use Rattle.flight.specs.Marked.{is_waiting, is_waiting_load, is_load_that_missed, has_completed}
 use Rattle.flight.proofs.Words.{five, word-set, word-same}
 use Rattle.flight.proofs.marks.Marks.issue.Goals as goal
 
@@ -11,5 +11,5 @@ returns c es x e queued same issued within few =
     (word-set is_waiting es c.args.entry.now _ _ _ _ (ap (λ (m : Marks). m.waiting) e) within few (rw issued refl) c.assign-self.ensures)
     (word-set is_waiting_load es c.args.entry.now _ _ _ _ (ap (λ (m : Marks). m.waiting_loads) e) within few (rw issued refl) c.assign-self-2.ensures)
     (word-same is_open_guess es c.args.entry.now _ _ (ap (λ (m : Marks). m.open_guesses) e) (rw (issued, queued, same) refl))
-    (word-set is_missed_load es c.args.entry.now _ _ _ _ (ap (λ (m : Marks). m.missed_loads) e) within few c.is_missed_load.ensures c.assign-self-3.ensures)
+    (word-set is_load_that_missed es c.args.entry.now _ _ _ _ (ap (λ (m : Marks). m.missed_loads) e) within few c.is_load_that_missed.ensures c.assign-self-3.ensures)
     (word-same has_completed es c.args.entry.now _ _ (ap (λ (m : Marks). m.done) e) (rw (issued, queued) refl))

@@ -1,7 +1,7 @@
 use Rattle.std.proofs.Common.{ap, refl}
 use Rattle.flight.specs.declared.marks.Marks.{Marks}
-use Rattle.core_view.specs.Flight.{is_open_guess, is_missed_load}
-use Rattle.flight.specs.Marked.{is_waiting, is_waiting_load, has_completed}
+use Rattle.core_view.specs.Flight.{is_open_guess}
+use Rattle.flight.specs.Marked.{is_waiting, is_waiting_load, is_load_that_missed, has_completed}
 use Rattle.flight.proofs.Words.{five, word-set, word-same}
 use Rattle.flight.proofs.marks.Marks.issue_other.Goals as goal
 
@@ -11,5 +11,5 @@ returns c es d x e queued same other issued within few =
     (word-set is_waiting es d _ _ _ _ (ap (λ (m : Marks). m.waiting) e) within few (rw issued refl) c.assign-self.ensures)
     (word-same is_waiting_load es d _ _ (ap (λ (m : Marks). m.waiting_loads) e) (rw (issued, queued, same, other) refl))
     (word-same is_open_guess es d _ _ (ap (λ (m : Marks). m.open_guesses) e) (rw (issued, queued, same) refl))
-    (word-same is_missed_load es d _ _ (ap (λ (m : Marks). m.missed_loads) e) (rw (issued, queued, same, other) refl))
+    (word-same is_load_that_missed es d _ _ (ap (λ (m : Marks). m.missed_loads) e) (rw (issued, queued, same, other) refl))
     (word-same has_completed es d _ _ (ap (λ (m : Marks). m.done) e) (rw (issued, queued) refl))
