@@ -29,21 +29,18 @@ waits_for register e = list_any (λ r. r == register) e.waits
 abbrev pub is_of : ℕ → Entry → Bool
 is_of context e = e.context == context
 
-abbrev pub is_guessed : Entry → Bool
-is_guessed e = e.guessed
-
 -- the word has a bit for each place that is taken by an entry that passes the test, and no other
 abbrev pub IsMask : (Entry → Bool) → ℕ → Slots → ℕ → Type 0
 IsMask test valid slots word = (p : ℕ) → has word p ≡ (has valid p && test (slot slots p))
 
--- each word is the mask of its test, and no free place is held
+-- each word is the mask of its test, and no free place is held or guessed
 pub record InStep (b : Places) : Type 0 where
   pub supplied : IsMask is_supplied b.valid b.slots b.supplied
   pub two : IsMask waits_for_two b.valid b.slots b.two
-  pub guesses : IsMask is_guessed b.valid b.slots b.guesses
   pub contexts : (c : ℕ) → c < 8 → IsMask (is_of c) b.valid b.slots (slice_index b.contexts c)
   pub waiters : (r : ℕ) → r < 480 → IsMask (waits_for r) b.valid b.slots (slice_index b.slots.waiters r)
   pub let_go : (p : ℕ) → has b.valid p ≡ false → has b.slots.held p ≡ false
+  pub unguessed : (p : ℕ) → has b.valid p ≡ false → has b.slots.entries.guesses p ≡ false
 
 -- the entries of these places
 abbrev pub listed : Slots → List ℕ → List Entry

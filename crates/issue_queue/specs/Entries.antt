@@ -1,5 +1,6 @@
 -- What entered at each place.
-use Rattle.std.specs.Prelude.{◌≡◌, ℕ, false, length, slice_index, slice_index_or, slice_set}
+use Rattle.std.specs.Prelude.{◌≡◌, ℕ, false, length, slice_index, slice_index_or}
+use Rattle.word_mask.specs.Mask.{has}
 use Rattle.issue_queue.specs.declared.entry.Queued.{Queued}
 use Rattle.issue_queue.specs.declared.entries.Entries.{Entries}
 
@@ -9,7 +10,6 @@ pub record AreWide (s : Entries) : Type 0 where
   pub contexts : length s.contexts ≡ 64
   pub firsts : length s.firsts ≡ 64
   pub seconds : length s.seconds ≡ 64
-  pub guessed : length s.guessed ≡ 64
   pub speculative : length s.speculative ≡ 64
 
 -- what entered at a place
@@ -19,17 +19,6 @@ entry_at s i = record {
   context = slice_index s.contexts i;
   first = slice_index s.firsts i;
   second = slice_index s.seconds i;
-  guessed = slice_index_or s.guessed i false;
+  guessed = has s.guesses i;
   speculative = slice_index_or s.speculative i false;
-}
-
--- what is left where an entry enters at a place
-abbrev pub with_entry : Entries → ℕ → Queued → Entries
-with_entry s i q = record {
-  stamps = slice_set s.stamps i q.stamp;
-  contexts = slice_set s.contexts i q.context;
-  firsts = slice_set s.firsts i q.first;
-  seconds = slice_set s.seconds i q.second;
-  guessed = slice_set s.guessed i q.guessed;
-  speculative = slice_set s.speculative i q.speculative;
 }

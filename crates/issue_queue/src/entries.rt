@@ -1,7 +1,8 @@
 //! What entered at each of the 64 places of the queue.
 
-ghost use Rattle.std.specs.Prelude.{◌≡◌, ◌<◌, slice_set};
-ghost use Rattle.issue_queue.specs.Entries.{AreWide, entry_at, with_entry};
+ghost use Rattle.std.specs.Prelude.{◌≡◌, ℕ, ◌<◌, ◌==◌, false, slice_set, if◌then◌else◌};
+ghost use Rattle.word_mask.specs.Mask.{has};
+ghost use Rattle.issue_queue.specs.Entries.{AreWide, entry_at};
 
 use crate::entry::Queued;
 use join_law::Ctx;
@@ -15,13 +16,16 @@ pub(crate) struct Entries {
     pub contexts: [Ctx; 64],
     pub firsts: [PhysicalRegister; 64],
     pub seconds: [PhysicalRegister; 64],
-    pub guessed: [bool; 64],
+    /// The places of conditional branches and JALRs. None of them is free, so that an entry that enters has no bit to clear.
+    pub guesses: u64,
     pub speculative: [bool; 64],
 }
 
 impl Entries {
     /// Blank entries.
-    pub(crate) fn new() -> Entries {
+    pub(crate) fn new() -> Entries
+        ensures { result.guesses ≡ 0 }
+    {
         let [context, ..] = Ctx::all();
         let register = PhysicalRegister::default();
         Entries {
@@ -29,7 +33,7 @@ impl Entries {
             contexts: [context; 64],
             firsts: [register; 64],
             seconds: [register; 64],
-            guessed: [false; 64],
+            guesses: 0,
             speculative: [false; 64],
         }
     }
@@ -45,23 +49,23 @@ impl Entries {
             context: self.contexts[place],
             first: self.firsts[place],
             second: self.seconds[place],
-            guessed: self.guessed[place],
+            guessed: word_mask::has(self.guesses, place),
             speculative: self.speculative[place],
         }
     }
 
-    /// An entry enters at a place.
+    /// An entry enters at a place that isn't guessed.
     #[inline(always)]
     pub(crate) fn write(&mut self, place: usize, entry: Queued)
-        requires { place < 64 }
-        ensures wide { AreWide self.old }
-        ensures entries { self.new ≡ with_entry self.old place entry }
+        requires bound { place < 64 }
+        requires unguessed { has self.old.guesses place ≡ false }
+        ensures { (p : ℕ) → entry_at self.new p ≡ (if p == place then entry else entry_at self.old p) }
     {
         self.stamps[place] = entry.stamp;
         self.contexts[place] = entry.context;
         self.firsts[place] = entry.first;
         self.seconds[place] = entry.second;
-        self.guessed[place] = entry.guessed;
+        self.guesses = word_mask::added(self.guesses, place, entry.guessed);
         self.speculative[place] = entry.speculative;
     }
 

@@ -26,8 +26,6 @@ pub(crate) struct Places {
     pub(crate) supplied: u64,
     /// Those that wait for two registers.
     pub(crate) two: u64,
-    /// Those of conditional branches and JALRs.
-    pub(crate) guesses: u64,
     /// Those of each context.
     pub(crate) contexts: [u64; 8],
     /// What stands at each place.
@@ -96,7 +94,6 @@ impl Places {
             valid: 0,
             supplied: 0,
             two: 0,
-            guesses: 0,
             contexts: [0; 8],
         }
     }
@@ -124,7 +121,6 @@ impl Places {
         self.valid = word_mask::assigned(self.valid, place, true);
         self.supplied = either(self.supplied, supplied_bit(place, reading));
         self.two = either(self.two, two_bit(place, reading));
-        self.guesses = word_mask::added(self.guesses, place, reading.guessed);
         mark(&mut self.contexts, reading.context.index(), place, true);
     }
 
@@ -143,7 +139,6 @@ impl Places {
         self.valid = word_mask::cleared(self.valid, place);
         self.supplied = word_mask::assigned(self.supplied, place, false);
         self.two = word_mask::assigned(self.two, place, false);
-        self.guesses = word_mask::assigned(self.guesses, place, false);
         mark(&mut self.contexts, context.index(), place, false);
     }
 
@@ -241,7 +236,7 @@ impl Places {
         requires { InStep self.now }
         ensures { (word : ℕ) × (word < 2 ^ 64) × (result ≡ count_ones word) × IsMask (λ e. (e.context == context) && e.guessed) self.now.valid self.now.slots word }
     {
-        word_mask::both(self.contexts[context.index()], self.guesses).count_ones() as usize
+        word_mask::both(self.contexts[context.index()], self.slots.guesses()).count_ones() as usize
     }
 
     /// The places that are ready: they wait for nothing and are not held.
@@ -276,7 +271,7 @@ impl Places {
         requires ready { All (λ c. (c.place < 64) × (is_ready (slot self.old.slots c.place) ≡ true)) best.now }
         ensures step { InStep self.new }
         ensures valid { (p : ℕ) → has self.new.valid p ≡ (has self.old.valid p && not (is_at best.now p)) }
-        ensures slots { self.new.slots ≡ self.old.slots }
+        ensures slots { (p : ℕ) → has self.new.valid p ≡ true → slot self.new.slots p ≡ slot self.old.slots p }
         ensures names { names.new.items ≡ map (λ c. name_of (slot self.old.slots c.place)) best.now }
     {
         let mut chosen = 0u64;
@@ -293,12 +288,12 @@ impl Places {
         requires ready { (p : ℕ) → has word p ≡ true → is_ready (slot self.old.slots p) ≡ true }
         ensures step { InStep self.new }
         ensures valid { (p : ℕ) → has self.new.valid p ≡ (has self.old.valid p && not (has word p)) }
-        ensures slots { self.new.slots ≡ self.old.slots }
+        ensures slots { (p : ℕ) → has self.new.valid p ≡ true → slot self.new.slots p ≡ slot self.old.slots p }
     {
         self.valid = word_mask::without(self.valid, word);
         self.supplied = word_mask::without(self.supplied, word);
         self.two = word_mask::without(self.two, word);
-        self.guesses = word_mask::without(self.guesses, word);
         unmark(&mut self.contexts, word);
+        self.slots.unguess(word);
     }
 }

@@ -1,6 +1,6 @@
 //! What stands at each of the 64 places of the queue.
 
-ghost use Rattle.std.specs.Prelude.{◌≡◌, ℕ, ◌<◌, ◌==◌, ◌&&◌, true, false, length, slice_index, slice_set, if◌then◌else◌};
+ghost use Rattle.std.specs.Prelude.{◌≡◌, ℕ, ◌<◌, ◌==◌, ◌&&◌, not, true, false, length, slice_index, slice_set, if◌then◌else◌};
 ghost use Rattle.std.specs.List.{list_any};
 ghost use Rattle.word_mask.specs.Mask.{has};
 ghost use Rattle.issue_queue.specs.Board.{slot, waits_for};
@@ -19,7 +19,7 @@ use rename_file::PhysicalRegister;
 pub(crate) struct Slots {
     /// The places of loads that are held. None of them is free, so that an entry that enters has no bit to clear.
     held: u64,
-    /// What entered at each place; at one that is free, what stood there last.
+    /// What entered at each place; at one that is free, what stood there last, as an entry that is not guessed.
     entries: Entries,
     /// The places that wait for each physical register.
     waiters: [u64; 480],
@@ -71,6 +71,7 @@ impl Slots {
     /// Blank entries, none of them held.
     pub(crate) fn new() -> Slots
         ensures held { result.held ≡ 0 }
+        ensures guesses { result.entries.guesses ≡ 0 }
         ensures waiters { (r : ℕ) → r < 480 → slice_index result.waiters r ≡ 0 }
     {
         Slots {
@@ -96,12 +97,20 @@ impl Slots {
         self.held
     }
 
+    /// The places whose entries are guessed.
+    pub(crate) fn guesses(&self) -> u64
+        ensures { (p : ℕ) → has result p ≡ (slot self.now p).guessed }
+    {
+        self.entries.guesses
+    }
+
     /// An entry enters at a place that no word has.
     #[inline(always)]
     pub(crate) fn put(&mut self, place: usize, reading: &Reading)
         requires bound { place < 64 }
         requires free { (r : ℕ) → has (slice_index self.old.waiters r) place ≡ false }
         requires let_go { has self.old.held place ≡ false }
+        requires unguessed { has self.old.entries.guesses place ≡ false }
         requires alike { AreAlike reading.now }
         ensures slots { (p : ℕ) → slot self.new p ≡ (if p == place then entered reading.now else slot self.old p) }
         ensures waiters { (r p : ℕ) → has (slice_index self.new.waiters r) p ≡ (if (p == place) && waits_for r (entered reading.now) then true else has (slice_index self.old.waiters r) p) }
@@ -110,14 +119,24 @@ impl Slots {
         add_sources(&mut self.waiters, reading, place);
     }
 
-    /// The bit of a place leaves the word of each register that its entry reads.
+    /// The bit of a place leaves the word of each register that its entry reads, and that of guessed entries.
     pub(crate) fn forget(&mut self, place: usize)
         requires { place < 64 }
         ensures slots { (p : ℕ) → (p == place) ≡ false → slot self.new p ≡ slot self.old p }
+        ensures unguessed { (slot self.new place).guessed ≡ false }
         ensures waiters { (r p : ℕ) → has (slice_index self.new.waiters r) p ≡ (if (p == place) && list_any (λ w. w == r) (reads_of (entry_at self.old.entries place)) then false else has (slice_index self.old.waiters r) p) }
     {
         let entry = self.entries.read(place);
         clear_sources(&mut self.waiters, &entry, place);
+        self.entries.guesses = word_mask::assigned(self.entries.guesses, place, false);
+    }
+
+    /// The bits of a word leave that of guessed entries.
+    pub(crate) fn unguess(&mut self, word: u64)
+        ensures slots { (p : ℕ) → slot self.new p ≡ record (slot self.old p) { guessed = (slot self.old p).guessed && not (has word p) } }
+        ensures waiters { self.new.waiters ≡ self.old.waiters }
+    {
+        self.entries.guesses = word_mask::without(self.entries.guesses, word);
     }
 
     /// No entry waits for a register any more. Gives the places of those that did.

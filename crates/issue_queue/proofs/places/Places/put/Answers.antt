@@ -11,6 +11,9 @@ put-requires-clause-free c = free_of_words c.args.self.now c.args.place (omega a
 pub put-requires-clause-let_go : goal.put-requires-clause-let_go
 put-requires-clause-let_go c = c.requires.step.let_go c.args.place c.requires.free
 
+pub put-requires-clause-unguessed : goal.put-requires-clause-unguessed
+put-requires-clause-unguessed c = c.requires.step.unguessed c.args.place c.requires.free
+
 pub returns-clause-step : goal.returns-clause-step
 returns-clause-step c =
     let b = c.args.self.now in
@@ -18,4 +21,4 @@ returns-clause-step c =
     λ p. c.either-self.ensures p ∙ ap (λ x. has b.supplied p || x) (c.supplied_bit.ensures p) in
     let two : (p : ℕ) → has c.either-self-2.result p ≡ (has b.two p || ((p == c.args.place) && waits_for_two (entered c.args.reading.now))) =
     λ p. c.either-self-2.ensures p ∙ ap (λ x. has b.two p || x) (c.two_bit.ensures p) in
-    put_in_step b _ c.args.place (entered c.args.reading.now) c.requires.bound c.requires.free (omega arith) c.assigned-self.ensures c.put.ensures.slots supplied two c.added-self.ensures (rw c.index.ensures.value at c.mark.ensures.words) c.put.ensures.waiters c.requires.step
+    put_in_step b _ c.args.place (entered c.args.reading.now) c.requires.bound c.requires.free (omega arith) c.assigned-self.ensures c.put.ensures.slots supplied two (rw c.index.ensures.value at c.mark.ensures.words) c.put.ensures.waiters c.requires.step
