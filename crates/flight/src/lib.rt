@@ -8,4 +8,3 @@ mod marks;
 
 pub use finished::Finished;
 pub use flight::Flight;
-pub use marks::Marks;

@@ -14,22 +14,22 @@ use core_view::{Entry, Stage};
 
 /// A bit a renamed entry, bit 0 for the oldest.
 #[derive(Clone, Copy)]
-pub struct Marks {
+pub(crate) struct Marks {
     /// It waits for issue.
-    pub waiting: u64,
+    pub(crate) waiting: u64,
     /// It is a load that waits for issue.
-    pub waiting_loads: u64,
+    pub(crate) waiting_loads: u64,
     /// It is guessed and has not completed.
-    pub open_guesses: u64,
+    pub(crate) open_guesses: u64,
     /// It is a load that was issued and missed, done or not.
-    pub missed_loads: u64,
+    pub(crate) missed_loads: u64,
     /// It is done.
-    pub done: u64,
+    pub(crate) done: u64,
 }
 
 impl Marks {
     /// Of no entry.
-    pub fn new() -> Marks
+    pub(crate) fn new() -> Marks
         ensures { result ≡ marks_of [] }
     {
         Marks {
@@ -43,7 +43,7 @@ impl Marks {
 
     /// With an entry more, the youngest.
     #[inline]
-    pub fn push(&mut self, place: usize, entry: &Entry)
+    pub(crate) fn push(&mut self, place: usize, entry: &Entry)
         requires { place < 64 }
         ensures { (es : List Entry) → self.old ≡ marks_of es → place ≡ length es → self.new ≡ marks_of (es ++ entry.now ∷ []) }
     {
@@ -56,7 +56,7 @@ impl Marks {
 
     /// With an entry more, the youngest, which waits for issue.
     #[inline]
-    pub fn push_waiting(&mut self, place: usize, entry: &Entry)
+    pub(crate) fn push_waiting(&mut self, place: usize, entry: &Entry)
         requires { place < 64 }
         ensures { (es : List Entry) → self.old ≡ marks_of es → place ≡ length es → entry.now.stage ≡ Queued → self.new ≡ marks_of (es ++ entry.now ∷ []) }
     {
@@ -70,7 +70,7 @@ impl Marks {
 
     /// With an entry at a place that has issued, where it waited.
     #[inline]
-    pub fn issue(&mut self, place: usize, entry: &Entry)
+    pub(crate) fn issue(&mut self, place: usize, entry: &Entry)
         requires { place < 64 }
         ensures { (es : List Entry) (x : Execution) → self.old ≡ marks_of es → (entry_in es place).stage ≡ Queued → (entry_in es place).operation ≡ entry.now.operation → entry.now.stage ≡ Issued x →
             place < length es → length es ≤ 64 → self.new ≡ marks_of (slice_set es place entry.now) }
@@ -82,7 +82,7 @@ impl Marks {
 
     /// With another entry at a place, which is no load and has issued, where it waited.
     #[inline]
-    pub fn issue_other(&mut self, place: usize)
+    pub(crate) fn issue_other(&mut self, place: usize)
         requires { place < 64 }
         ensures { (es : List Entry) (e : Entry) (x : Execution) → self.old ≡ marks_of es → (entry_in es place).stage ≡ Queued → (entry_in es place).operation ≡ e.operation → is_load e.operation ≡ false → e.stage ≡ Issued x →
             place < length es → length es ≤ 64 → self.new ≡ marks_of (slice_set es place e) }
@@ -93,7 +93,7 @@ impl Marks {
 
     /// With another entry at a place, which was issued and is done now: it waits neither before nor after.
     #[inline]
-    pub fn finish(&mut self, place: usize)
+    pub(crate) fn finish(&mut self, place: usize)
         requires { place < 64 }
         ensures { (es : List Entry) (e : Entry) (x : Execution) → self.old ≡ marks_of es → place < length es → length es ≤ 64 → (entry_in es place).stage ≡ Issued x → (entry_in es place).operation ≡ e.operation → e.stage ≡ Done x →
             self.new ≡ marks_of (slice_set es place e) }
@@ -104,7 +104,7 @@ impl Marks {
 
     /// Without the oldest entry.
     #[inline]
-    pub fn retire(&mut self)
+    pub(crate) fn retire(&mut self)
         ensures { (es : List Entry) → self.old ≡ marks_of es → self.new ≡ marks_of (drop 1 es) }
     {
         self.waiting = without_first(self.waiting);
@@ -116,7 +116,7 @@ impl Marks {
 
     /// Of the oldest entries.
     #[inline]
-    pub fn keep(&mut self, count: usize)
+    pub(crate) fn keep(&mut self, count: usize)
         ensures { (es : List Entry) → self.old ≡ marks_of es → length es ≤ 64 → self.new ≡ marks_of (take count es) }
     {
         self.waiting = first(self.waiting, count);
