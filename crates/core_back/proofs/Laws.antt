@@ -3,3 +3,5 @@
 pub use Rattle.core_context.proofs.Laws.{same_place}
 -- the contexts in order
 pub use Rattle.core_back.proofs.ContextByContext.{nth_context}
+-- stamps that are all below a number are below it place by place
+pub use Rattle.core_back.proofs.Renamable.{stamped_below}

@@ -1,11 +1,11 @@
 //! Eight contexts, and the data flow that they share.
 
-ghost use Rattle.std.specs.Prelude.{◌≡◌, ℕ, ◌+◌, ◌-◌, ◌<◌, ◌≤◌, ◌^◌, ◌&&◌, ◌==◌, false, not, length, count_by, slice_get, slice_index, slice_index_or, [], IfOk, IfSome, IsSome, MatchOption, Some, None, true, is_some, IsTrue, ◌↔◌};
+ghost use Rattle.std.specs.Prelude.{◌≡◌, ℕ, ◌+◌, ◌-◌, ◌<◌, ◌≤◌, ◌^◌, ◌&&◌, ◌==◌, false, not, length, count_by, slice_get, slice_index, slice_index_or, [], IfOk, IfSome, IsSome, MatchOption, Some, None, true, is_some, option_map, IsTrue, ◌↔◌};
 ghost use Rattle.core_view.specs.declared.outcome.Outcome.TheVariants.{Stops};
 ghost use Rattle.core_view.specs.Events.{retire_event, stop_event, complete_event};
 ghost use Rattle.core_view.specs.Operations.{is_guessed};
 ghost use Rattle.core_view.specs.View.{entry_at, IsLive, IsSoundView};
-ghost use Rattle.lawful_cycle.specs.Rename.{CanRename, of_all};
+ghost use Rattle.lawful_cycle.specs.Rename.{CanRename, of_all, oldest_fetched};
 ghost use Rattle.core_view.specs.Flight.{is_queued, is_missed_load};
 ghost use Rattle.lawful_cycle.specs.Fetch.{is_fetched, is_eligible, oldest_place};
 ghost use Rattle.origin_set.specs.Start.{start};
@@ -16,7 +16,7 @@ ghost use Rattle.core_context.specs.Issuable.{HoldsNone};
 ghost use Rattle.core_back.specs.Selected.{IsChosen};
 ghost use Rattle.core_back.specs.Issued.{IsIssued};
 ghost use Rattle.core_back.specs.Fetched.{IsRenamed, IsRenamedRun, IsPickTurn};
-ghost use Rattle.core_back.specs.Renamable.{IsPastFront, IsPastFrontStamp, front_stops};
+ghost use Rattle.core_back.specs.Renamable.{front_stops};
 ghost use Rattle.core_back.specs.First.{IsFirst, IsTarget, AreMarksAt};
 ghost use Rattle.checkpoint.specs.Aligned.{IsAligned};
 ghost use Rattle.join_law.specs.Eight.{place_of};
@@ -359,31 +359,29 @@ impl<A: Allocator> Machine<A> {
 
     /// Whether a context has an entry that is fetched and not yet renamed: without one, none can be.
     pub fn has_fetched(&self, context: Ctx) -> bool
-        ensures { result ≡ false → (e : Entry) → ¬ (IsPastFront self.now.view context e) }
+        ensures { result ≡ is_some (oldest_fetched (context_at self.now context)) }
     {
         let track = &self.tracks[context.index()];
         track.has_fetched()
     }
 
     /// The stamp of the entry that is fetched next.
-    fn next_stamp(&self) -> u64
+    pub fn next_stamp(&self) -> u64
         ensures value { result ≡ self.now.view.stamp }
         ensures bound { result < 2 ^ 64 }
     {
         self.stamp
     }
 
-    /// The stamp of the oldest fetched entry of a context, if it was fetched as many cycles ago as the front delay says:
-    /// no other entry of the context can be renamed.
-    pub fn front(&self, context: Ctx) -> Option<u64>
-        ensures front { IfSome result (IsPastFrontStamp self.now.view context) }
+    /// The stamp of the oldest fetched entry of a context, if it has one: no other entry of it can be renamed.
+    pub fn front_stamp(&self, context: Ctx) -> Option<u64>
+        ensures value { result ≡ option_map (λ (e : Entry). e.stamp) (oldest_fetched (context_at self.now context)) }
         ensures bound { IfSome result (λ stamp. stamp + 1 < 2 ^ 64) }
-        ensures none { result ≡ None → (e : Entry) → ¬ (IsPastFront self.now.view context e) }
     {
         // The stamps of the entries are below the next one.
         let _next = self.next_stamp();
         let track = &self.tracks[context.index()];
-        events::front(track, self.cycle, &self.profile)
+        events::front_stamp(track)
     }
 
     /// Whether the oldest fetched entry of a context, if it has one, stops at fetch.

@@ -8,12 +8,6 @@ use Rattle.core_view.specs.View.{entry_at}
 use Rattle.data_flow.specs.Flow.{Flow, taken}
 use Rattle.core_context.specs.Track.{Track}
 
--- the oldest fetched entry has this stamp, and was fetched at least the front delay ago
-pub record IsPastFront (t : Track) (p : Profile) (cycle stamp : ℕ) : Type 0 where
-  pub some : t.renamed < length t.context.flight
-  pub stamp_is : (entry_at t.context t.renamed).stamp ≡ stamp
-  pub age : (entry_at t.context t.renamed).fetched + p.front_delay ≤ cycle
-
 -- of the queues, each place that an operation needs is free
 pub record HasPlaces (f : Flow) (t : Track) (o : Operation) : Type 0 where
   pub place : stops_at_fetch o ≡ false → length f.waiters < f.places

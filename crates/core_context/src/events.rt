@@ -1,6 +1,6 @@
 //! The events of a cycle, each on one context and the data flow.
 
-ghost use Rattle.std.specs.Prelude.{◌≡◌, ◌≢◌, ◌↔◌, ℕ, ◌+◌, ◌<◌, ◌≤◌, ◌^◌, ◌==◌, ◌&&◌, length, take, drop, IsSome, IsTrue, IfSome, Some, None, All, Bool, true, false, map, slice_get};
+ghost use Rattle.std.specs.Prelude.{◌≡◌, ◌≢◌, ◌↔◌, ℕ, ◌+◌, ◌<◌, ◌≤◌, ◌^◌, ◌==◌, ◌&&◌, length, take, drop, IsSome, IsTrue, IfSome, Some, None, All, Bool, true, false, map, slice_get, option_map};
 ghost use Rattle.std.specs.List.{list_any};
 ghost use Rattle.std.specs.Option.{option_map_or};
 ghost use Rattle.core_view.specs.Outcomes.{image_of, IsSized};
@@ -18,7 +18,7 @@ ghost use Rattle.core_context.specs.Cores.{operands_of, AllFetched};
 ghost use Rattle.core_context.specs.Heads.{IsGoing, first_done, step_on};
 ghost use Rattle.flight.specs.Flights.{execution_of, is_due, IsIssued};
 ghost use Rattle.core_context.specs.Left.{IsIdleCore, IsEventAt};
-ghost use Rattle.core_context.specs.Renamable.{HasPlaces, IsPastFront, IsRenamable};
+ghost use Rattle.core_context.specs.Renamable.{HasPlaces, IsRenamable};
 ghost use Rattle.core_context.specs.Steps.{retired_flow, settled_flow, completed_flow, cut_by, renamed_flow, IsRemarked, AreTold};
 
 use crate::issuing::{perform, perform_apart};
@@ -201,16 +201,13 @@ fn finish_entry<A: Allocator>(
     }
 }
 
-/// The stamp of the oldest fetched entry, if it was fetched as many cycles ago as the front delay says. It isn't the
-/// greatest number.
-pub fn front<A: Allocator>(track: &Track<A>, cycle: u64, profile: &Profile) -> Option<u64>
-    requires below { track.now.renamed < length track.now.context.flight → (entry_at track.now.context track.now.renamed).stamp + 1 < 2 ^ 64 }
-    ensures can { IfSome result (IsPastFront track.now profile.now cycle) }
-    ensures none { result ≡ None → (stamp : ℕ) → ¬ (IsPastFront track.now profile.now cycle stamp) }
+/// The stamp of the oldest fetched entry, if there is one.
+#[inline(always)]
+pub fn front_stamp<A: Allocator>(track: &Track<A>) -> Option<u64>
+    ensures { result ≡ option_map (λ (e : Entry). e.stamp) (slice_get track.now.context.flight track.now.renamed) }
 {
     let entry = track.entry(track.renamed_count())?;
-    let key = front_key(entry, cycle, profile);
-    if key < u64::MAX { Some(key) } else { None }
+    Some(entry.stamp)
 }
 
 /// Whether the oldest fetched entry, if there is one, stops at fetch.
@@ -222,17 +219,6 @@ pub fn front_stops<A: Allocator>(track: &Track<A>) -> bool
         Some(entry) => entry.operation.stops_at_fetch(),
         None => false,
     }
-}
-
-/// The stamp of an entry that was fetched as many cycles ago as the front delay says, and of another the greatest number.
-// It takes no jump, which would be guessed wrongly too often: who asks puts the greatest number for none, too.
-#[inline(always)]
-fn front_key(entry: &Entry, cycle: u64, profile: &Profile) -> u64
-    ensures past { entry.now.fetched + profile.now.front_delay ≤ cycle → result ≡ entry.now.stamp }
-    ensures early { cycle < entry.now.fetched + profile.now.front_delay → result + 1 ≡ 2 ^ 64 }
-{
-    let early = u64::from(!is_past_front(entry, cycle, profile));
-    entry.stamp.max(early * u64::MAX)
 }
 
 /// The stamp of the oldest fetched entry, if it is no greater than a limit and the entry can be renamed in a cycle: it was

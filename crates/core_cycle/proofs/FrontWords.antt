@@ -42,15 +42,3 @@ module _ (left less place : ℕ) (bits : (p : ℕ) → has less p ≡ (has left 
   -- a bit less
   pub few_cleared : ((c : ℕ) → has left c ≡ true → c < 8) → (c : ℕ) → has less c ≡ true → c < 8
   few_cleared few c is = few c (and_left (has left c) (not (eqb c place)) (sym (bits c) ∙ is))
-
-  pub and_true : (a : Bool) → a ≡ (a && not false)
-  and_true true = refl
-  and_true false = refl
-
-  -- once its context is asked, the fronts of all that are left out are known
-  pub fronts_cleared : (v : View) (fronts : List (Option ℕ)) (front : Option ℕ) → place < length fronts → ((c : ℕ) → has left c ≡ false → IsFront v c (get_or fronts c None)) → IsFront v place front
-      → (c : ℕ) → has less c ≡ false → IsFront v c (get_or (set fronts place front) c None)
-  fronts_cleared v fronts front within known here c no_bit = elim (cases_eq c place) [
-    | inl same ↦ λ e can. ap (λ k. get_or (set fronts place front) k None) same ∙ get_or-set_same fronts place front None within ∙ here e (subst (λ k. CanRename v k e) same can)
-    | inr ne ↦ λ e can. get_or-set_other fronts place c front None ne ∙ known c (and_true (has left c) ∙ ap (λ b. has left c && not b) (sym (ne_eqb c place ne)) ∙ sym (bits c) ∙ no_bit) e can
-  ]

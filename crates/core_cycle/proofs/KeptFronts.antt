@@ -1,7 +1,7 @@
 -- What is known of the contexts' fronts as they are asked, and after an entry is renamed.
 use Rattle.std.proofs.Common.{◌≡◌, ◌≢◌, ℕ, ◌+◌, ◌<◌, ◌≤◌, Bool, true, false, List, length, get_or, Option, Some, None, refl, sym, ap, ◌∙◌, subst, arith, inl, inr}
-use Rattle.std.specs.Prelude.{set, cond, map, slice_index, unwrap_or, ◌^◌, ◌&&◌, not, ◌==◌, count_by, IfSome}
-use Rattle.std.proofs.lemmas.Bool.{cases_lt, cases_eq, lt-ltb, le-ltb}
+use Rattle.std.specs.Prelude.{set, cond, map, slice_index, unwrap_or, ◌^◌, ◌&&◌, not, ◌==◌, count_by, IfSome, is_some, option_map}
+use Rattle.std.proofs.lemmas.Bool.{cases_lt, cases_eq, lt-ltb, le-ltb, true≢false}
 use Rattle.std.proofs.lemmas.List.{length-map, get_or-map, get_or-set_same, get_or-set_other, get_or_past}
 use Rattle.std.proofs.lemmas.List.Sums.{sum_by-set, sum_by-le-sum_by}
 use Rattle.core_profile.specs.declared.profile.Profile.{Profile}
@@ -15,26 +15,24 @@ use Rattle.core_view.specs.Flight.{is_queued}
 use Rattle.lawful_cycle.specs.Rename.{CanRename, of_all, renamed_by, has_register, oldest_fetched}
 use Rattle.core_back.specs.Machine.{Machine, context_at, no_context}
 use Rattle.core_back.specs.Fetched.{IsRenamed}
-use Rattle.core_back.specs.Renamable.{IsPastFront, IsPastFrontStamp}
 use Rattle.core_cycle.specs.Fronts.{IsFront, IsLeast, IsOldest, front_of}
 
 -- ---- one front
 
--- an entry that can be renamed is past the front delay
-pub is_past_front : (v : View) (c : ℕ) (e : Entry) → CanRename v c e → IsPastFront v c e
-is_past_front v c e can = record { oldest = can.oldest; age = can.age }
-
--- a context has one entry that is past the front delay and may be renamed next
-pub one_entry : (v : View) (c : ℕ) (e f : Entry) → IsPastFront v c e → IsPastFront v c f → e ≡ f
+-- a context has one entry that may be renamed next
+pub one_entry : (v : View) (c : ℕ) (e f : Entry) → CanRename v c e → CanRename v c f → e ≡ f
 one_entry v c e f a b = of_some (sym a.oldest ∙ b.oldest)
   where
     of_some : Some e ≡ Some f → e ≡ f
     of_some h = cc
 
--- what is returned for a context, when it is asked, is its front
-pub front_asked : (v : View) (c : ℕ) (front : Option ℕ) → IfSome front (IsPastFrontStamp v c) → (front ≡ None → (e : Entry) → ¬ IsPastFront v c e) → IsFront v c front
-front_asked v c None past none = λ e there. absurd (none refl e (is_past_front v c e there))
-front_asked v c (Some stamp) past none = λ e there. ap Some (sym past.stamp_is ∙ ap (λ (f : Entry). f.stamp) (one_entry v c past.entry e past.front (is_past_front v c e there)))
+-- a front that is asked is the oldest fetched entry's stamp
+pub front_asked : (x : Context) (front : Option ℕ) (e : Entry) → front ≡ option_map (λ (f : Entry). f.stamp) (oldest_fetched x) → oldest_fetched x ≡ Some e → front ≡ Some e.stamp
+front_asked x front e is oldest = is ∙ ap (λ (o : Option Entry). option_map (λ (f : Entry). f.stamp) o) oldest
+
+-- a context that is asked and has no fetched entry has none to rename
+pub none_asked : (x : Context) (e : Entry) (answer : Bool) → answer ≡ is_some (oldest_fetched x) → answer ≡ false → oldest_fetched x ≡ Some e → ⊥
+none_asked x e answer is unset oldest = true≢false (sym (ap (λ (o : Option Entry). is_some o) oldest) ∙ sym is ∙ unset)
 
 -- a front is of a context that is there
 pub front_within : (fronts : List (Option ℕ)) (c stamp : ℕ) → get_or fronts c None ≡ Some stamp → c < length fronts
@@ -42,14 +40,6 @@ front_within fronts c stamp front = elim (cases_lt c (length fronts)) [ inl lt �
   where
     no_some : None ≡ Some stamp → ⊥
     no_some is = cc
-
--- the fronts of one context more
-pub one_more_front : (v : View) (fronts : List (Option ℕ)) (c : ℕ) (front : Option ℕ) → ((d : ℕ) → d < c → IsFront v d (get_or fronts d None)) → c < length fronts → IsFront v c front
-    → (d : ℕ) → d < c + 1 → IsFront v d (get_or (set fronts c front) d None)
-one_more_front v fronts c front below within here d lt = λ e can. elim (cases_eq d c) [
-  | inl is ↦ ap (λ k. get_or (set fronts c front) k None) is ∙ get_or-set_same fronts c front None within ∙ here e (subst (λ k. CanRename v k e) is can)
-  | inr ne ↦ get_or-set_other fronts c d front None ne ∙ below d (omega (arith, lt, ne)) e can
-]
 
 -- ---- what a renaming leaves of the other contexts
 
@@ -68,7 +58,7 @@ module _ (m n : Machine) (c stamp : ℕ) (one : IsRenamed m n c stamp) where
     | inr ge ↦ let none = ap (λ (x : Context). length x.flight) (get_or_past m.view.contexts c no_context ge) in let within = one.within in absurd (omega (arith, none, within))
   ]
 
-  other : (d : ℕ) → d ≢ c → context_in n.view d ≡ context_in m.view d
+  pub other : (d : ℕ) → d ≢ c → context_in n.view d ≡ context_in m.view d
   other d ne = ap (λ (w : Machine). context_in w.view d) one.after ∙ get_or-set_other m.view.contexts c d (rename_event m.view.cycle (context_at m c) one.place) no_context ne
 
   same : (d : ℕ) → d ≡ c → (context_in n.view d).flight ≡ set es one.place (with_stage (entry_at (context_at m c) one.place) (renamed_stage m.view.cycle (entry_at (context_at m c) one.place).operation))
@@ -114,7 +104,7 @@ module _ (m n : Machine) (c stamp : ℕ) (one : IsRenamed m n c stamp) where
 
 -- ---- numbers as fronts
 
-front_some : (n : ℕ) → n < 18446744073709551615 → front_of n ≡ Some n
+pub front_some : (n : ℕ) → n < 18446744073709551615 → front_of n ≡ Some n
 front_some n lt = rw (lt-ltb n 18446744073709551615 lt) refl
 
 pub front_none : (n : ℕ) → 18446744073709551615 ≤ n → front_of n ≡ None
@@ -169,6 +159,6 @@ module _ (ns : List ℕ) (fronts : List (Option ℕ)) (p : ℕ) (eight : length 
   pub some_oldest : p < 8 → slice_index ns p < 18446744073709551615 → IsLeast fronts p
   some_oldest lt stamp = record { stamp = slice_index ns p; front = front_at ns fronts eight shows p lt ∙ front_some (slice_index ns p) stamp; least = least_front }
 
-  -- where it is none, there is no front
-  pub none_oldest : 18446744073709551615 ≤ slice_index ns p → IsOldest fronts None
-  none_oldest none d ld = front_at ns fronts eight shows d ld ∙ front_none (slice_index ns d) (let le = least d ld in omega (arith, none, le))
+  -- where it is no less than a limit, no front is
+  pub none_oldest : (limit : ℕ) → limit ≤ slice_index ns p → IsOldest limit fronts None
+  none_oldest limit none d stamp ld is = let le = least_front d stamp ld is in omega (arith, none, le)

@@ -13,7 +13,7 @@ use Rattle.core_back.specs.Machine.{Machine, context_at}
 use Rattle.core_back.specs.Fetched.{ids_of, IsRenamed, AreRenamed, IsRenamedRun}
 use Rattle.core_cycle.specs.Fronts.{IsFront, AreFronts, IsLeast}
 use Rattle.core_cycle.specs.Runs.{AreBehind, IsRun}
-use Rattle.core_cycle.proofs.KeptFronts.{is_past_front, one_entry, front_within, could_rename}
+use Rattle.core_cycle.proofs.KeptFronts.{one_entry, front_within, other, could_rename}
 use Rattle.core_cycle.proofs.Renamings.{renamed_next, each_next}
 
 -- ---- one entry of a run
@@ -26,7 +26,7 @@ module _ (m n : Machine) (c stamp limit : ℕ) (one : IsRenamed m n c stamp) (be
     can = one.can;
     stamp = one.stamp_is;
     least = λ d f can. elim (cases_eq d c) [
-      | inl is ↦ let same = ap (λ (e : Entry). e.stamp) (one_entry m.view c (entry_at (context_at m c) one.place) f (is_past_front m.view c (entry_at (context_at m c) one.place) one.can) (is_past_front m.view c f (subst (λ k. CanRename m.view k f) is can))) in
+      | inl is ↦ let same = ap (λ (e : Entry). e.stamp) (one_entry m.view c (entry_at (context_at m c) one.place) f one.can (subst (λ k. CanRename m.view k f) is can)) in
           omega (arith, same)
       | inr ne ↦ let le = behind d f ne can in let here = one.stamp_is in omega (arith, le, here, within)
     ];
@@ -43,6 +43,7 @@ module _ (m n : Machine) (c stamp limit : ℕ) (one : IsRenamed m n c stamp) (be
       let long = length_push ids id in
       let more = h.more in
       record {
+        apart = λ d ne. other m n c stamp one d ne ∙ h.apart d ne;
         others = λ d e ne can. h.others d e ne (could_rename m n c stamp one d e ne can);
         way = λ start grown way.
             let old = h.way start grown way in
@@ -57,7 +58,7 @@ module _ (m n : Machine) (c stamp limit : ℕ) (one : IsRenamed m n c stamp) (be
       }
 
 run_none : (c width : ℕ) (v : View) (ids : List EntryId) → length ids ≤ width → IsRun c width v v ids ids
-run_none c width v ids most = record { others = λ d e ne can. can; way = λ start grown way. way; more = omega arith; most = most; same = λ is. refl }
+run_none c width v ids most = record { apart = λ d ne. refl; others = λ d e ne can. can; way = λ start grown way. way; more = omega arith; most = most; same = λ is. refl }
 
 -- a run goes on by as many entries as were renamed one by one
 run_on : (c limit width : ℕ) (v : View) (m n : Machine) (before ids : List EntryId) (stamps : List ℕ) → AreBehind m.view c limit → AreRenamed c limit m stamps n → length (ids ++ ids_of c stamps) ≤ width

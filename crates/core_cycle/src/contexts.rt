@@ -8,6 +8,8 @@ ghost use Rattle.lawful_cycle.specs.Timing.{AreTimely};
 ghost use Rattle.core_back.specs.Machine.{context_at, in_flight};
 ghost use Rattle.core_cycle.specs.Notes.{note_with};
 
+use crate::fronts::Fronts;
+use crate::history::StampHistory;
 use crate::{fetching, renaming};
 use branch_predict::Guess;
 use core_back::{Machine, complete, issue, retire};
@@ -31,6 +33,9 @@ pub(crate) struct EntryCounts {
 #[derive(Drop)]
 pub(crate) struct Contexts<A: Allocator = Global> {
     machine: Machine<A>,
+    // The oldest fetched entry of each context.
+    fronts: Fronts,
+    history: StampHistory,
 }
 
 impl<A: Allocator> Model for Contexts<A> {
@@ -39,6 +44,8 @@ impl<A: Allocator> Model for Contexts<A> {
     ghost use Rattle.core_view.specs.ViewCode.{coded_view};
     ghost use Rattle.core_back.specs.Machine.{Machine as Shown};
     ghost use Rattle.lawful_cycle.specs.Timing.{AreTimely};
+    ghost use Rattle.core_cycle.specs.Fronts.{AreKept};
+    ghost use Rattle.core_cycle.specs.History.{IsHistory};
 
     ghost Value = { Shown };
 
@@ -46,7 +53,7 @@ impl<A: Allocator> Model for Contexts<A> {
 
     ghost view = { λ c. c.machine };
 
-    ghost invariant = { λ c. (c.machine.names ≡ []) × (c.machine.fetch_room ≡ 8) × AreTimely c.machine.view.cycle c.machine.view };
+    ghost invariant = { λ c. (c.machine.names ≡ []) × (c.machine.fetch_room ≡ 8) × AreTimely c.machine.view.cycle c.machine.view × AreKept c.machine.view c.fronts × IsHistory c.history.begun c.machine.view };
 }
 
 impl<A: Allocator> Contexts<A> {
@@ -56,9 +63,14 @@ impl<A: Allocator> Contexts<A> {
         requires idle { machine.names ≡ [] }
         requires room { machine.fetch_room ≡ 8 }
         requires timely { AreTimely machine.view.cycle machine.view }
+        requires empty { (c : ℕ) → c < 8 → (context_at machine c).flight ≡ [] }
         ensures { result ≡ machine }
     {
-        Contexts { machine }
+        Contexts {
+            machine,
+            fronts: Fronts::none(),
+            history: StampHistory::new(),
+        }
     }
 
     /// The machine. Each entry was fetched by the cycle that comes, and what was issued is due in it or later.
@@ -117,10 +129,15 @@ impl<A: Allocator> Contexts<A> {
     {
         let dropped = retire(&mut self.machine, guess, retired);
         let completion = complete(&mut self.machine);
+        // `cycle` ensures that each context is live, so its stamps grow.
+        let cycle = self.machine.cycle();
         issue(&mut self.machine, order, delay, issued);
-        renaming::rename(&mut self.machine, renamed);
-        fetching::fetch(&mut self.machine, pick, guess, fetched);
+        let past = self.history.past_front(cycle, &self.machine.profile());
+        renaming::rename(&mut self.machine, &mut self.fronts, past, renamed);
+        fetching::fetch(&mut self.machine, &mut self.fronts, pick, guess, fetched);
         self.machine.tick();
+        self.history
+            .begin(self.machine.cycle(), self.machine.next_stamp());
         // `cycle` ensures that each context is live.
         let _live = self.machine.cycle();
         EntryCounts {

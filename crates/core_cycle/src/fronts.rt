@@ -1,10 +1,10 @@
-//! Which contexts may have an entry to rename next, and which of them has the oldest.
+//! The oldest fetched entry of each context, and which context has the oldest of all.
 
-ghost use Rattle.std.specs.Prelude.{true, false, ◌≡◌, ℕ, ◌+◌, ◌<◌, ◌≤◌, ◌^◌, [], None, Some, length, replicate, IfSome, get_or, slice_index, slice_set};
+ghost use Rattle.std.specs.Prelude.{true, false, ◌≡◌, ℕ, ◌+◌, ◌<◌, ◌≤◌, ◌^◌, None, Some, replicate, IfSome, get_or, slice_index, slice_set};
 ghost use Rattle.word_mask.specs.Mask.{has};
 ghost use Rattle.core_view.specs.declared.entry.Entry.{Entry};
 ghost use Rattle.lawful_cycle.specs.Rename.{CanRename};
-ghost use Rattle.core_cycle.specs.Fronts.{AreFronts, IsLeast, IsOldest, IsPlaced, NoneStops};
+ghost use Rattle.core_cycle.specs.Fronts.{IsLeast, IsOldest, IsPlaced, NoneStops, front_of};
 
 use core_back::Machine;
 use join_law::Ctx;
@@ -12,8 +12,8 @@ use std::alloc::Allocator;
 use std::marker::Model;
 use word_mask::{added, cleared, lowest};
 
-/// The stamps of the contexts' oldest fetched entries, where these are past the front delay: no others can be renamed.
-/// The greatest number, which is no entry's stamp, stands for none.
+/// The stamps of the contexts' oldest fetched entries: no others can be renamed. The greatest number, which is no entry's
+/// stamp, stands for none.
 #[derive(Drop)]
 pub(crate) struct Fronts {
     stamps: [u64; 8],
@@ -38,21 +38,13 @@ impl Fronts {
         }
     }
 
-    /// The fronts of a machine, where there were none.
-    // They are put in place: a value that is returned would be copied.
+    /// The same fronts once more.
     #[inline(always)]
-    pub(crate) fn find<A: Allocator>(&mut self, machine: &Machine<A>)
-        requires none { self.old ≡ replicate 8 None }
-        requires idle { machine.now.names ≡ [] }
-        ensures fronts { AreFronts machine.now.view self.new }
-        ensures eight { length self.new ≡ 8 }
+    pub(crate) fn again(&self) -> Fronts
+        ensures { result ≡ self.now }
     {
-        let mut left = with_fetched(machine);
-        while left != 0 {
-            let place = lowest(left);
-            left = cleared(left, place);
-            let context = context_of(place);
-            self.set(context, machine.front(context));
+        Fronts {
+            stamps: self.stamps,
         }
     }
 
@@ -62,6 +54,17 @@ impl Fronts {
         ensures { self.new ≡ slice_set self.old context front }
     {
         self.stamps[context.index()] = front.unwrap_or(u64::MAX);
+    }
+
+    /// Where nothing of a context is fetched, its front is the stamp that is given out next.
+    // It takes no jump, which would be guessed wrongly too often.
+    #[inline(always)]
+    pub(crate) fn expect(&mut self, context: Ctx, has_fetched: bool, stamp: u64)
+        ensures kept { has_fetched ≡ true → self.new ≡ self.old }
+        ensures next { has_fetched ≡ false → self.new ≡ slice_set self.old context (front_of stamp) }
+    {
+        let front = self.stamps[context.index()];
+        self.stamps[context.index()] = if has_fetched { front } else { stamp };
     }
 
     /// Takes a context's front away. Returns a stamp that the other fronts are no less than, and a front that was the
@@ -76,12 +79,12 @@ impl Fronts {
         left.number
     }
 
-    /// The context of the oldest front.
-    pub(crate) fn oldest(&self) -> Option<Ctx>
-        ensures { IsOldest self.now result }
+    /// The context of the oldest front, if its stamp is below a limit.
+    pub(crate) fn oldest(&self, limit: u64) -> Option<Ctx>
+        ensures { IsOldest limit self.now result }
     {
         let oldest = least(&self.stamps);
-        if oldest.number < u64::MAX {
+        if oldest.number < limit {
             return Some(context_of(oldest.place));
         }
         None

@@ -7,3 +7,7 @@ pub use Rattle.lawful_cycle.proofs.SameViews.{same_views, renamed_in, renamed_no
 pub use Rattle.lawful_cycle.proofs.Chains.{run_next}
 -- a lawful cycle leaves nothing issued that was due before the next one
 pub use Rattle.lawful_cycle.proofs.Timing.{cycle_timely}
+-- each part keeps what holds of each entry by its stamp and the cycle in which it was fetched
+pub use Rattle.lawful_cycle.proofs.KeptEntries.{retire_keeps, complete_keeps, issue_keeps, rename_keeps, fetch_keeps, holds_of_oldest}
+-- what retires, completes or issues leaves a context's oldest fetched entry, if any stays, as it is
+pub use Rattle.lawful_cycle.proofs.OldestFetched.{HasOwnStamps, retire_oldest, complete_oldest, issue_oldest}

@@ -1,3 +1,4 @@
+pub mod EachEntry
 pub mod Timing
 pub mod SameViews
 pub mod Idle
@@ -13,8 +14,10 @@ pub mod UniqueRetire
 pub mod Stamped
 pub mod UniqueRename
 pub mod UniqueIssue
+pub mod OldestFetched
 pub mod Listed
 pub mod UniqueFetch
+pub mod KeptEntries
 pub mod KeptStamps
 pub mod UniqueCycle
 pub mod Decided

@@ -46,6 +46,17 @@ ready_within v p is =
     let lt = first_of (nat_lt p.place (length x.flight)) (is_queued (entry_at x p.place).stage) (is_ready_on x p.place (first_value x p.place) (second_value x p.place)) is.1 in
     grind (arith, nat_tests, lt)
 
+-- and is queued
+pub ready_queued : (v : View) (p : Place) → IsReadyIn v p → is_queued (entry_in v p).stage ≡ true
+ready_queued v p is =
+    let x = context_in v p.context in
+    second_of (nat_lt p.place (length x.flight)) (is_queued (entry_at x p.place).stage) (is_ready_on x p.place (first_value x p.place) (second_value x p.place)) is.1
+  where
+    second_of : (a b c : Bool) → (a && b && c) ≡ true → b ≡ true
+    second_of true true c h = refl
+    second_of true false c h = absurd (let f : false ≡ true = h in cc)
+    second_of false b c h = absurd (let f : false ≡ true = h in cc)
+
 -- neither of two ready entries comes after the other: they are one
 same_place : (key : QueueView → ℕ) (v : View) → IsStamped v → (p q : Place) → IsReadyIn v p → IsReadyIn v q → IsNotAfter key v p q → IsNotAfter key v q p → p ≡ q
 same_place key v h p q rp rq a b =

@@ -3,7 +3,8 @@ use Rattle.std.proofs.lemmas.Bool.{true≢false}
 use Rattle.word_mask.specs.Mask.{has}
 use Rattle.word_mask.proofs.Laws.{has_zero}
 use Rattle.core_back.proofs.Laws.{nth_context}
-use Rattle.core_cycle.proofs.KeptFronts.{is_past_front}
+use Rattle.lawful_cycle.specs.Views.{context_in}
+use Rattle.core_cycle.proofs.KeptFronts.{none_asked}
 use Rattle.core_cycle.proofs.FrontWords.{few_added, none_added, IsSpent}
 use Rattle.core_cycle.proofs.fronts.with_fetched.Goals as goal
 
@@ -25,5 +26,5 @@ loop-context-preserved g c =
     (record {
       few = few_added word new c.index.result flag bits (subst (λ k. (c : ℕ) → has word c ≡ true → c < k) (sym place) i.few);
       none = none_added word new c.index.result flag bits v (subst (λ k. (c : ℕ) → c < k → has word c ≡ false → IsSpent v c) (sym place) i.none)
-          (λ unset. subst (IsSpent v) (sym c.index.ensures.value) (λ e can. c.has_fetched.ensures unset e (is_past_front v item e can)));
+          (λ unset. subst (IsSpent v) (sym c.index.ensures.value) (λ e can. none_asked (context_in v item) e flag c.has_fetched.ensures unset can.oldest));
     })

@@ -1,12 +1,17 @@
-use Rattle.std.proofs.Common.{ℕ, ◌+◌, Bool, ap, subst, ◌∙◌, arith}
+use Rattle.std.proofs.Common.{ℕ, ◌+◌, Bool, ap, sym, subst, ◌∙◌, arith}
+use Rattle.std.specs.Prelude.{set, ◌%◌}
 use Rattle.rv64_decode.specs.declared.insn.Insn.{Insn}
 use Rattle.core_view.specs.View.{Context}
 use Rattle.lawful_cycle.specs.Fetch.{IsFetch}
 use Rattle.lawful_cycle.specs.Cycle.{IsLawfulCycle, laws_of}
 use Rattle.lawful_cycle.specs.Timing.{AreTimely}
-use Rattle.lawful_cycle.proofs.Laws.{cycle_timely}
+use Rattle.lawful_cycle.specs.Entries.{HoldsOfEach}
+use Rattle.lawful_cycle.proofs.Laws.{cycle_timely, retire_oldest, complete_oldest, issue_oldest, rename_keeps, fetch_keeps}
+use Rattle.core_back.proofs.Laws.{same_place}
 use Rattle.core_back.specs.Machine.{Machine, context_at}
 use Rattle.core_cycle.specs.Notes.{note_with}
+use Rattle.core_cycle.specs.History.{IsDated}
+use Rattle.core_cycle.proofs.FrontsBetween.{below_next, dated_issued, new_dated, next_history, same_kept}
 use Rattle.core_cycle.proofs.Whole.{in_flight_is}
 use Rattle.core_cycle.proofs.contexts.Contexts.cycle.Goals as goal
 
@@ -40,5 +45,44 @@ returns-clause-timely g c =
     cycle_timely (laws_of (g.P.Pick.key_of c.args.pick.now) (g.O.Order.key_of c.args.order.now) (g.G.Guess.may_answer c.args.guess.now) (g.D.Delay.may_answer c.args.delay.now)) c.args.self.now.view _ _
     (λ d k a l may. (g.met.D.Delay.all_within c.args.delay.now d k a l may).least) (returns-clause-lawful g c) before
 
+pub rename-requires-clause-kept : goal.rename-requires-clause-kept
+rename-requires-clause-kept g c =
+    let kept = c.self.invariant.3 in
+    record {
+      eight = kept.eight;
+      each = λ d ld e is. kept.each d ld e
+          (retire_oldest _ _ _ c.retire-dropped.ensures.lawful d e ld
+          (complete_oldest _ _ _ c.complete-completion.ensures.lawful d e ld
+          (issue_oldest _ _ _ _ _ c.issue.ensures.lawful d ld (λ i j li lj. same_place 0 (context_at c.complete-completion.new.machine d).flight i j (c.cycle-cycle.ensures.live d ld).flight.growing li lj) e is)));
+    }
+
+pub rename-requires-clause-past : goal.rename-requires-clause-past
+rename-requires-clause-past g c =
+    let h = c.self.invariant.4 in
+    let now = c.issue.ensures.alike.cycle ∙ c.complete-completion.ensures.alike.cycle ∙ c.retire-dropped.ensures.alike.cycle in
+    let begun = c.self.inside.history.begun in
+    let issued = c.issue.new.machine.view in
+    c.past_front-past.ensures issued
+    (record {
+      eight = h.eight;
+      dated = subst (λ n. HoldsOfEach (IsDated begun n) issued) (sym now) (dated_issued begun _ _ _ _ _ issued _ _ _ c.retire-dropped.ensures.lawful c.complete-completion.ensures.lawful c.issue.ensures.lawful h);
+    })
+    (c.issue.ensures.alike.cycle ∙ sym c.cycle-cycle.ensures.value) (sym c.profile.ensures)
+
 pub invariant_of-self : goal.invariant_of-self
-invariant_of-self g c = (ap (λ (m : Machine). m.names) c.tick.ensures.next ∙ c.fetch.ensures.idle, ap (λ (m : Machine). m.fetch_room) c.tick.ensures.next, returns-clause-timely g c)
+invariant_of-self g c =
+    let h = c.self.invariant.4 in
+    let begun = c.self.inside.history.begun in
+    let cycle = c.self.inside.machine.view.cycle in
+    let now = c.rename.ensures.alike.cycle ∙ c.issue.ensures.alike.cycle ∙ c.complete-completion.ensures.alike.cycle ∙ c.retire-dropped.ensures.alike.cycle in
+    let issued = dated_issued begun _ _ _ _ _ c.issue.new.machine.view _ _ _ c.retire-dropped.ensures.lawful c.complete-completion.ensures.lawful c.issue.ensures.lawful h in
+    let renamed : HoldsOfEach (IsDated begun cycle) c.rename.new.machine.view = subst (HoldsOfEach (IsDated begun cycle)) (sym c.rename.ensures.lawful.is) (rename_keeps (IsDated begun cycle) c.issue.new.machine.view (g.L.Listing.items c.rename.new.renamed) issued) in
+    let fetched : HoldsOfEach (IsDated begun cycle) c.fetch.new.machine.view =
+    fetch_keeps (IsDated begun cycle) _ _ c.rename.new.machine.view c.fetch.new.machine.view _ (λ stamp. subst (IsDated begun cycle stamp) (sym now) (new_dated begun cycle stamp)) c.fetch.ensures.lawful renamed in
+    let v = c.tick.new.self.view in
+    let contexts = ap (λ (m : Machine). m.view.contexts) c.tick.ensures.next in
+    let next = ap (λ (m : Machine). m.view.cycle) c.tick.ensures.next ∙ ap (λ n. n + 1) (c.fetch.ensures.lawful.cycle ∙ now) in
+    let told = c.begin.ensures ∙ ap (λ n. set begun (n % 8) c.next_stamp.result) c.cycle.ensures.value ∙ ap (λ n. set begun (v.cycle % 8) n) c.next_stamp.ensures.value in
+    (ap (λ (m : Machine). m.names) c.tick.ensures.next ∙ c.fetch.ensures.idle, ap (λ (m : Machine). m.fetch_room) c.tick.ensures.next, returns-clause-timely g c,
+      same_kept c.fetch.new.machine.view v c.fetch.new.fronts contexts c.fetch.ensures.kept,
+      next_history begun c.begin.new.self.begun c.fetch.new.machine.view v cycle h.eight fetched contexts next (below_next v (λ d ld. (c.cycle-live.ensures.live d ld).flight.below)) told)
