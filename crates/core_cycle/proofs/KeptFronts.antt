@@ -15,7 +15,7 @@ use Rattle.core_view.specs.Flight.{is_queued}
 use Rattle.lawful_cycle.specs.Rename.{CanRename, of_all, renamed_by, has_register, oldest_fetched}
 use Rattle.core_back.specs.Machine.{Machine, context_at, no_context}
 use Rattle.core_back.specs.Fetched.{IsRenamed}
-use Rattle.core_cycle.specs.Fronts.{IsFront, IsLeast, IsOldest, front_of}
+use Rattle.core_cycle.specs.Fronts.{IsLeast, IsOldest, front_of}
 
 -- ---- one front
 

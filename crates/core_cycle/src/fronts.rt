@@ -38,9 +38,9 @@ impl Fronts {
         }
     }
 
-    /// The same fronts once more.
+    /// A copy of the fronts.
     #[inline(always)]
-    pub(crate) fn again(&self) -> Fronts
+    pub(crate) fn copied(&self) -> Fronts
         ensures { result ≡ self.now }
     {
         Fronts {
@@ -59,7 +59,7 @@ impl Fronts {
     /// Where nothing of a context is fetched, its front is the stamp that is given out next.
     // It takes no jump, which would be guessed wrongly too often.
     #[inline(always)]
-    pub(crate) fn expect(&mut self, context: Ctx, has_fetched: bool, stamp: u64)
+    pub(crate) fn before_fetch(&mut self, context: Ctx, has_fetched: bool, stamp: u64)
         ensures kept { has_fetched ≡ true → self.new ≡ self.old }
         ensures next { has_fetched ≡ false → self.new ≡ slice_set self.old context (front_of stamp) }
     {

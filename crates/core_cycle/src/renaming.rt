@@ -41,7 +41,7 @@ pub(crate) fn rename<A: Allocator, L: Listing<EntryId, 8>>(
     // `cycle` ensures that each context is live, so its stamps grow; they are below the next one.
     let _live = machine.cycle();
     let _next = machine.next_stamp();
-    let mut left = fronts.again();
+    let mut left = fronts.copied();
     while let Some(context) = next_front(machine, &left, past) {
         let limit = left.take(context);
         let before = renamed.len();

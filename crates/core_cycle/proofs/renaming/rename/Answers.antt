@@ -19,9 +19,9 @@ loop-context-init g c =
       alike = alike_none c.args.machine.now;
       idle = c.requires.idle;
       flights = refl;
-      fronts = subst (AreFronts c.args.machine.now.view) (sym c.again-left.ensures)
+      fronts = subst (AreFronts c.args.machine.now.view) (sym c.copied-left.ensures)
           (kept_fronts c.args.machine.now.view c.args.fronts.now (omega (arith, c.next_stamp-next.ensures.value, c.next_stamp-next.ensures.bound)) (below_next c.args.machine.now.view (λ d ld. (c.cycle-live.ensures.live d ld).flight.below)) c.requires.kept);
-      eight = ap (λ (fs : List (Option ℕ)). length fs) c.again-left.ensures ∙ c.requires.kept.eight;
+      eight = ap (λ (fs : List (Option ℕ)). length fs) c.copied-left.ensures ∙ c.requires.kept.eight;
       kept = c.requires.kept;
       way = record {
         so_far = rename_none c.args.machine.now.view (g.L.Listing.items c.args.renamed.now) c.cycle-live.ensures.contexts c.requires.fresh;

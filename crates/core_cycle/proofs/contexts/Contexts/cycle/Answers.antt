@@ -82,7 +82,10 @@ invariant_of-self g c =
     let v = c.tick.new.self.view in
     let contexts = ap (λ (m : Machine). m.view.contexts) c.tick.ensures.next in
     let next = ap (λ (m : Machine). m.view.cycle) c.tick.ensures.next ∙ ap (λ n. n + 1) (c.fetch.ensures.lawful.cycle ∙ now) in
-    let told = c.begin.ensures ∙ ap (λ n. set begun (n % 8) c.next_stamp.result) c.cycle.ensures.value ∙ ap (λ n. set begun (v.cycle % 8) n) c.next_stamp.ensures.value in
-    (ap (λ (m : Machine). m.names) c.tick.ensures.next ∙ c.fetch.ensures.idle, ap (λ (m : Machine). m.fetch_room) c.tick.ensures.next, returns-clause-timely g c,
+    let told = c.begin.ensures ∙ ap (λ n. set begun (n % 8) c.next_stamp.result) c.cycle.ensures.value ∙ ap (λ n. set begun (v.cycle % 8) n) c.next_stamp.ensures.value in (
+      ap (λ (m : Machine). m.names) c.tick.ensures.next ∙ c.fetch.ensures.idle,
+      ap (λ (m : Machine). m.fetch_room) c.tick.ensures.next,
+      returns-clause-timely g c,
       same_kept c.fetch.new.machine.view v c.fetch.new.fronts contexts c.fetch.ensures.kept,
-      next_history begun c.begin.new.self.begun c.fetch.new.machine.view v cycle h.eight fetched contexts next (below_next v (λ d ld. (c.cycle-live.ensures.live d ld).flight.below)) told)
+      next_history begun c.begin.new.self.begun c.fetch.new.machine.view v cycle h.eight fetched contexts next (below_next v (λ d ld. (c.cycle-live.ensures.live d ld).flight.below)) told,
+    )
