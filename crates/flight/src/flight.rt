@@ -170,6 +170,26 @@ impl<A: Allocator> Flight<A> {
         self.guessed -= guessed;
     }
 
+    /// The same of one that is no load.
+    #[inline(always)]
+    pub fn rename_other(&mut self)
+        requires some { self.old.renamed < length self.old.entries }
+        requires few { self.old.renamed < 64 }
+        requires goes { stops_at_fetch (entry_in self.old.entries self.old.renamed).operation ≡ false }
+        requires other { is_load (entry_in self.old.entries self.old.renamed).operation ≡ false }
+        ensures { (cycle : ℕ) → self.new ≡ renamed_one cycle self.old }
+    {
+        let _len = self.ring.len();
+        let next = self.renamed;
+        let entry = waiting(at(&self.ring, next));
+        set_in(&mut self.ring, next, entry);
+        self.marks.push_other(next, &entry);
+        self.slots[(entry.stamp % 256) as usize] = slot_of(self.base, next) as u8;
+        self.renamed = next + 1;
+        let guessed = usize::from(entry.operation.is_guessed());
+        self.guessed -= guessed;
+    }
+
     /// The entry at a place, which waits for issue, issues.
     #[inline(always)]
     pub fn issue(&mut self, place: usize, execution: Execution)
