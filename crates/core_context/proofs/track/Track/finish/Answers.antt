@@ -1,6 +1,6 @@
 use Rattle.std.proofs.Common.{rules, List, ◌≡◌, true, false, ap, sym, subst, ◌∙◌, ◌+◌, slice_get, get_or, Some, None}
 use Rattle.std.specs.Prelude.{set}
-use Rattle.std.proofs.lemmas.Option.{get_or_from_slice_get}
+use Rattle.std.proofs.lemmas.Option.{get_or_from_slice_get, slice_get_within}
 use Rattle.flight.specs.Flights.{Flight, execution_of, IsIssued}
 use Rattle.core_view.specs.declared.entry.Stage.TheVariants.{Issued}
 use Rattle.core_view.specs.declared.entry.Entry.{Entry}
@@ -11,6 +11,7 @@ use Rattle.core_view.specs.View.{no_entry, entry_at}
 use Rattle.core_context.specs.Track.{Track, cut_stamp, is_mispredicted_by}
 use Rattle.core_context.proofs.QueueSlots.{other_holds}
 use Rattle.core_context.proofs.Tracks.{set_read, cut_kept, cut_wrong_none, cut_wrong_some, writes_none}
+use Rattle.core_context.proofs.Ends.{end_finished}
 use Rattle.core_context.proofs.track.Track.finish.Goals as goal
 
 pub is_mispredicted-mispredicted-requires : goal.is_mispredicted-mispredicted-requires
@@ -32,7 +33,9 @@ invariant_of-self g c =
     let stage : e.stage ≡ Issued x = sym (ap (λ (f : Entry). f.stage) (get_or_from_slice_get es c.args.place e no_entry read)) ∙ issued in
     let written : c.finish.new.self.entries ≡ set es c.args.place (completed_entry e x) = set_read es _ c.args.place e (λ f. completed_entry f x) read (ap (λ (f : Flight). f.entries) c.finish.ensures) in
     let held = other_holds es c.args.place e read x c.finish.new.self.entries stage written c.self.inside.queue (sym c.is_store.ensures ∙ c.if-is_store.false) c.self.invariant.1 c.self.invariant.2 in
-    (c.self.invariant.0, held.loads, held.stores)
+    let here = get_or_from_slice_get es c.args.place e no_entry read in
+    let end = end_finished c.self.inside.pc _ _ _ es c.finish.new.self.entries c.args.place (completed_entry e x) c.self.invariant.3 (slice_get_within es c.args.place e read) written (ap (λ (f : Entry). f.operation) (sym here)) c.fetch_pc_after-self-inside.ensures.last c.fetch_pc_after-self-inside.ensures.before in
+    (c.self.invariant.0, held.loads, held.stores, end)
 
 pub returns-then-not-mispredicted-clause-cut : goal.returns-then-not-mispredicted-clause-cut
 returns-then-not-mispredicted-clause-cut g c =
@@ -60,7 +63,9 @@ invariant_of-self-in_err-next g c =
     let stage : e.stage ≡ Issued x = sym (ap (λ (f : Entry). f.stage) (get_or_from_slice_get es c.args.place e no_entry read)) ∙ issued in
     let written : c.finish.new.self.entries ≡ set es c.args.place (completed_entry e x) = set_read es _ c.args.place e (λ f. completed_entry f x) read (ap (λ (f : Flight). f.entries) c.finish.ensures) in
     let held = other_holds es c.args.place e read x c.finish.new.self.entries stage written c.self.inside.queue (sym c.is_store.ensures ∙ c.if-is_store.false) c.self.invariant.1 c.self.invariant.2 in
-    (c.self.invariant.0, held.loads, held.stores)
+    let here = get_or_from_slice_get es c.args.place e no_entry read in
+    let end = end_finished c.self.inside.pc _ _ _ es c.finish.new.self.entries c.args.place (completed_entry e x) c.self.invariant.3 (slice_get_within es c.args.place e read) written (ap (λ (f : Entry). f.operation) (sym here)) c.fetch_pc_after-self-inside.ensures.last c.fetch_pc_after-self-inside.ensures.before in
+    (c.self.invariant.0, held.loads, held.stores, end)
 
 pub returns-in_err-next-clause-cut : goal.returns-in_err-next-clause-cut
 returns-in_err-next-clause-cut g c =
@@ -85,7 +90,9 @@ invariant_of-self-2 g c =
     let stage : e.stage ≡ Issued x = sym (ap (λ (f : Entry). f.stage) (get_or_from_slice_get es c.args.place e no_entry read)) ∙ issued in
     let written : c.finish.new.self.entries ≡ set es c.args.place (completed_entry e x) = set_read es _ c.args.place e (λ f. completed_entry f x) read (ap (λ (f : Flight). f.entries) c.finish.ensures) in
     let held = other_holds es c.args.place e read x c.finish.new.self.entries stage written c.self.inside.queue (sym c.is_store.ensures ∙ c.if-is_store.false) c.self.invariant.1 c.self.invariant.2 in
-    (c.self.invariant.0, held.loads, held.stores)
+    let here = get_or_from_slice_get es c.args.place e no_entry read in
+    let end = end_finished c.self.inside.pc _ _ _ es c.finish.new.self.entries c.args.place (completed_entry e x) c.self.invariant.3 (slice_get_within es c.args.place e read) written (ap (λ (f : Entry). f.operation) (sym here)) c.fetch_pc_after-self-inside.ensures.last c.fetch_pc_after-self-inside.ensures.before in
+    (c.self.invariant.0, held.loads, held.stores, end)
 
 pub returns-clause-cut : goal.returns-clause-cut
 returns-clause-cut g c =

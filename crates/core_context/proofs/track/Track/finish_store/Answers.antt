@@ -1,6 +1,6 @@
 use Rattle.std.proofs.Common.{rules, List, ◌≡◌, true, ap, sym, subst, ◌∙◌, slice_get, get_or, Some}
 use Rattle.std.specs.Prelude.{set}
-use Rattle.std.proofs.lemmas.Option.{get_or_from_slice_get}
+use Rattle.std.proofs.lemmas.Option.{get_or_from_slice_get, slice_get_within}
 use Rattle.flight.specs.Flights.{Flight, execution_of, IsIssued}
 use Rattle.core_view.specs.declared.entry.Stage.TheVariants.{Issued}
 use Rattle.core_view.specs.declared.entry.Entry.{Entry}
@@ -13,6 +13,7 @@ use Rattle.core_view.specs.View.{no_entry, entry_at}
 use Rattle.core_context.specs.Track.{Track, cut_stamp}
 use Rattle.core_context.proofs.QueueSlots.{store_holds}
 use Rattle.core_context.proofs.Tracks.{set_read, cut_store}
+use Rattle.core_context.proofs.Ends.{end_finished}
 use Rattle.core_context.proofs.track.Track.finish_store.Goals as goal
 
 pub resolve-cut-requires : goal.resolve-cut-requires
@@ -37,7 +38,8 @@ invariant_of-self g c =
     let bytes = bytes_in (execution_of e.stage).outcome in
     let is : bytes ≡ bytes_in x.outcome = ap (λ s. bytes_in (execution_of s).outcome) stage in
     let held = store_holds es c.args.place e read x c.finish.new.self.entries stage written c.self.inside.queue c.resolve-cut.new.queue bytes store c.len-left.ensures.growing is c.resolve-cut.ensures.completed c.self.invariant.1 c.self.invariant.2 in
-    (c.self.invariant.0, held.loads, held.stores)
+    let end = end_finished c.self.inside.pc _ _ _ es c.finish.new.self.entries c.args.place (completed_entry e x) c.self.invariant.3 (slice_get_within es c.args.place e read) written (ap (λ (f : Entry). f.operation) (sym here)) c.fetch_pc_after-self-inside.ensures.last c.fetch_pc_after-self-inside.ensures.before in
+    (c.self.invariant.0, held.loads, held.stores, end)
 
 pub returns-clause-cut : goal.returns-clause-cut
 returns-clause-cut g c =
