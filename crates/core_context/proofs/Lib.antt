@@ -27,3 +27,4 @@ pub mod PlainNext
 pub mod AnyNext
 pub mod Laws
 pub mod Texts
+pub mod Ends

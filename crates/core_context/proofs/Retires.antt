@@ -12,12 +12,15 @@ use Rattle.core_view.specs.declared.entry.Execution.{Execution}
 use Rattle.core_view.specs.declared.entry.Stage.{Stage}
 use Rattle.core_view.specs.declared.entry.Stage.TheVariants.{Fetched, Queued, Issued, Done}
 use Rattle.core_view.specs.declared.entry.Entry.{Entry}
-use Rattle.core_view.specs.Operations.{destination_of, is_store}
-use Rattle.core_view.specs.Outcomes.{image_of, bytes_written, IsSized}
-use Rattle.core_view.specs.Flight.{result_of, result_in, bytes_in, is_done, IsGrowing, is_queued}
+use Rattle.core_view.specs.declared.operation.Operation.{Operation}
+use Rattle.core_view.specs.declared.operation.Operation.TheVariants as operation
+use Rattle.core_view.specs.Operations.{destination_of, is_store, stops_at_fetch}
+use Rattle.core_view.specs.Outcomes.{Image, image_of, bytes_written, outcome_in, IsSized}
+use Rattle.core_view.specs.Flight.{seen_of, result_of, result_in, bytes_in, is_done, IsGrowing, is_queued, GoesOnAt, IsSettled}
 use Rattle.core_view.specs.Queues.{is_renamed, AllRenamed}
 use Rattle.core_view.specs.View.{IsLive, StatusHolds, entry_at, seen_at, no_entry}
 use Rattle.core_view.specs.Events.{retire_event}
+use Rattle.core_view.proofs.Sound.{sound_at}
 use Rattle.core_view.proofs.Steps.{IsOutcomeSized}
 use Rattle.core_view.proofs.Accesses.{outcome_bytes}
 use Rattle.core_view.proofs.Live.{retire_live, stop_live, flight_running, done_sized}
@@ -138,6 +141,24 @@ module _ (start : State) (stamp reorder : ℕ) (f : Flow) (c : ℕ) (t : Track) 
       let out = done_outcome_of start stamp t.context 0 x some stage core.live in
       let e = entry_at t.context 0 in
       subst (λ o. bytes_in o ≡ None) goes (ap bytes_in out.is ∙ outcome_bytes (image_of t.context.state) (seen_at t.context 0).bytes e.operation e.pc out.first out.second idle)
+
+  -- fetch went on after it where its step goes
+  pub oldest_followed : IsCore start stamp reorder f [] c t → 0 < length t.context.flight → (entry_at t.context 0).stage ≡ Done x → x.outcome ≡ Goes step → (entry_at t.context 0).followed ≡ step.next
+  oldest_followed core some stage goes =
+      let e = entry_at t.context 0 in
+      let s = sound_at (image_of t.context.state) (seen_of t.context.state) t.context.state.pc t.context.flight 0 no_entry some core.live.flight.sound in
+      subst (GoesOnAt e.followed) goes (subst (IsSettled e.followed) stage s.followed.settled)
+
+  -- it doesn't stop at fetch
+  pub oldest_goes : IsCore start stamp reorder f [] c t → 0 < length t.context.flight → (entry_at t.context 0).stage ≡ Done x → x.outcome ≡ Goes step → stops_at_fetch (entry_at t.context 0).operation ≡ false
+  oldest_goes core some stage goes =
+      let out = done_outcome_of start stamp t.context 0 x some stage core.live in
+      let e = entry_at t.context 0 in
+      by_operation e.operation (image_of t.context.state) (seen_at t.context 0).bytes e.pc out.first out.second (sym goes ∙ out.is)
+    where
+      by_operation : (o : Operation) (image : Image) (bytes : ℕ → ℕ) (pc a b : ℕ) → Goes step ≡ outcome_in image bytes o pc a b → stops_at_fetch o ≡ false
+      by_operation (operation.Performs insn) image bytes pc a b is = refl
+      by_operation (operation.Stops why) image bytes pc a b is = absurd cc
 
   -- ---- it retires
 

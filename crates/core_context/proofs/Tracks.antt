@@ -91,7 +91,7 @@ first_is_done (e ∷ es) = by_stage e.stage
 -- ---- the end of a flight
 
 -- the pc where a flight goes on is the one that its last entry was followed at
-pc_last : (pc : ℕ) (es : List Entry) (d : Entry) → 0 < length es → pc_past pc es ≡ (get_or es (length es - 1) d).followed
+pub pc_last : (pc : ℕ) (es : List Entry) (d : Entry) → 0 < length es → pc_past pc es ≡ (get_or es (length es - 1) d).followed
 pc_last pc [] d some = absurd (omega arith)
 pc_last pc (e ∷ []) d some = refl
 pc_last pc (e ∷ f ∷ es) d some =

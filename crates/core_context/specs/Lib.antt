@@ -11,3 +11,4 @@ pub mod NextEntry
 pub mod Renamable
 pub mod Left
 pub mod Text
+pub mod Ends

@@ -6,7 +6,7 @@ ghost use Rattle.std.specs.List.{list_any};
 ghost use Rattle.circular_buffer.specs.Buffer.{buffer, last_item};
 ghost use Rattle.reorder_buffer.specs.Growing.{IsGrowing};
 ghost use Rattle.core_view.specs.declared.entry.Stage.TheVariants.{Fetched, Queued, Issued};
-ghost use Rattle.core_view.specs.Events.{due_at, with_stage};
+ghost use Rattle.core_view.specs.Events.{due_at, with_stage, completed_entry};
 ghost use Rattle.core_view.specs.declared.entry.Entry.{Entry};
 ghost use Rattle.core_view.specs.declared.entry.Execution.{Execution};
 ghost use Rattle.core_view.specs.declared.outcome.Step.{Step};
@@ -170,6 +170,26 @@ impl<A: Allocator> Flight<A> {
         self.guessed -= guessed;
     }
 
+    /// The same of one that is no load.
+    #[inline(always)]
+    pub fn rename_other(&mut self)
+        requires some { self.old.renamed < length self.old.entries }
+        requires few { self.old.renamed < 64 }
+        requires goes { stops_at_fetch (entry_in self.old.entries self.old.renamed).operation ≡ false }
+        requires other { is_load (entry_in self.old.entries self.old.renamed).operation ≡ false }
+        ensures { (cycle : ℕ) → self.new ≡ renamed_one cycle self.old }
+    {
+        let _len = self.ring.len();
+        let next = self.renamed;
+        let entry = waiting(at(&self.ring, next));
+        set_in(&mut self.ring, next, entry);
+        self.marks.push_other(next, &entry);
+        self.slots[(entry.stamp % 256) as usize] = slot_of(self.base, next) as u8;
+        self.renamed = next + 1;
+        let guessed = usize::from(entry.operation.is_guessed());
+        self.guessed -= guessed;
+    }
+
     /// The entry at a place, which waits for issue, issues.
     #[inline(always)]
     pub fn issue(&mut self, place: usize, execution: Execution)
@@ -206,15 +226,9 @@ impl<A: Allocator> Flight<A> {
         requires issued { IsIssued (entry_in self.old.entries place).stage }
         ensures { self.new ≡ finished_one self.old place (execution_of (entry_in self.old.entries place).stage) }
     {
-        // What is written is what stands there, but for the stage's name and the followed pc.
-        let entry = *at(&self.ring, place);
-        let Stage::Issued { execution } = entry.stage else {
-            unreachable!();
-        };
-        let entry = entry.completed(execution);
-        set_in(&mut self.ring, place, entry);
+        let due = complete_in(&mut self.ring, place);
         self.marks.finish(place);
-        let cycle = (execution.due % 64) as usize;
+        let cycle = (due % 64) as usize;
         self.hints[cycle] = clear_slot(self.hints[cycle], slot_of(self.base, place));
     }
 
@@ -521,6 +535,25 @@ fn set_in<A: Allocator>(ring: &mut Ring<Entry, A>, place: usize, entry: Entry)
     ensures { ring.new ≡ buffer (slice_set ring.old.items place entry) ring.old.capacity }
 {
     ring.set(place, entry);
+}
+
+/// The entry at a place, which is issued, is done. Returns the cycle in which it was due.
+// What is written is what stands there, but for the stage's name and the followed pc. So that no other part of it is
+// written back, the compiler has to see this before it is put in line where something is known of these parts.
+#[inline]
+fn complete_in<A: Allocator>(ring: &mut Ring<Entry, A>, place: usize) -> u64
+    requires place { place < length ring.old.items }
+    requires issued { IsIssued (entry_in ring.old.items place).stage }
+    ensures ring { ring.new ≡ buffer (slice_set ring.old.items place (completed_entry (entry_in ring.old.items place) (execution_of (entry_in ring.old.items place).stage))) ring.old.capacity }
+    ensures due { result ≡ (execution_of (entry_in ring.old.items place).stage).due }
+{
+    let entry = *at(ring, place);
+    let Stage::Issued { execution } = entry.stage else {
+        unreachable!();
+    };
+    let entry = entry.completed(execution);
+    set_in(ring, place, entry);
+    execution.due
 }
 
 /// The result of an entry that is issued, if it is no store and fetch went on after it where it goes.

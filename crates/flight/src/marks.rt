@@ -68,6 +68,17 @@ impl Marks {
         }
     }
 
+    /// The same of one that is no load.
+    #[inline]
+    pub(crate) fn push_other(&mut self, place: usize, entry: &Entry)
+        requires { place < 64 }
+        ensures { (es : List Entry) → self.old ≡ marks_of es → place ≡ length es → entry.now.stage ≡ Queued → is_load entry.now.operation ≡ false → self.new ≡ marks_of (es ++ entry.now ∷ []) }
+    {
+        // Its other bits are clear.
+        self.waiting = push(self.waiting, place, true);
+        self.open_guesses = push(self.open_guesses, place, entry.operation.is_guessed());
+    }
+
     /// With an entry at a place that has issued, where it waited.
     #[inline]
     pub(crate) fn issue(&mut self, place: usize, entry: &Entry)

@@ -3,7 +3,7 @@ use Rattle.core_view.specs.declared.outcome.Outcome.TheVariants.{Goes}
 use Rattle.core_view.proofs.Live.{flight_running}
 use Rattle.core_context.specs.Track.{Track}
 use Rattle.core_context.specs.Heads.{first_done, step_on}
-use Rattle.core_context.proofs.Retires.{is_first_done, oldest_renamed, oldest_known, oldest_done, oldest_idle, oldest_below, oldest_sized, oldest_unwritten}
+use Rattle.core_context.proofs.Retires.{is_first_done, oldest_renamed, oldest_known, oldest_done, oldest_idle, oldest_below, oldest_sized, oldest_unwritten, oldest_followed, oldest_goes}
 use Rattle.core_context.proofs.EventsKept.{parked_is, parked_kept, running_is, running_kept, one_fewer}
 use Rattle.core_context.proofs.events.retire.Goals as goal
 
@@ -48,6 +48,18 @@ step-stamp-requires-clause-unwritten g c idle =
     let k = c.requires.core in
     let d = is_first_done c.args.track.now.context.flight (Goes (step_on (first_done c.args.track.now.context.flight))) c.requires.done in
     oldest_unwritten k.start k.stamp k.reorder c.args.flow.now c.args.context c.args.track.now d.execution (step_on (first_done c.args.track.now.context.flight)) k.core d.some d.stage d.outcome idle
+
+pub step-stamp-requires-clause-followed : goal.step-stamp-requires-clause-followed
+step-stamp-requires-clause-followed g c =
+    let k = c.requires.core in
+    let d = is_first_done c.args.track.now.context.flight (Goes (step_on (first_done c.args.track.now.context.flight))) c.requires.done in
+    oldest_followed k.start k.stamp k.reorder c.args.flow.now c.args.context c.args.track.now d.execution (step_on (first_done c.args.track.now.context.flight)) k.core d.some d.stage d.outcome
+
+pub step-stamp-requires-clause-goes : goal.step-stamp-requires-clause-goes
+step-stamp-requires-clause-goes g c =
+    let k = c.requires.core in
+    let d = is_first_done c.args.track.now.context.flight (Goes (step_on (first_done c.args.track.now.context.flight))) c.requires.done in
+    oldest_goes k.start k.stamp k.reorder c.args.flow.now c.args.context c.args.track.now d.execution (step_on (first_done c.args.track.now.context.flight)) k.core d.some d.stage d.outcome
 
 pub returns-then-is_at_target-clause-track : goal.returns-then-is_at_target-clause-track
 returns-then-is_at_target-clause-track g c =

@@ -13,4 +13,5 @@ invariant_of-self g c =
       c.self.invariant.0,
       ap (λ (q : Queues). q.loads) c.drop_from.ensures ∙ ap (λ (qs : List LoadSlot). below load_stamp c.args.stamp qs) c.self.invariant.1 ∙ loads_below c.args.stamp c.self.inside.flight.entries ∙ ap (λ (es : List Entry). loads_of es) left,
       ap (λ (q : Queues). q.stores) c.drop_from.ensures ∙ ap (λ (qs : List StoreSlot). below store_stamp c.args.stamp qs) c.self.invariant.2 ∙ stores_below c.args.stamp c.self.inside.flight.entries ∙ ap (λ (es : List Entry). stores_of es) left,
+      c.end_of.ensures,
     )

@@ -1,18 +1,17 @@
-use Rattle.std.proofs.Common.{rules, List, ◌≡◌, true, false, ap, sym, subst, ◌∙◌, ◌+◌, map, slice_get, get_or, Some, None}
+use Rattle.std.proofs.Common.{rules, List, ◌≡◌, true, false, ap, sym, subst, ◌∙◌, ◌+◌, slice_get, get_or, Some, None}
 use Rattle.std.specs.Prelude.{set}
-use Rattle.std.proofs.lemmas.Option.{get_or_from_slice_get}
+use Rattle.std.proofs.lemmas.Option.{get_or_from_slice_get, slice_get_within}
 use Rattle.flight.specs.Flights.{Flight, execution_of, IsIssued}
 use Rattle.core_view.specs.declared.entry.Stage.TheVariants.{Issued}
 use Rattle.core_view.specs.declared.entry.Entry.{Entry}
 use Rattle.core_view.specs.Outcomes.{image_of}
-use Rattle.core_view.specs.Flight.{seen_of, bytes_in, bytes_done, IsSound}
+use Rattle.core_view.specs.Flight.{seen_of, IsSound}
 use Rattle.core_view.specs.Events.{completed_entry}
-use Rattle.core_view.specs.Queues.{loads_of, conflict_in}
 use Rattle.core_view.specs.View.{no_entry, entry_at}
-use Rattle.load_store_queue.specs.Queues.{Queues, slot_with_bytes}
 use Rattle.core_context.specs.Track.{Track, cut_stamp, is_mispredicted_by}
-use Rattle.core_context.proofs.QueueSlots.{store_holds, other_holds}
-use Rattle.core_context.proofs.Tracks.{set_read, cut_store, cut_kept, cut_wrong_none, cut_wrong_some, completed_read, writes_none}
+use Rattle.core_context.proofs.QueueSlots.{other_holds}
+use Rattle.core_context.proofs.Tracks.{set_read, cut_kept, cut_wrong_none, cut_wrong_some, writes_none}
+use Rattle.core_context.proofs.Ends.{end_finished}
 use Rattle.core_context.proofs.track.Track.finish.Goals as goal
 
 pub is_mispredicted-mispredicted-requires : goal.is_mispredicted-mispredicted-requires
@@ -22,7 +21,7 @@ is_mispredicted-mispredicted-requires g c =
     let issued : IsIssued (get_or es c.args.place no_entry).stage = rw (← c.self.view_is) at c.requires.issued in
     subst (λ (f : Entry). IsIssued f.stage) (get_or_from_slice_get es c.args.place c.unwrap-entry.result.now no_entry read) issued
 
--- ---- a store
+-- ---- nothing was guessed wrongly
 
 pub invariant_of-self : goal.invariant_of-self
 invariant_of-self g c =
@@ -33,44 +32,10 @@ invariant_of-self g c =
     let issued : (get_or es c.args.place no_entry).stage ≡ Issued x = rw (← c.self.view_is) at c.requires.issued in
     let stage : e.stage ≡ Issued x = sym (ap (λ (f : Entry). f.stage) (get_or_from_slice_get es c.args.place e no_entry read)) ∙ issued in
     let written : c.finish.new.self.entries ≡ set es c.args.place (completed_entry e x) = set_read es _ c.args.place e (λ f. completed_entry f x) read (ap (λ (f : Flight). f.entries) c.finish.ensures) in
-    let done : c.unwrap-store.result.now ≡ completed_entry e x = completed_read es c.args.place e x read c.finish.new.self.entries written c.unwrap-store.result.now (search rules) in
-    let bytes : c.bytes.result ≡ bytes_in x.outcome = c.bytes.ensures ∙ ap (λ (f : Entry). bytes_done f.stage) done in
-    let stamp : c.unwrap-store.result.now.stamp ≡ e.stamp = ap (λ (f : Entry). f.stamp) done in
-    let resolved : c.resolve_store.new.self ≡ record c.self.inside.queue { stores = map (slot_with_bytes e.stamp c.bytes.result) c.self.inside.queue.stores } =
-    c.resolve_store.ensures.completed ∙ ap (λ k. let q : Queues = record c.self.inside.queue { stores = map (slot_with_bytes k c.bytes.result) c.self.inside.queue.stores } in q) stamp in
-    let held = store_holds es c.args.place e read x c.finish.new.self.entries stage written c.self.inside.queue c.resolve_store.new.self c.bytes.result (sym c.is_store-stores.ensures ∙ c.if-stores.true) c.len-left.ensures.growing bytes resolved c.self.invariant.1 c.self.invariant.2 in
-    (c.self.invariant.0, held.loads, held.stores)
-
-pub returns-then-stores-clause-cut : goal.returns-then-stores-clause-cut
-returns-then-stores-clause-cut g c =
-    let es = c.self.inside.flight.entries in
-    let e = c.unwrap-entry.result.now in
-    let x = execution_of (get_or es c.args.place no_entry).stage in
-    let read : slice_get es c.args.place ≡ Some e = search rules in
-    let issued : (get_or es c.args.place no_entry).stage ≡ Issued x = rw (← c.self.view_is) at c.requires.issued in
-    let stage : e.stage ≡ Issued x = sym (ap (λ (f : Entry). f.stage) (get_or_from_slice_get es c.args.place e no_entry read)) ∙ issued in
-    let written : c.finish.new.self.entries ≡ set es c.args.place (completed_entry e x) = set_read es _ c.args.place e (λ f. completed_entry f x) read (ap (λ (f : Flight). f.entries) c.finish.ensures) in
-    let done : c.unwrap-store.result.now ≡ completed_entry e x = completed_read es c.args.place e x read c.finish.new.self.entries written c.unwrap-store.result.now (search rules) in
-    let bytes : c.bytes.result ≡ bytes_in x.outcome = c.bytes.ensures ∙ ap (λ (f : Entry). bytes_done f.stage) done in
-    let stamp : c.unwrap-store.result.now.stamp ≡ e.stamp = ap (λ (f : Entry). f.stamp) done in
-    let sound = subst (λ (fs : List Entry). IsSound (image_of c.args.self.now.context.state) (seen_of c.args.self.now.context.state) c.args.self.now.context.state.pc fs) (sym (ap (λ (t : Track). t.context.flight) c.self.view_is)) c.requires.sound in
-    c.resolve_store.ensures.conflict ∙ ap (λ qs. conflict_in qs c.unwrap-store.result.now.stamp c.bytes.result) c.self.invariant.1 ∙ ap (λ k. conflict_in (loads_of es) k c.bytes.result) stamp ∙ ap (λ b. conflict_in (loads_of es) e.stamp b) bytes
-    ∙ cut_store es c.args.place e x read (image_of c.args.self.now.context.state) (seen_of c.args.self.now.context.state) c.args.self.now.context.state.pc stage sound c.len-len.ensures.growing (sym c.is_store-stores.ensures ∙ c.if-stores.true)
-    ∙ ap (λ (t : Track). cut_stamp t.context c.args.place (execution_of (entry_at t.context c.args.place).stage)) c.self.view_is
-
--- ---- nothing was guessed wrongly
-
-pub invariant_of-self-then-not-mispredicted : goal.invariant_of-self-then-not-mispredicted
-invariant_of-self-then-not-mispredicted g c =
-    let es = c.self.inside.flight.entries in
-    let e = c.unwrap-entry.result.now in
-    let x = execution_of (get_or es c.args.place no_entry).stage in
-    let read : slice_get es c.args.place ≡ Some e = search rules in
-    let issued : (get_or es c.args.place no_entry).stage ≡ Issued x = rw (← c.self.view_is) at c.requires.issued in
-    let stage : e.stage ≡ Issued x = sym (ap (λ (f : Entry). f.stage) (get_or_from_slice_get es c.args.place e no_entry read)) ∙ issued in
-    let written : c.finish.new.self.entries ≡ set es c.args.place (completed_entry e x) = set_read es _ c.args.place e (λ f. completed_entry f x) read (ap (λ (f : Flight). f.entries) c.finish.ensures) in
-    let held = other_holds es c.args.place e read x c.finish.new.self.entries stage written c.self.inside.queue (sym c.is_store-stores.ensures ∙ c.if-stores.false) c.self.invariant.1 c.self.invariant.2 in
-    (c.self.invariant.0, held.loads, held.stores)
+    let held = other_holds es c.args.place e read x c.finish.new.self.entries stage written c.self.inside.queue (sym c.is_store.ensures ∙ c.if-is_store.false) c.self.invariant.1 c.self.invariant.2 in
+    let here = get_or_from_slice_get es c.args.place e no_entry read in
+    let end = end_finished c.self.inside.pc _ _ _ es c.finish.new.self.entries c.args.place (completed_entry e x) c.self.invariant.3 (slice_get_within es c.args.place e read) written (ap (λ (f : Entry). f.operation) (sym here)) c.fetch_pc_after-self-inside.ensures.last c.fetch_pc_after-self-inside.ensures.before in
+    (c.self.invariant.0, held.loads, held.stores, end)
 
 pub returns-then-not-mispredicted-clause-cut : goal.returns-then-not-mispredicted-clause-cut
 returns-then-not-mispredicted-clause-cut g c =
@@ -83,7 +48,7 @@ returns-then-not-mispredicted-clause-cut g c =
     let written : c.finish.new.self.entries ≡ set es c.args.place (completed_entry e x) = set_read es _ c.args.place e (λ f. completed_entry f x) read (ap (λ (f : Flight). f.entries) c.finish.ensures) in
     let sound = subst (λ (fs : List Entry). IsSound (image_of c.args.self.now.context.state) (seen_of c.args.self.now.context.state) c.args.self.now.context.state.pc fs) (sym (ap (λ (t : Track). t.context.flight) c.self.view_is)) c.requires.sound in
     let right : is_mispredicted_by e x.outcome ≡ false = sym (c.is_mispredicted-mispredicted.ensures ∙ ap (λ s. is_mispredicted_by e (execution_of s).outcome) stage) ∙ c.if-not-mispredicted.true in
-    let none = writes_none es c.args.place e x read (image_of c.args.self.now.context.state) (seen_of c.args.self.now.context.state) c.args.self.now.context.state.pc stage sound (sym c.is_store-stores.ensures ∙ c.if-stores.false) in
+    let none = writes_none es c.args.place e x read (image_of c.args.self.now.context.state) (seen_of c.args.self.now.context.state) c.args.self.now.context.state.pc stage sound (sym c.is_store.ensures ∙ c.if-is_store.false) in
     cut_kept es c.args.place e x read right none ∙ ap (λ (t : Track). cut_stamp t.context c.args.place (execution_of (entry_at t.context c.args.place).stage)) c.self.view_is
 
 -- ---- its next pc was
@@ -97,8 +62,10 @@ invariant_of-self-in_err-next g c =
     let issued : (get_or es c.args.place no_entry).stage ≡ Issued x = rw (← c.self.view_is) at c.requires.issued in
     let stage : e.stage ≡ Issued x = sym (ap (λ (f : Entry). f.stage) (get_or_from_slice_get es c.args.place e no_entry read)) ∙ issued in
     let written : c.finish.new.self.entries ≡ set es c.args.place (completed_entry e x) = set_read es _ c.args.place e (λ f. completed_entry f x) read (ap (λ (f : Flight). f.entries) c.finish.ensures) in
-    let held = other_holds es c.args.place e read x c.finish.new.self.entries stage written c.self.inside.queue (sym c.is_store-stores.ensures ∙ c.if-stores.false) c.self.invariant.1 c.self.invariant.2 in
-    (c.self.invariant.0, held.loads, held.stores)
+    let held = other_holds es c.args.place e read x c.finish.new.self.entries stage written c.self.inside.queue (sym c.is_store.ensures ∙ c.if-is_store.false) c.self.invariant.1 c.self.invariant.2 in
+    let here = get_or_from_slice_get es c.args.place e no_entry read in
+    let end = end_finished c.self.inside.pc _ _ _ es c.finish.new.self.entries c.args.place (completed_entry e x) c.self.invariant.3 (slice_get_within es c.args.place e read) written (ap (λ (f : Entry). f.operation) (sym here)) c.fetch_pc_after-self-inside.ensures.last c.fetch_pc_after-self-inside.ensures.before in
+    (c.self.invariant.0, held.loads, held.stores, end)
 
 pub returns-in_err-next-clause-cut : goal.returns-in_err-next-clause-cut
 returns-in_err-next-clause-cut g c =
@@ -122,8 +89,10 @@ invariant_of-self-2 g c =
     let issued : (get_or es c.args.place no_entry).stage ≡ Issued x = rw (← c.self.view_is) at c.requires.issued in
     let stage : e.stage ≡ Issued x = sym (ap (λ (f : Entry). f.stage) (get_or_from_slice_get es c.args.place e no_entry read)) ∙ issued in
     let written : c.finish.new.self.entries ≡ set es c.args.place (completed_entry e x) = set_read es _ c.args.place e (λ f. completed_entry f x) read (ap (λ (f : Flight). f.entries) c.finish.ensures) in
-    let held = other_holds es c.args.place e read x c.finish.new.self.entries stage written c.self.inside.queue (sym c.is_store-stores.ensures ∙ c.if-stores.false) c.self.invariant.1 c.self.invariant.2 in
-    (c.self.invariant.0, held.loads, held.stores)
+    let held = other_holds es c.args.place e read x c.finish.new.self.entries stage written c.self.inside.queue (sym c.is_store.ensures ∙ c.if-is_store.false) c.self.invariant.1 c.self.invariant.2 in
+    let here = get_or_from_slice_get es c.args.place e no_entry read in
+    let end = end_finished c.self.inside.pc _ _ _ es c.finish.new.self.entries c.args.place (completed_entry e x) c.self.invariant.3 (slice_get_within es c.args.place e read) written (ap (λ (f : Entry). f.operation) (sym here)) c.fetch_pc_after-self-inside.ensures.last c.fetch_pc_after-self-inside.ensures.before in
+    (c.self.invariant.0, held.loads, held.stores, end)
 
 pub returns-clause-cut : goal.returns-clause-cut
 returns-clause-cut g c =

@@ -1,14 +1,16 @@
-use Rattle.std.proofs.Common.{◌≡◌, ◌<◌, List, Some, slice_get, get_or, length, ap, sym, subst, ◌∙◌}
+use Rattle.std.proofs.Common.{◌≡◌, ◌<◌, List, Some, slice_get, get_or, length, ap, sym, refl, subst, ◌∙◌}
 use Rattle.std.proofs.lemmas.Option.{slice_get-get_or}
 use Rattle.flight.specs.Flights.{Flight, execution_of}
 use Rattle.core_view.specs.declared.entry.Entry.{Entry}
 use Rattle.core_view.specs.declared.entry.Stage.TheVariants.{Issued}
 use Rattle.core_view.specs.Outcomes.{image_of}
 use Rattle.core_view.specs.Flight.{seen_of, IsSound}
+use Rattle.core_view.specs.Events.{completed_entry}
 use Rattle.core_view.specs.View.{no_entry, entry_at}
 use Rattle.core_context.specs.Track.{Track, cut_stamp}
 use Rattle.core_context.proofs.QueueSlots.{other_holds}
 use Rattle.core_context.proofs.Tracks.{cut_kept, followed_right, writes_none}
+use Rattle.core_context.proofs.Ends.{end_set, followed_still}
 use Rattle.core_context.proofs.track.Track.finish_plain.Goals as goal
 
 -- ---- it wasn't plain
@@ -28,7 +30,8 @@ invariant_of-self-2 g c =
     let issued : e.stage ≡ Issued x = rw (← c.self.view_is) at c.requires.issued in
     let read : slice_get es i ≡ Some e = slice_get-get_or es i no_entry within in
     let held = other_holds es i e read x c.finish_plain.new.self.entries issued (ap (λ (f : Flight). f.entries) c.in_ok-finished.ensures.done) c.self.inside.queue c.in_ok-finished.ensures.plain.store c.self.invariant.1 c.self.invariant.2 in
-    (c.self.invariant.0, held.loads, held.stores)
+    let end = end_set c.self.inside.pc _ _ es _ i (completed_entry e x) c.self.invariant.3 (ap (λ (f : Flight). f.entries) c.in_ok-finished.ensures.done) (followed_still e.followed x.outcome c.in_ok-finished.ensures.plain.followed) refl in
+    (c.self.invariant.0, held.loads, held.stores, end)
 
 pub returns-clause-kept : goal.returns-clause-kept
 returns-clause-kept g c =

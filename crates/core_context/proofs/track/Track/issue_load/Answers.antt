@@ -13,6 +13,7 @@ use Rattle.core_view.specs.View.{no_entry}
 use Rattle.load_store_queue.specs.Queues.{Queues, with_span}
 use Rattle.core_context.proofs.Tracks.{set_read}
 use Rattle.core_context.proofs.QueueSlots.{loads_issue, stores_issue}
+use Rattle.core_context.proofs.Ends.{end_set}
 use Rattle.core_context.proofs.track.Track.issue_load.Goals as goal
 
 pub invariant_of-self : goal.invariant_of-self
@@ -33,6 +34,7 @@ invariant_of-self g c =
       loads ∙ ap (λ (qs : List LoadSlot). map (with_span c.unwrap.result.now.stamp (span_in c.args.execution.outcome)) qs) c.self.invariant.1
           ∙ sym (loads_issue c.self.inside.flight.entries c.args.place c.unwrap.result.now read c.args.execution stage load growing) ∙ sym (ap (λ (es : List Entry). loads_of es) items),
       stores ∙ c.self.invariant.2 ∙ sym (stores_issue c.self.inside.flight.entries c.args.place c.unwrap.result.now read c.args.execution stage) ∙ sym (ap (λ (es : List Entry). stores_of es) items),
+      end_set c.self.inside.pc _ _ c.self.inside.flight.entries _ c.args.place (with_stage c.unwrap.result.now (Issued c.args.execution)) c.self.invariant.3 items (ap (λ (f : Entry). f.followed) (sym here)) (ap (λ (f : Entry). f.operation) (sym here)),
     )
 
 pub returns : goal.returns

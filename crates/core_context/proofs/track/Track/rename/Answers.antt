@@ -11,6 +11,7 @@ use Rattle.load_store_queue.specs.Queues.{Queues}
 use Rattle.data_flow.proofs.Renames.{push_is}
 use Rattle.core_context.proofs.Tracks.{set_read}
 use Rattle.core_context.proofs.QueueSlots.{load_only, loads_rename, loads_rename_other, loads_older, stores_rename, stores_rename_other, stores_older}
+use Rattle.core_context.proofs.Ends.{end_set}
 use Rattle.core_context.proofs.track.Track.rename.Goals as goal
 
 pub place_load-placed-requires : goal.place_load-placed-requires
@@ -28,6 +29,7 @@ place_store-placed-requires g c =
 pub invariant_of-self : goal.invariant_of-self
 invariant_of-self g c =
     let read : slice_get c.self.inside.flight.entries c.self.inside.flight.renamed ≡ Some c.unwrap.result.now = search rules in
+    let here = get_or_from_slice_get c.self.inside.flight.entries c.self.inside.flight.renamed c.unwrap.result.now no_entry read in
     let fetched = rw (← c.self.view_is) at c.requires.fetched in
     let room = rw (← c.self.view_is, get_or_from_slice_get c.self.inside.flight.entries c.self.inside.flight.renamed c.unwrap.result.now no_entry read, ← c.self.invariant.1) at c.requires.load in
     let load : is_load c.unwrap.result.now.operation ≡ true = sym c.is_load.ensures ∙ c.if-is_load.true in
@@ -39,11 +41,13 @@ invariant_of-self g c =
       ap (λ (q : Queues). q.loads) placed ∙ ap (λ (qs : List LoadSlot). qs ++ record { stamp = c.unwrap.result.now.stamp; span = None } ∷ []) c.self.invariant.1
           ∙ sym (loads_rename c.self.inside.flight.entries c.self.inside.flight.renamed c.unwrap.result.now read c.args.cycle load fetched) ∙ sym (ap (λ (es : List Entry). loads_of es) items),
       ap (λ (q : Queues). q.stores) placed ∙ c.self.invariant.2 ∙ sym (stores_rename_other c.self.inside.flight.entries c.self.inside.flight.renamed c.unwrap.result.now read c.args.cycle (load_only c.unwrap.result.now.operation load)) ∙ sym (ap (λ (es : List Entry). stores_of es) items),
+      end_set c.self.inside.pc _ _ c.self.inside.flight.entries _ c.self.inside.flight.renamed _ c.self.invariant.3 items (ap (λ (f : Entry). f.followed) (sym here)) (ap (λ (f : Entry). f.operation) (sym here)),
     )
 
 pub invariant_of-self-then-is_store : goal.invariant_of-self-then-is_store
 invariant_of-self-then-is_store g c =
     let read : slice_get c.self.inside.flight.entries c.self.inside.flight.renamed ≡ Some c.unwrap.result.now = search rules in
+    let here = get_or_from_slice_get c.self.inside.flight.entries c.self.inside.flight.renamed c.unwrap.result.now no_entry read in
     let fetched = rw (← c.self.view_is) at c.requires.fetched in
     let room = rw (← c.self.view_is, get_or_from_slice_get c.self.inside.flight.entries c.self.inside.flight.renamed c.unwrap.result.now no_entry read, ← c.self.invariant.2) at c.requires.store in
     let other : is_load c.unwrap.result.now.operation ≡ false = sym c.is_load.ensures ∙ c.if-is_load.false in
@@ -56,11 +60,13 @@ invariant_of-self-then-is_store g c =
       ap (λ (q : Queues). q.loads) placed ∙ c.self.invariant.1 ∙ sym (loads_rename_other c.self.inside.flight.entries c.self.inside.flight.renamed c.unwrap.result.now read c.args.cycle other) ∙ sym (ap (λ (es : List Entry). loads_of es) items),
       ap (λ (q : Queues). q.stores) placed ∙ ap (λ (qs : List StoreSlot). qs ++ record { stamp = c.unwrap.result.now.stamp; bytes = None } ∷ []) c.self.invariant.2
           ∙ sym (stores_rename c.self.inside.flight.entries c.self.inside.flight.renamed c.unwrap.result.now read c.args.cycle store fetched) ∙ sym (ap (λ (es : List Entry). stores_of es) items),
+      end_set c.self.inside.pc _ _ c.self.inside.flight.entries _ c.self.inside.flight.renamed _ c.self.invariant.3 items (ap (λ (f : Entry). f.followed) (sym here)) (ap (λ (f : Entry). f.operation) (sym here)),
     )
 
 pub invariant_of-self-else-is_store : goal.invariant_of-self-else-is_store
 invariant_of-self-else-is_store g c =
     let read : slice_get c.self.inside.flight.entries c.self.inside.flight.renamed ≡ Some c.unwrap.result.now = search rules in
+    let here = get_or_from_slice_get c.self.inside.flight.entries c.self.inside.flight.renamed c.unwrap.result.now no_entry read in
     let no_load : is_load c.unwrap.result.now.operation ≡ false = sym c.is_load.ensures ∙ c.if-is_load.false in
     let no_store : is_store c.unwrap.result.now.operation ≡ false = sym c.is_store.ensures ∙ c.if-is_store.false in
     let items : c.rename.new.self.entries ≡ set c.self.inside.flight.entries c.self.inside.flight.renamed (with_stage c.unwrap.result.now (renamed_stage c.args.cycle c.unwrap.result.now.operation)) =
@@ -68,6 +74,7 @@ invariant_of-self-else-is_store g c =
       c.self.invariant.0,
       c.self.invariant.1 ∙ sym (loads_rename_other c.self.inside.flight.entries c.self.inside.flight.renamed c.unwrap.result.now read c.args.cycle no_load) ∙ sym (ap (λ (es : List Entry). loads_of es) items),
       c.self.invariant.2 ∙ sym (stores_rename_other c.self.inside.flight.entries c.self.inside.flight.renamed c.unwrap.result.now read c.args.cycle no_store) ∙ sym (ap (λ (es : List Entry). stores_of es) items),
+      end_set c.self.inside.pc _ _ c.self.inside.flight.entries _ c.self.inside.flight.renamed _ c.self.invariant.3 items (ap (λ (f : Entry). f.followed) (sym here)) (ap (λ (f : Entry). f.operation) (sym here)),
     )
 
 pub returns-then-is_load : goal.returns-then-is_load
