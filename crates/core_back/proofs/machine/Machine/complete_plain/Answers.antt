@@ -3,7 +3,7 @@ use Rattle.core_view.specs.View.{Context, entry_at}
 use Rattle.core_view.specs.Events.{complete_event}
 use Rattle.flight.specs.Flights.{execution_of, is_due, NoneFrom}
 use Rattle.core_context.specs.Track.{Track}
-use Rattle.core_back.specs.Machine.{Machine, context_at}
+use Rattle.core_back.specs.Machine.{context_at}
 use Rattle.core_back.proofs.Machines.{at_context, is_idle, machine_after_event, shown_after, shown_same, shown_there, shown_length}
 use Rattle.core_back.proofs.Options.{some_of}
 use Rattle.core_back.proofs.machine.Machine.complete_plain.Goals as goal
