@@ -3,6 +3,7 @@ use Rattle.std.proofs.Common.{◌≡◌, ◌≢◌, ℕ, ◌+◌, ◌<◌, ◌�
 use mir.Val.{bool_byte}
 use Rattle.std.specs.Prelude.{IsSome}
 use Rattle.std.specs.Int.{bit_at}
+use Rattle.std.proofs.lemmas.Nat.Bits.{bit_at-zero, same_from_bits_below}
 use Rattle.fetch_policy.specs.Lawful.{turn}
 use Rattle.core_context.specs.Heads.{first_done}
 use Rattle.core_back.specs.Machine.{Machine, context_at}
@@ -30,6 +31,20 @@ pub left_small : (m : Machine) (word t : ℕ) → AreLeft m word t → t < 64 �
 left_small m word t h within = elim (lt-or t 8) [
   | inl low ↦ low
   | inr high ↦ absurd (no-one (sym (h.here within) ∙ h.eight t high within))
+]
+
+-- there is one where the word isn't 0
+pub left_within : (m : Machine) (word t : ℕ) → AreLeft m word t → word < 18446744073709551616 → word ≢ 0 → t < 64
+left_within m word t h fits some = elim (lt-or t 64) [
+  | inl low ↦ low
+  | inr high ↦ absurd (some (same_from_bits_below 64 word 0 fits (omega arith) (λ i low. h.lowest i (omega (arith, low, high)) ∙ sym (bit_at-zero i))))
+]
+
+-- and none where it is
+pub left_over : (m : Machine) (word t : ℕ) → AreLeft m word t → word ≡ 0 → 64 ≤ t
+left_over m word t h none = elim (lt-or t 64) [
+  | inl low ↦ absurd (no-one (sym (h.here low) ∙ ap (λ w. bit_at w t) none ∙ bit_at-zero t))
+  | inr high ↦ high
 ]
 
 -- its context's oldest entry was done
