@@ -12,7 +12,8 @@ ghost use Rattle.core_back.specs.Machine.{Machine as MachineView, IsAlike, in_fl
 ghost use Rattle.core_back.specs.Turn.{IsInTurn, GoesOn, ended};
 
 use crate::machine::Machine;
-use bit_vector::{clear_where, next, push, turn_eight};
+use crate::turns::after_first;
+use bit_vector::{next, push, turn_eight};
 use branch_predict::Guess;
 use core_view::EntryId;
 use join_law::Ctx;
@@ -48,7 +49,7 @@ pub fn retire<A: Allocator, G: Guess, L: Listing<EntryId, 16>>(
         left = after.left;
         dropped = after.dropped;
         // A context that goes on is the next again.
-        waiting = clear_where(waiting, turn, !after.goes_on);
+        waiting = after_first(waiting, after.goes_on);
         turn = next(waiting, 0);
     }
     // `cycle` ensures that each context is live.

@@ -1,4 +1,4 @@
-use Rattle.std.proofs.Common.{◌≡◌, ℕ, ◌+◌, ◌<◌, ◌≤◌, Bool, not, ap, sym, ◌∙◌, refl, length, arith}
+use Rattle.std.proofs.Common.{◌≡◌, ◌≢◌, ℕ, ◌+◌, ◌<◌, ◌≤◌, Bool, false, not, ap, sym, ◌∙◌, refl, length, arith}
 use mir.Val.{bool_byte}
 use Rattle.std.specs.Int.{bit_at}
 use Rattle.core_profile.specs.declared.profile.Profile.{Profile}
@@ -67,13 +67,14 @@ loop-waiting-preserved g c =
     let u : ℕ = c.next-turn-in-loop-waiting.result in
     let within : t < 64 = left_within m c.loop-waiting.waiting t h.waiting h.fits c.loop-waiting-test.true in
     let small : t < 8 = left_small m c.loop-waiting.waiting t h.waiting within in
-    let lowest : (i : ℕ) → i < u → bit_at c.clear_where-waiting.result i ≡ 0 = λ i below. c.next-turn-in-loop-waiting.ensures.clear i (omega arith) below in
-    let waits : AreLeft m c.clear_where-waiting.result u = left_next m c.loop-waiting.waiting c.clear_where-waiting.result t u on h.waiting within c.clear_where-waiting.ensures.kept c.clear_where-waiting.ensures.clear c.clear_where-waiting.ensures.others
+    let goes : on ≡ false → bit_at c.after_first-waiting.result t ≡ 0 = λ off. c.after_first-waiting.ensures.clear off t (h.waiting.here within) h.waiting.lowest in
+    let others : (i : ℕ) → i < 64 → i ≢ t → bit_at c.after_first-waiting.result i ≡ bit_at c.loop-waiting.waiting i = λ i low apart. c.after_first-waiting.ensures.others t (h.waiting.here within) h.waiting.lowest i apart in
+    let lowest : (i : ℕ) → i < u → bit_at c.after_first-waiting.result i ≡ 0 = λ i below. c.next-turn-in-loop-waiting.ensures.clear i (omega arith) below in
+    let waits : AreLeft m c.after_first-waiting.result u = left_next m c.loop-waiting.waiting c.after_first-waiting.result t u on h.waiting within c.after_first-waiting.ensures.kept goes others
     c.next-turn-in-loop-waiting.ensures.within lowest c.next-turn-in-loop-waiting.ensures.set in
-    let from : t + bool_byte (not on) ≤ u = left_from m c.loop-waiting.waiting c.clear_where-waiting.result t u on h.waiting within c.clear_where-waiting.ensures.kept c.clear_where-waiting.ensures.clear c.clear_where-waiting.ensures.others
+    let from : t + bool_byte (not on) ≤ u = left_from m c.loop-waiting.waiting c.after_first-waiting.result t u on h.waiting within c.after_first-waiting.ensures.kept goes others
     c.next-turn-in-loop-waiting.ensures.within lowest c.next-turn-in-loop-waiting.ensures.set in
-    let between : (i : ℕ) → t + bool_byte (not on) ≤ i → i < u → bit_at c.loop-waiting.waiting i ≡ 0 = left_between m c.loop-waiting.waiting c.clear_where-waiting.result t u on h.waiting within c.clear_where-waiting.ensures.kept c.clear_where-waiting.ensures.clear
-    c.clear_where-waiting.ensures.others c.next-turn-in-loop-waiting.ensures.within lowest c.next-turn-in-loop-waiting.ensures.set in
+    let between : (i : ℕ) → t + bool_byte (not on) ≤ i → i < u → bit_at c.loop-waiting.waiting i ≡ 0 = left_between m c.loop-waiting.waiting c.after_first-waiting.result t u on h.waiting within c.after_first-waiting.ensures.kept goes others c.next-turn-in-loop-waiting.ensures.within lowest c.next-turn-in-loop-waiting.ensures.set in
     let at : turn_of m.view.cycle c.context_in_turn-context.result ≡ t = ap (λ k. turn_of k c.context_in_turn-context.result) (sym h.first) ∙ c.context_in_turn-context.ensures.turn in
     record {
       alike = alike_chain m c.loop-waiting.machine c.retire_oldest-after.new.machine h.alike c.retire_oldest-after.ensures.alike;
@@ -84,7 +85,7 @@ loop-waiting-preserved g c =
       turns = goes_to m.view.profile.retire_width m h.live c.loop-waiting.machine c.retire_oldest-after.new.machine t c.context_in_turn-context.result c.loop-waiting.left c.retire_oldest-after.result.left (g.L.Listing.items c.loop-waiting.retired) (g.L.Listing.items c.retire_oldest-after.new.retired)
           (h.turns.in_turn small) c.context_in_turn-context.ensures.small at c.loop-waiting.waiting u (bool_byte (not on)) on refl small
           (h.waiting.here within) from between h.waiting.none
-          (λ low d ld is. left_done m c.clear_where-waiting.result u d waits (omega (arith, low)) ld is) c.retire_oldest-after.ensures.more
+          (λ low d ld is. left_done m c.after_first-waiting.result u d waits (omega (arith, low)) ld is) c.retire_oldest-after.ensures.more
           (λ b k room old live so_far. c.retire_oldest-after.ensures.turn (start m.origin c.context_in_turn-context.result) m.view.stamp b k room old live so_far);
       live = h.live;
       first = h.first;
