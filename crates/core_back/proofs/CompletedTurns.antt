@@ -1,5 +1,5 @@
 -- Turn by turn, the entries of all contexts that are due complete.
-use Rattle.std.proofs.Common.{◌≡◌, ◌≢◌, ℕ, zero, suc, ◌+◌, ◌*◌, ◌<◌, ◌≤◌, Bool, true, false, cond, List, [], ◌∷◌, length, get_or, map, refl, sym, ap, subst, ◌∙◌, arith, inl, inr}
+use Rattle.std.proofs.Common.{◌≡◌, ◌≢◌, ℕ, zero, suc, ◌+◌, ◌-◌, ◌*◌, ◌<◌, ◌≤◌, Bool, true, false, cond, List, [], ◌∷◌, length, get_or, map, refl, sym, ap, subst, ◌∙◌, arith, inl, inr}
 use Rattle.std.specs.Prelude.{set, take, sum_by, is_some, ◌==◌, not, ◌&&◌, if◌then◌else◌}
 use Rattle.std.proofs.lemmas.Bool.{cases_eq, eq-eqb, eqb-true, ne_eqb}
 use Rattle.std.proofs.lemmas.List.{ext_get_or, get_or-set_other, get_or-set_same, length-map, length-set, length-take}
@@ -9,6 +9,7 @@ use Rattle.word_mask.specs.Mask.{has}
 use Rattle.core_view.specs.Events.{with_flight, due_at, completed_at}
 use Rattle.core_view.specs.View.{Context}
 use Rattle.flight.specs.Flights.{is_due, NoneFrom}
+use Rattle.core_back.specs.declared.completing.Completed.{Completed}
 use Rattle.core_back.specs.Machine.{Machine, no_context, context_at, in_flight, with_context, with_contexts, completed_context}
 use Rattle.core_back.specs.Coming.{number_of}
 use Rattle.core_back.specs.Completing.{IsTurn}
@@ -16,14 +17,22 @@ use Rattle.core_back.proofs.CompletedCount.{sum_to, map_at}
 use Rattle.core_back.proofs.DuePlaces.{none_due, none_comes}
 use Rattle.core_back.proofs.InFlight.{in_flight-with_context}
 
--- a bit that a word has is as told, where the word is made without it unless told so
-pub word_told : (left next c : ℕ) (b : Bool) → has left c ≡ true → ((p : ℕ) → has next p ≡ (if (p == c) && not b then false else has left p)) → (p : ℕ) → has next p ≡ (if p == c then b else has left p)
-word_told left next c b here word p = word p ∙ by_place (p == c) refl b
+-- a bit that a word has goes where told so, and is left else
+pub word_told : (left next c : ℕ) (last : Bool) → has left c ≡ true → ((p : ℕ) → has next p ≡ (if (p == c) && last then false else has left p)) → (p : ℕ) → has next p ≡ (if p == c then not last else has left p)
+word_told left next c last here word p = word p ∙ by_place (p == c) refl last
   where
-    by_place : (t : Bool) → (p == c) ≡ t → (b : Bool) → (if t && not b then false else has left p) ≡ (if t then b else has left p)
-    by_place false is b = refl
-    by_place true is false = refl
-    by_place true is true = ap (has left) (eqb-true p c is) ∙ here
+    by_place : (t : Bool) → (p == c) ≡ t → (last : Bool) → (if t && last then false else has left p) ≡ (if t then not last else has left p)
+    by_place false is last = refl
+    by_place true is true = refl
+    by_place true is false = ap (has left) (eqb-true p c is) ∙ here
+
+pub not_last : (last : Bool) → not last ≡ true → last ≡ false
+not_last true h = sym h
+not_last false h = refl
+
+pub is_last : (last : Bool) → not last ≡ false → last ≡ true
+is_last true h = refl
+is_last false h = sym h
 
 -- ---- sums
 
@@ -177,10 +186,11 @@ module _ (first m n : Machine) (left next c completed cut one more : ℕ) (b : B
       by_more true more counted sums before after = let one_more = more refl in omega (arith, one_more, counted, sums, before, after)
       by_more false more counted sums before after = omega (arith, counted, sums, before, after)
 
--- what was squashed was in flight
-pub turned_cut : (first m n : Machine) (left c completed cut one more : ℕ) → IsTurned first m left completed cut → IsTurn m n c one more → c < 8 → cut + more ≤ in_flight first
-turned_cut first m n left c completed cut one more h turn lt =
-    let lost = in_flight-with_context m n c (with_flight (context_at m c) (context_at n c).flight) more turn.others (omega (arith, lt, h.count)) turn.fewer in omega (arith, h.fewer, lost)
+-- of a turn, what was squashed up to its end less what was squashed before it
+pub counted_turn : (m n : Machine) (c cut : ℕ) (turn result : Completed) → result ≡ record turn { cut = cut + turn.cut } → IsTurn m n c turn.completed turn.cut → IsTurn m n c result.completed (result.cut - cut)
+counted_turn m n c cut turn result is h =
+    let rest : turn.cut ≡ cut + turn.cut - cut = omega arith in
+    subst (λ (r : Completed). IsTurn m n c r.completed (r.cut - cut)) (sym is) (subst (IsTurn m n c turn.completed) rest h)
 
 -- nothing is due after a turn that completes none, or where the words say so
 pub none_left : (m n : Machine) (c one more : ℕ) → IsTurn m n c one more → (0 < one → NoneFrom (is_due n.view.cycle) (context_at n c).flight 0) → NoneFrom (is_due m.view.cycle) (context_at n c).flight 0

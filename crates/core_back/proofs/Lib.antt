@@ -1,4 +1,5 @@
 pub mod FinalMarks
+pub mod FirstBits
 pub mod InFlight
 pub mod MachineIssues
 pub mod Machines

@@ -200,7 +200,7 @@ module _ (width : ℕ) (m : Machine) (live : AllLive m) (n p : Machine) (t c lef
       (leaves width m live n p t c left less ids new here lc at (more here.before here.number here.room here.old (live_here width m live n p t c left less ids new here lc at) (here.so_far c lc at)))
 
 -- what was dropped is bounded by what is left
-pub turn_bound : (on : Bool) (dropped cut left less t bit u : ℕ) → dropped + left * 80 ≤ 1280 + t * 80 → cut ≤ 80 → less ≤ left → (on ≡ true → less + 1 ≡ left) → bit ≡ bool_byte (not on) → t + bit ≤ u
-    → dropped + cut + less * 80 ≤ 1280 + u * 80
-turn_bound true dropped cut left less t bit u before most fewer one is from = let less_one : less + 1 ≡ left = one refl in omega (arith, before, most, less_one, from)
-turn_bound false dropped cut left less t bit u before most fewer one is from = omega (arith, before, most, fewer, is, from)
+pub turn_bound : (on : Bool) (dropped now left less t bit u : ℕ) → dropped + left * 80 ≤ 1280 + t * 80 → now ≤ dropped + 80 → less ≤ left → (on ≡ true → less + 1 ≡ left) → bit ≡ bool_byte (not on) → t + bit ≤ u
+    → now + less * 80 ≤ 1280 + u * 80
+turn_bound true dropped now left less t bit u before most fewer one is from = let less_one : less + 1 ≡ left = one refl in omega (arith, before, most, less_one, from)
+turn_bound false dropped now left less t bit u before most fewer one is from = omega (arith, before, most, fewer, is, from)

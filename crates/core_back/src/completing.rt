@@ -1,6 +1,6 @@
 //! The part of a cycle in which entries complete.
 
-ghost use Rattle.std.specs.Prelude.{◌≡◌, ℕ, ◌+◌, ◌<◌, ◌≤◌, true, false, [], map, IsTrue};
+ghost use Rattle.std.specs.Prelude.{◌≡◌, ℕ, ◌+◌, ◌-◌, ◌<◌, ◌≤◌, true, false, [], map, IsTrue};
 ghost use Rattle.flight.specs.Flights.{is_due, NoneFrom, IsNext};
 ghost use Rattle.lawful_cycle.specs.Complete.{IsComplete};
 ghost use Rattle.word_mask.specs.Mask.{has};
@@ -39,10 +39,10 @@ pub fn complete<A: Allocator>(machine: &mut Machine<A>) -> Completion
     let mut left = hinted(machine);
     while left != 0 {
         let context = first_context(left);
-        let turn = complete_next(machine, context);
+        let turn = complete_next(machine, context, cut);
         completed += turn.completed;
-        cut += turn.cut;
-        left = word_mask::removed(left, context.index(), !turn.more);
+        cut = turn.cut;
+        left = word_mask::removed(left, context.index(), turn.last);
     }
     Completion { completed, cut }
 }
@@ -79,35 +79,53 @@ fn may_have_more<A: Allocator>(machine: &Machine<A>, context: Ctx, completed: us
     completed != 0 && machine.may_be_due(context)
 }
 
-/// What a turn did, and whether one more entry of its context may be due.
+/// What a turn did, and whether no other entry of its context is due.
 #[derive(Clone, Copy)]
 pub struct Completed {
     /// How many entries completed: one, or none.
     pub completed: usize,
     /// How many were squashed.
     pub cut: usize,
-    /// Whether the context has another turn.
-    pub more: bool,
+    /// Whether the context has no other turn.
+    pub last: bool,
 }
 
-/// The oldest entry of a context that is due completes, if there is one.
+/// The oldest entry of a context that is due completes, if there is one. Counts what is squashed together with what was
+/// squashed before, so that a completion which squashes nothing leaves the count alone.
 #[inline(always)]
-fn complete_next<A: Allocator>(machine: &mut Machine<A>, context: Ctx) -> Completed
+fn complete_next<A: Allocator>(machine: &mut Machine<A>, context: Ctx, cut: usize) -> Completed
     requires idle { machine.old.names ≡ [] }
-    ensures turn { IsTurn machine.old machine.new context result.completed result.cut }
-    ensures more { IsTrue result.more → 0 < result.completed }
-    ensures none { result.more ≡ false → 0 < result.completed → NoneFrom (is_due machine.new.view.cycle) (context_at machine.new context).flight 0 }
+    requires few { cut ≤ 640 }
+    ensures turn { IsTurn machine.old machine.new context result.completed (result.cut - cut) }
+    ensures counted { cut ≤ result.cut }
+    ensures more { result.last ≡ false → 0 < result.completed }
+    ensures none { IsTrue result.last → 0 < result.completed → NoneFrom (is_due machine.new.view.cycle) (context_at machine.new context).flight 0 }
 {
     let Some(place) = machine.first_due(context) else {
-        return search_turn(machine, context);
+        let turn = search_turn(machine, context);
+        return counted(turn, cut);
     };
     let Some(more) = machine.complete_plain(context, place) else {
-        return complete_other(machine, context, place);
+        let turn = complete_other(machine, context, place);
+        return counted(turn, cut);
     };
     Completed {
         completed: 1,
-        cut: 0,
-        more,
+        cut,
+        last: !more,
+    }
+}
+
+/// A turn, with what was squashed before it.
+#[inline(always)]
+fn counted(turn: Completed, cut: usize) -> Completed
+    requires few { cut + turn.cut ≤ 720 }
+    ensures { result ≡ record turn { cut = cut + turn.cut } }
+{
+    Completed {
+        completed: turn.completed,
+        cut: cut + turn.cut,
+        last: turn.last,
     }
 }
 
@@ -117,14 +135,17 @@ fn complete_other<A: Allocator>(machine: &mut Machine<A>, context: Ctx, place: u
     requires idle { machine.old.names ≡ [] }
     requires next { IsNext (is_due machine.old.view.cycle) (context_at machine.old context).flight 0 place }
     ensures turn { IsTurn machine.old machine.new context result.completed result.cut }
+    ensures bound { result.cut ≤ 80 }
     ensures more { 0 < result.completed }
-    ensures none { result.more ≡ false → NoneFrom (is_due machine.new.view.cycle) (context_at machine.new context).flight 0 }
+    ensures none { IsTrue result.last → NoneFrom (is_due machine.new.view.cycle) (context_at machine.new context).flight 0 }
 {
+    // How many there are bounds how many are squashed.
+    let _len = machine.len(context);
     let cut = machine.complete(context, place);
     Completed {
         completed: 1,
         cut,
-        more: machine.may_be_due(context),
+        last: !machine.may_be_due(context),
     }
 }
 
@@ -133,15 +154,18 @@ fn complete_other<A: Allocator>(machine: &mut Machine<A>, context: Ctx, place: u
 fn search_turn<A: Allocator>(machine: &mut Machine<A>, context: Ctx) -> Completed
     requires idle { machine.old.names ≡ [] }
     ensures turn { IsTurn machine.old machine.new context result.completed result.cut }
-    ensures more { IsTrue result.more → 0 < result.completed }
-    ensures none { result.more ≡ false → 0 < result.completed → NoneFrom (is_due machine.new.view.cycle) (context_at machine.new context).flight 0 }
+    ensures bound { result.cut ≤ 80 }
+    ensures more { result.last ≡ false → 0 < result.completed }
+    ensures none { IsTrue result.last → 0 < result.completed → NoneFrom (is_due machine.new.view.cycle) (context_at machine.new context).flight 0 }
 {
+    // How many there are bounds how many are squashed.
+    let _len = machine.len(context);
     let done = complete_found(machine, context);
     let more = may_have_more(machine, context, done.completed);
     Completed {
         completed: done.completed,
         cut: done.cut,
-        more,
+        last: !more,
     }
 }
 

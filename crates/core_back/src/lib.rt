@@ -8,6 +8,7 @@ mod issuing;
 mod machine;
 mod retiring;
 mod selection;
+mod turns;
 
 pub use completing::{Completion, complete};
 pub use issuing::issue;

@@ -446,7 +446,7 @@ impl<A: Allocator> Machine<A> {
         ensures alike { IsAlike self.old self.new }
         ensures idle { self.new.names ≡ [] }
     {
-        while renamed.len() < width {
+        for _turn in renamed.len()..width {
             let Some(stamp) = self.try_rename(context, limit) else {
                 return;
             };

@@ -12,7 +12,8 @@ ghost use Rattle.core_back.specs.Machine.{Machine as MachineView, IsAlike, in_fl
 ghost use Rattle.core_back.specs.Turn.{IsInTurn, GoesOn, ended};
 
 use crate::machine::Machine;
-use bit_vector::{clear_where, next, push, turn_eight};
+use crate::turns::after_first;
+use bit_vector::{next, push, turn_eight};
 use branch_predict::Guess;
 use core_view::EntryId;
 use join_law::Ctx;
@@ -42,13 +43,13 @@ pub fn retire<A: Allocator, G: Guess, L: Listing<EntryId, 16>>(
     let mut left = usize::from(machine.profile().retire_width);
     let mut dropped = 0;
     let mut turn = next(waiting, 0);
-    while turn < 64 {
+    while waiting != 0 {
         let context = context_in_turn(first, turn);
-        let after = retire_oldest(machine, guess, context, left, retired);
+        let after = retire_oldest(machine, guess, context, left, dropped, retired);
         left = after.left;
-        dropped += after.dropped;
+        dropped = after.dropped;
         // A context that goes on is the next again.
-        waiting = clear_where(waiting, turn, !after.goes_on);
+        waiting = after_first(waiting, after.goes_on);
         turn = next(waiting, 0);
     }
     // `cycle` ensures that each context is live.
@@ -72,8 +73,8 @@ fn done_in_turn<A: Allocator>(machine: &Machine<A>, cycle: u64) -> u64
     turn_eight(word, (cycle % 8) as usize)
 }
 
-/// What is left of the width once the oldest entry of a context had its turn, how many entries were dropped, and whether
-/// the next one of the context has its turn then.
+/// What is left of the width once the oldest entry of a context had its turn, how many entries were dropped so far, and
+/// whether the next one of the context has its turn then.
 #[derive(Clone, Copy)]
 struct Turn {
     left: usize,
@@ -98,11 +99,13 @@ fn retire_oldest<A: Allocator, G: Guess, L: Listing<EntryId, 16>>(
     guess: &mut G,
     context: Ctx,
     left: usize,
+    dropped: usize,
     retired: &mut L,
 ) -> Turn
     requires idle { machine.old.names ≡ [] }
     requires done { IsSome (first_done (context_at machine.old context).flight) }
     requires room { length (L.items retired.old) + left ≤ 16 }
+    requires few { dropped ≤ 6400 }
     ensures alike { IsAlike machine.old machine.new }
     ensures idle { machine.new.names ≡ [] }
     ensures width { length (L.items retired.new) + result.left ≤ 16 }
@@ -112,20 +115,21 @@ fn retire_oldest<A: Allocator, G: Guess, L: Listing<EntryId, 16>>(
     ensures fewer { result.left ≤ left }
     ensures one_fewer { IsTrue result.goes_on → result.left + 1 ≡ left }
     ensures keeps { G.may_answer guess.new ≡ G.may_answer guess.old }
-    ensures dropped { result.dropped + length (L.items retired.new) + in_flight machine.new ≡ length (L.items retired.old) + in_flight machine.old }
-    ensures bound { result.dropped ≤ 80 }
+    ensures dropped { result.dropped + length (L.items retired.new) + in_flight machine.new ≡ dropped + length (L.items retired.old) + in_flight machine.old }
+    ensures bound { result.dropped ≤ dropped + 80 }
 {
     if left == 0 {
         let stopped = stop_done(machine, context);
         return Turn {
             left,
-            dropped: stopped,
+            dropped: with_dropped(dropped, stopped),
             goes_on: false,
         };
     }
     match machine.head_stop(context) {
         None => {
             let gone = machine.retire(guess, context);
+            let dropped = with_dropped(dropped, gone.dropped);
             let goes_on = machine.is_head_done(context);
             retired.push(EntryId {
                 context,
@@ -133,7 +137,7 @@ fn retire_oldest<A: Allocator, G: Guess, L: Listing<EntryId, 16>>(
             });
             Turn {
                 left: left - 1,
-                dropped: gone.dropped,
+                dropped,
                 goes_on,
             }
         }
@@ -141,11 +145,32 @@ fn retire_oldest<A: Allocator, G: Guess, L: Listing<EntryId, 16>>(
             let stopped = machine.stop(context, why);
             Turn {
                 left,
-                dropped: stopped,
+                dropped: with_dropped(dropped, stopped),
                 goes_on: false,
             }
         }
     }
+}
+
+/// How many entries were dropped, with so many more. Where a turn drops none, as nearly each does, the number is left alone.
+#[inline(always)]
+fn with_dropped(dropped: usize, more: usize) -> usize
+    requires { dropped + more ≤ 10880 }
+    ensures { result ≡ dropped + more }
+{
+    if more == 0 {
+        return dropped;
+    }
+    add_dropped(dropped, more)
+}
+
+/// The same, where a turn drops some.
+#[cold]
+fn add_dropped(dropped: usize, more: usize) -> usize
+    requires { dropped + more ≤ 10880 }
+    ensures { result ≡ dropped + more }
+{
+    dropped + more
 }
 
 /// A context whose oldest entry, which is done, is done with a stop is stopped. Returns how many entries are dropped.

@@ -1,6 +1,6 @@
 -- Loads that are held in the issue queue until they are clear.
 use Rattle.std.proofs.Common.{◌≡◌, ◌≢◌, ℕ, zero, suc, ◌+◌, ◌<◌, ◌≤◌, Bool, true, false, not, List, [], ◌∷◌, length, get_or, take, map, Option, Some, None, refl, sym, ap, subst, ◌∙◌, arith, inl, inr}
-use Rattle.std.specs.Prelude.{All, MatchOption, is_some, ◌||◌, ◌&&◌, ◌==◌, set, if◌then◌else◌}
+use Rattle.std.specs.Prelude.{All, ◌||◌, ◌&&◌, ◌==◌, set, if◌then◌else◌}
 use Rattle.std.proofs.lemmas.Bool.{and_parts, or_parts, eqb-true, cases_lt, true≢false}
 use Rattle.std.proofs.lemmas.List.Elements.{All-map, All-head, All-tail}
 use Rattle.hart_step.specs.declared.effect.Effect.{Effect}
@@ -14,7 +14,7 @@ use Rattle.core_view.specs.declared.entry.Execution.{Execution}
 use Rattle.core_view.specs.declared.entry.Stage.TheVariants.{Fetched, Queued, Issued}
 use Rattle.core_view.specs.declared.entry.Entry.{Entry}
 use Rattle.core_view.specs.Operations.{is_load}
-use Rattle.flight.specs.Flights.{NoneFrom, IsNext}
+use Rattle.flight.specs.Flights.{NoneFrom}
 use Rattle.flight.specs.Marked.{is_waiting_load}
 use Rattle.core_view.specs.Outcomes.{image_of}
 use Rattle.core_view.specs.Flight.{seen_of, IsGrowing, is_queued as is_waiting_stage}
@@ -236,16 +236,13 @@ held_all old f c t n holds h le i lt stage =
     rw lanes (h.held i (omega (arith, le, lt)) stage)
 
 -- where no load waits none has to wait for a store
-none_waiting_held : (t : Track) (found : Option ℕ) → MatchOption found (NoneFrom is_waiting_load t.context.flight 0) (λ place. IsNext is_waiting_load t.context.flight 0 place) → is_some found ≡ false → HoldsNone t
-none_waiting_held t None next is = λ f c answered let_go. held_all f f c t t.renamed false (held_skip f f c t 0 t.renamed false (held_first f c t let_go) (omega arith) (λ i from lt. next i from)) (omega arith)
-none_waiting_held t (Some place) next is = absurd (true≢false is)
+pub holds_no_load : (t : Track) → NoneFrom is_waiting_load t.context.flight 0 → HoldsNone t
+holds_no_load t next = λ f c answered let_go. held_all f f c t t.renamed false (held_skip f f c t 0 t.renamed false (held_first f c t let_go) (omega arith) (λ i from lt. next i from)) (omega arith)
 
 -- nor where no store is in the queue
-pub holds_none : (t : Track) (found : Option ℕ) (loads no_store : Bool) → MatchOption found (NoneFrom is_waiting_load t.context.flight 0) (λ place. IsNext is_waiting_load t.context.flight 0 place) → loads ≡ is_some found
-    → (no_store ≡ true → stores_of t.context.flight ≡ []) → (loads && not no_store) ≡ false → HoldsNone t
-holds_none t found true true next is stores h = λ f c answered let_go. none_stored_held f c t answered let_go (stores refl)
-holds_none t found true false next is stores h = absurd (true≢false h)
-holds_none t found false no_store next is stores h = none_waiting_held t found next (sym is)
+pub holds_no_store : (t : Track) (no_store : Bool) → (no_store ≡ true → stores_of t.context.flight ≡ []) → not no_store ≡ false → HoldsNone t
+holds_no_store t true stores h = λ f c answered let_go. none_stored_held f c t answered let_go (stores refl)
+holds_no_store t false stores h = absurd (true≢false h)
 
 -- of another context they are held still
 pub held_kept : (f g : Flow) (c : ℕ) (t : Track) → IsRemarked f g → ((k : ℕ) (b : Bool) → IsMarked f c k b → IsMarked g c k b) → AreHeld f c t → AreHeld g c t

@@ -529,8 +529,7 @@ pub fn release<A: Allocator>(flow: &mut DataFlow<A>, holds: bool)
 pub fn may_hold<A: Allocator>(track: &Track<A>) -> bool
     ensures { result ≡ false → HoldsNone track.now }
 {
-    let loads = track.next_queued_load(0).is_some();
-    loads & !track.has_no_store()
+    track.has_queued_load() && !track.has_no_store()
 }
 
 /// Tells the queue which loads of a context, which are all let go, have to wait for an older store. Returns whether one

@@ -332,6 +332,15 @@ impl<A: Allocator> Flight<A> {
         self.next_marked(self.marks.waiting_loads, from)
     }
 
+    /// Whether a renamed entry is a load that waits for issue.
+    #[inline(always)]
+    pub fn has_waiting_load(&self) -> bool
+        ensures value { result ≡ list_any is_waiting_load (take self.now.renamed self.now.entries) }
+        ensures none { result ≡ false → NoneFrom is_waiting_load self.now.entries 0 }
+    {
+        self.marks.waiting_loads != 0
+    }
+
     /// The first place from one on whose entry has its bit in a word.
     #[inline]
     fn next_marked(&self, word: u64, from: usize) -> Option<usize>

@@ -1,16 +1,17 @@
-use Rattle.std.proofs.Common.{◌≡◌, ◌+◌, ◌-◌, ◌*◌, ◌≤◌, [], length}
+use Rattle.std.proofs.Common.{◌≡◌, ◌+◌, ◌-◌, ◌*◌, ◌<◌, ◌≤◌, [], length}
 use Rattle.core_back.specs.Machine.{IsAlike, in_flight}
 use Rattle.core_back.proofs.RetireTurns.{AllLive}
 use Rattle.core_back.proofs.RetireSteps.{AtTurn}
 use Rattle.core_back.proofs.LeftTurns.{AreLeft}
 use Rattle.core_back.proofs.retiring.retire.Given as goal
 
-abbrev pub invariant-loop-turn : goal.invariant-loop-turn
-invariant-loop-turn g l = record {
+abbrev pub invariant-loop-waiting : goal.invariant-loop-waiting
+invariant-loop-waiting g l = record {
   alike : IsAlike l.fn.machine l.machine;
   idle : l.machine.names ≡ [];
   room : length (g.L.Listing.items l.retired) + l.left ≤ 16;
   waiting : AreLeft l.fn.machine l.waiting l.turn;
+  fits : l.waiting < 18446744073709551616;
   turns : AtTurn l.fn.machine.view.profile.retire_width l.turn l.fn.machine l.machine l.left (g.L.Listing.items l.retired);
   live : AllLive l.fn.machine;
   first : l.first ≡ l.fn.machine.view.cycle;
@@ -20,5 +21,5 @@ invariant-loop-turn g l = record {
   keeps : g.G.Guess.may_answer l.guess ≡ g.G.Guess.may_answer l.fn.guess;
 }
 
-abbrev pub decreases-loop-turn : goal.decreases-loop-turn
-decreases-loop-turn g l = l.left + (64 - l.turn)
+abbrev pub decreases-loop-waiting : goal.decreases-loop-waiting
+decreases-loop-waiting g l = l.left + (64 - l.turn)
