@@ -1,12 +1,12 @@
 -- What each call does to a bank and its buffer, in the terms of lanes.
-use Rattle.std.proofs.Common.{◌≡◌, ℕ, zero, suc, ◌-◌, ◌<◌, ◌≤◌, Bool, true, false, List, [], ◌∷◌, ◌++◌, length, get_or, take, drop, map, Option, Some, None, refl, sym, ap, subst, ◌∙◌, arith, length-append}
+use Rattle.std.proofs.Common.{◌≡◌, ℕ, zero, suc, ◌+◌, ◌-◌, ◌<◌, ◌≤◌, Bool, true, false, List, [], ◌∷◌, ◌++◌, length, get_or, take, drop, map, Option, Some, None, refl, sym, ap, subst, ◌∙◌, arith, length-append}
 use Rattle.std.specs.Prelude.{set, sum_by, slice_index, unwrap_or, IsSome, All, ◌==◌, if◌then◌else◌}
 use Rattle.std.proofs.lemmas.Bool.Decides.{nat_tests}
-use Rattle.std.proofs.lemmas.List.{map-set, map-append, get_or-set_same, append-nil, take_at}
+use Rattle.std.proofs.lemmas.List.{map-set, map-append, get_or-set_same, get_or_push, append-nil, take_at}
 use Rattle.std.proofs.lemmas.List.Elements.{All-head, All-tail}
 use Rattle.std.proofs.lemmas.List.Sums.{sum_by-cons, get_or-le-sum_by}
 use Rattle.rename_file.specs.declared.rename_map.Rename.{Rename}
-use Rattle.rename_file.specs.File.{Bank, no_bank, no_rename, IsRename, map_past, uses_in, at, renamed_bank, committed_bank, undone_bank, first}
+use Rattle.rename_file.specs.File.{Bank, no_bank, no_rename, IsRename, map_past, uses_in, at, renamed_bank, committed_bank, undone_bank, first, last}
 use Rattle.rename_file.proofs.Laws.{at_self}
 use Rattle.reorder_buffer.specs.Growing.{IsGrowing}
 use Rattle.circular_buffer.specs.Buffer.{Buffer, buffer}
@@ -208,18 +208,19 @@ commits cells b n rest capacity t =
       lane = rw (past.0, values_past cells b.committed (n.operands.destination == 0) n.operands.destination n.destination) refl;
     }
 
--- what committing asks: the oldest rename is there and has its value
-pub record IsCommittable (cells : List (Option ℕ)) (b : Bank) : Type 0 where
+-- what committing asks of a rename: it is the oldest, and has its value
+pub record IsCommittable (cells : List (Option ℕ)) (b : Bank) (r : Rename) : Type 0 where
   pub some : 0 < length b.renames
+  pub oldest : r ≡ first b
   pub ready : IsSome (cell_of cells (first b).register)
 
 pub committable : (cells : List (Option ℕ)) (b : Bank) (n : Renamed) (rest : List Renamed) (capacity : ℕ) → IsTied cells b (buffer (n ∷ rest) capacity) → (n.operands.destination == 0) ≡ false
-    → IsSome (node_of cells n).result → IsCommittable cells b
+    → IsSome (node_of cells n).result → IsCommittable cells b (record { rd = n.operands.destination; register = n.destination })
 committable cells b n rest capacity t has done =
     let e : b.renames ≡ record { rd = n.operands.destination; register = n.destination } ∷ renames_of rest = t.renames ∙ ap (λ none. renames_with none n.operands.destination n.destination (renames_of rest)) has in
     let is = first_is b n.operands.destination n.destination (renames_of rest) e in
     let done' : IsSome (cell_of cells n.destination) = subst (λ none. IsSome (if none then None else cell_of cells n.destination)) has done in
-    record { some = omega (arith, ap length e); ready = rw is done' }
+    record { some = omega (arith, ap length e); oldest = sym is; ready = rw is done' }
 
 -- ---- the youngest
 
@@ -253,9 +254,18 @@ undoes cells b n front capacity t growing =
       lane = rw (before.1, nodes, len, take_at (map (node_of cells) front) (node_of cells n ∷ []) (length (map (node_of cells) front)) refl) refl;
     }
 
--- what undoing asks: a rename is there
-pub undoable : (cells : List (Option ℕ)) (b : Bank) (n : Renamed) (front : List Renamed) (capacity : ℕ) → IsTied cells b (buffer (front ++ n ∷ []) capacity) → (n.operands.destination == 0) ≡ false → 0 < length b.renames
+-- what undoing asks of a rename: it is the newest
+pub record IsUndoable (b : Bank) (r : Rename) : Type 0 where
+  pub some : 0 < length b.renames
+  pub newest : r ≡ last b
+
+pub undoable : (cells : List (Option ℕ)) (b : Bank) (n : Renamed) (front : List Renamed) (capacity : ℕ) → IsTied cells b (buffer (front ++ n ∷ []) capacity) → (n.operands.destination == 0) ≡ false
+    → IsUndoable b (record { rd = n.operands.destination; register = n.destination })
 undoable cells b n front capacity t has =
-    let last : List Rename = renames_with (n.operands.destination == 0) n.operands.destination n.destination [] in
-    let one : length last ≡ 1 = ap (λ none. length (renames_with none n.operands.destination n.destination [])) has in
-    omega (arith, ap length t.renames, ap length (renames_push front n), length-append (renames_of front) last, one)
+    let r : Rename = record { rd = n.operands.destination; register = n.destination } in
+    let e : b.renames ≡ renames_of front ++ r ∷ [] = t.renames ∙ renames_push front n ∙ ap (λ none. renames_of front ++ renames_with none n.operands.destination n.destination []) has in
+    let len : length b.renames ≡ length (renames_of front) + 1 = ap length e ∙ length-append (renames_of front) (r ∷ []) in
+    record {
+      some = omega (arith, len);
+      newest = sym (ap (λ (rs : List Rename). get_or rs (length b.renames - 1) no_rename) e ∙ get_or_push (renames_of front) r no_rename (length b.renames - 1) (omega (arith, len)));
+    }

@@ -1,3 +1,4 @@
+pub mod Numbered
 pub mod Written
 pub mod Ties
 pub mod Places

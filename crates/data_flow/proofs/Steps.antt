@@ -7,6 +7,7 @@ use Rattle.std.proofs.lemmas.Bool.{eqb-true, eqb-false}
 use Rattle.std.proofs.lemmas.List.{length-set, set-get_or, take_more, take_all}
 use Rattle.std.proofs.lemmas.Option.{slice_get_within}
 use Rattle.std.proofs.lemmas.List.Sums.{get_or-le-sum_by}
+use Rattle.rename_file.specs.declared.rename_map.Rename.{Rename}
 use Rattle.rename_file.specs.File.{Bank, bank, no_bank, File, uses_in, at, with_cell, committed_one, undone}
 use Rattle.rename_file.proofs.Laws.{used_once, committed_in_range, at_self}
 use Rattle.reorder_buffer.specs.Growing.{IsGrowing}
@@ -22,7 +23,7 @@ use Rattle.data_flow.specs.Slots.{slot_of}
 use Rattle.data_flow.specs.Wired.{node_of, lane_of, lanes_of, flow, waiter_of, IsTied, AreTied, IsWaiting, IsWiredUp, no_buffer, no_renamed}
 use Rattle.data_flow.proofs.Ties.{lanes-set, tied-set, get_or-map}
 use Rattle.data_flow.proofs.Cells.{same_all_tied, used_is_cell}
-use Rattle.data_flow.proofs.LaneEvents.{stamp_of, finished, one_lane, finish_lane, set_lane, result_used, result_above, bank_past, commits, committable, IsCommittable, bank_before, undoes, undoable}
+use Rattle.data_flow.proofs.LaneEvents.{stamp_of, finished, one_lane, finish_lane, set_lane, result_used, result_above, bank_past, commits, committable, IsCommittable, bank_before, undoes, undoable, IsUndoable}
 use Rattle.data_flow.proofs.Places.{Here, here_unread}
 use Rattle.data_flow.proofs.Sources.{IsAt, IsReadAt, read_at, is_read}
 use Rattle.data_flow.proofs.Waiters.{waiters_awake}
@@ -183,12 +184,17 @@ idle_at d now c k i found shows h lt idle =
 
 -- ---- the oldest
 
+-- the rename of an instruction with a destination
+abbrev pub rename_of : Slot → Rename
+rename_of s = record { rd = s.name; register = s.destination }
+
 -- the oldest instruction of a buffer, of which a slot was read, and the others
 pub record IsFront (found : Buffer Renamed) (s : Slot) : Type 0 where
   pub renamed : Renamed
   pub is : found ≡ buffer (renamed ∷ drop 1 found.items) found.capacity
   pub some : 0 < length found.items
   pub name : renamed.operands.destination ≡ s.name
+  pub rename : rename_of (slot_of renamed) ≡ rename_of s
 
 pub front_is : (found : Buffer Renamed) (s : Slot) → option_map slot_of (slice_get found.items 0) ≡ Some s → IsFront found s
 front_is found s e =
@@ -199,6 +205,7 @@ front_is found s e =
       is = ap (λ (ns : List Renamed). buffer ns found.capacity) split;
       some = slice_get_within found.items 0 item.renamed item.there;
       name = ap (λ (x : Slot). x.name) item.read;
+      rename = ap rename_of item.read;
     }
   where
     split_front : (ns : List Renamed) (n : Renamed) → slice_get ns 0 ≡ Some n → ns ≡ n ∷ drop 1 ns
@@ -207,7 +214,7 @@ front_is found s e =
 
 -- what committing asks
 pub commit_asks : {A : Type 0} (d : Inside A) (now : Flow) (c k : ℕ) (found : Buffer Renamed) (s : Slot) → Here d now c k found → IsFront found s → (s.name == 0) ≡ false
-    → (0 < (node_at (lane now c) 0).operands.destination → IsSome (node_at (lane now c) 0).result) → IsCommittable d.registers.cells (bank d.registers c)
+    → (0 < (node_at (lane now c) 0).operands.destination → IsSome (node_at (lane now c) 0).result) → IsCommittable d.registers.cells (bank d.registers c) (rename_of s)
 commit_asks d now c k found s h front named done =
     let cells : List (Option ℕ) = d.registers.cells in
     let n : Renamed = front.renamed in
@@ -217,7 +224,7 @@ commit_asks d now c k found s h front named done =
     let node-is : node_at (lane now c) 0 ≡ node_of cells n = rw lane-is refl in
     let some : 0 < n.operands.destination = has_one n.operands.destination has in
     let done' : IsSome (node_of cells n).result = subst (λ (x : Node). 0 < x.operands.destination → IsSome x.result) node-is done some in
-    committable cells (bank d.registers c) n (drop 1 found.items) found.capacity tied has done'
+    subst (IsCommittable cells (bank d.registers c)) front.rename (committable cells (bank d.registers c) n (drop 1 found.items) found.capacity tied has done')
 
 pub commit_leaves : {A : Type 0} (d : Inside A) (now : Flow) (c k : ℕ) (found left : Buffer Renamed) (s : Slot) (r : File) → flow d ≡ now → IsWiredUp d → Here d now c k found → IsFront found s
     → waits_in now c (node_at (lane now c) 0).operands.stamp ≡ false → left ≡ buffer (drop 1 found.items) found.capacity
@@ -253,6 +260,7 @@ pub record IsBack (found : Buffer Renamed) (s : Slot) : Type 0 where
   pub some : 0 < length found.items
   pub at : IsAt found (length found.items - 1) renamed
   pub name : renamed.operands.destination ≡ s.name
+  pub rename : rename_of (slot_of renamed) ≡ rename_of s
 
 pub back_is : (found : Buffer Renamed) (s : Slot) → option_map slot_of (last_item found.items) ≡ Some s → IsBack found s
 back_is found s e =
@@ -269,12 +277,14 @@ back_is found s e =
       some = omega (arith, at.within);
       at = at;
       name = ap (λ (x : Slot). x.name) slot.read;
+      rename = ap rename_of slot.read;
     }
 
-pub undo_asks : {A : Type 0} (d : Inside A) (now : Flow) (c k : ℕ) (found : Buffer Renamed) (s : Slot) → Here d now c k found → IsBack found s → (s.name == 0) ≡ false → 0 < length (bank d.registers c).renames
+pub undo_asks : {A : Type 0} (d : Inside A) (now : Flow) (c k : ℕ) (found : Buffer Renamed) (s : Slot) → Here d now c k found → IsBack found s → (s.name == 0) ≡ false → IsUndoable (bank d.registers c) (rename_of s)
 undo_asks d now c k found s h back named =
     let has : (back.renamed.operands.destination == 0) ≡ false = ap (λ x. x == 0) back.name ∙ named in
-    undoable d.registers.cells (bank d.registers c) back.renamed (take (length found.items - 1) found.items) found.capacity (subst (IsTied d.registers.cells (bank d.registers c)) back.is h.tied) has
+    let asked = undoable d.registers.cells (bank d.registers c) back.renamed (take (length found.items - 1) found.items) found.capacity (subst (IsTied d.registers.cells (bank d.registers c)) back.is h.tied) has in
+    subst (IsUndoable (bank d.registers c)) back.rename asked
 
 pub undo_leaves : {A : Type 0} (d : Inside A) (now : Flow) (c k : ℕ) (found left : Buffer Renamed) (s : Slot) (r : File) → flow d ≡ now → IsWiredUp d → Here d now c k found → IsBack found s
     → waits_in now c (node_at (lane now c) (length (lane now c).nodes - 1)).operands.stamp ≡ false → left ≡ buffer (take (length found.items - 1) found.items) found.capacity

@@ -1,7 +1,7 @@
 -- The instructions that an active list holds, by their numbers.
 use Rattle.std.specs.Prelude.{ℕ, ◌%◌}
 use Rattle.circular_buffer.specs.Buffer.{Buffer, buffer}
-use Rattle.rename_file.specs.Numbered.{numbered, count}
+use Rattle.data_flow.specs.Numbered.{numbered, count}
 use Rattle.data_flow.specs.declared.operands.Renamed.{Renamed}
 use Rattle.data_flow.specs.declared.slots.Slots.{Slots}
 use Rattle.data_flow.specs.declared.active_list.ActiveList.TheInside.{Inside}

@@ -24,7 +24,7 @@ impl Model for ActiveList {
     ghost use Rattle.std.specs.Prelude.{◌≤◌};
     ghost use Rattle.circular_buffer.specs.Buffer.{Buffer};
     ghost use Rattle.data_flow.specs.declared.operands.Renamed.{Renamed};
-    ghost use Rattle.rename_file.specs.Numbered.{count};
+    ghost use Rattle.data_flow.specs.Numbered.{count};
     ghost use Rattle.data_flow.specs.Listed.{listed};
 
     ghost Value = { Buffer Renamed };

@@ -161,7 +161,7 @@ impl<A: Allocator> DataFlow<A> {
     {
         let oldest = self.renamed[context.index()].pop_front();
         if oldest.has_destination() {
-            self.registers.commit(context);
+            self.registers.commit(context, oldest.rename());
         }
     }
 
@@ -211,7 +211,7 @@ impl<A: Allocator> DataFlow<A> {
     {
         let newest = self.renamed[context.index()].pop_back();
         if newest.has_destination() {
-            self.registers.undo(context);
+            self.registers.undo(context, newest.rename());
         }
     }
 

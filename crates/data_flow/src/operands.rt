@@ -2,7 +2,7 @@
 
 ghost use Rattle.std.specs.Prelude.{◌≡◌, ◌<◌, ◌==◌, not};
 
-use rename_file::PhysicalRegister;
+use rename_file::{PhysicalRegister, Rename};
 use rv64_decode::Register;
 
 /// The registers that an instruction in flight names: x0 where it has none.
@@ -52,6 +52,17 @@ impl Slot {
         ensures { result ≡ not (self.now.name == 0) }
     {
         self.name.index() != 0
+    }
+
+    /// Its destination with the physical register of its result.
+    #[inline(always)]
+    pub fn rename(&self) -> Rename
+        ensures { result ≡ record { rd = self.now.name; register = self.now.destination } }
+    {
+        Rename {
+            rd: self.name.index(),
+            register: self.destination,
+        }
     }
 
     /// All bits where it has a result that others may read, and none where it has not.

@@ -1,6 +1,6 @@
 //! Renames at concrete values.
 use join_law::Ctx;
-use rename_file::{PhysicalRegister, Registers};
+use rename_file::{PhysicalRegister, Registers, Rename};
 use std::alloc::Global;
 use std::process::Abort;
 
@@ -66,7 +66,7 @@ fn undone(alloc: Global) -> Option<(Option<u64>, Option<u64>, usize)> {
     let register = registers.rename(context, 5).ok()?;
     registers.write(register, 71);
     let before = read(&registers, context, 5);
-    registers.undo(context);
+    registers.undo(context, Rename { rd: 5, register });
     Some((before, read(&registers, context, 5), registers.free_count()))
 }
 
@@ -76,7 +76,7 @@ fn committed(alloc: Global) -> Option<(u64, usize, Option<u64>)> {
     let [_, context, ..] = Ctx::all();
     let register = registers.rename(context, 31).ok()?;
     registers.write(register, 9);
-    registers.commit(context);
+    registers.commit(context, Rename { rd: 31, register });
     Some((
         registers.committed(context, 31),
         registers.free_count(),

@@ -32,14 +32,18 @@ IsBank-emptied cells p c b other ok = record {
   renamed = ok.renamed;
 }
 
--- each context, after a change of one of them
-pub banks-set : (cells : List (Option ℕ)) (f : File) (c : ℕ) (b : Bank) → length f.banks ≡ 8 → c < 8 → ((k : ℕ) → k < 8 → IsBank cells k (bank f k)) → IsBank cells c b
-    → (k : ℕ) → k < 8 → IsBank cells k (get_or (set f.banks c b) k no_bank)
-banks-set cells f c b eight lt all one k lt-k =
+-- what is true of each context, after a change of one of them
+pub each-set : (P : ℕ → Bank → Type 0) (f : File) (c : ℕ) (b : Bank) → length f.banks ≡ 8 → c < 8 → ((k : ℕ) → k < 8 → P k (bank f k)) → P c b
+    → (k : ℕ) → k < 8 → P k (get_or (set f.banks c b) k no_bank)
+each-set P f c b eight lt all one k lt-k =
     elim (cases_eq k c) [
-      | inl same ↦ subst (λ j. IsBank cells j (get_or (set f.banks c b) j no_bank)) (sym same) (rw (get_or-set_same f.banks c b no_bank (omega arith)) one)
+      | inl same ↦ subst (λ j. P j (get_or (set f.banks c b) j no_bank)) (sym same) (rw (get_or-set_same f.banks c b no_bank (omega arith)) one)
       | inr differ ↦ rw (get_or-set_other f.banks c k b no_bank differ) (all k lt-k)
     ]
+
+pub banks-set : (cells : List (Option ℕ)) (f : File) (c : ℕ) (b : Bank) → length f.banks ≡ 8 → c < 8 → ((k : ℕ) → k < 8 → IsBank cells k (bank f k)) → IsBank cells c b
+    → (k : ℕ) → k < 8 → IsBank cells k (get_or (set f.banks c b) k no_bank)
+banks-set cells f c b eight lt all one = each-set (IsBank cells) f c b eight lt all one
 
 pub IsBank-renamed : (cells : List (Option ℕ)) (c rd p : ℕ) (b : Bank) → 0 < rd → rd < 32 → 8 ≤ p → IsBank cells c b → IsBank cells c (renamed_bank b rd p)
 IsBank-renamed cells c rd p b named narrow above ok = record {

@@ -85,7 +85,3 @@ IsFile-undone f c lt some ok =
 -- where a context has a rename, not every extra register is free
 pub has_room : (f : File) (c : ℕ) → c < 8 → 0 < length (bank f c).renames → IsFile f → length f.free + 256 < length f.cells
 has_room f c lt some ok = omega (arith, ok.extra, get_or-le-sum_by renames_in f.banks c no_bank (omega (arith, ok.eight)))
-
--- a context has so many renames at most
-pub has_room_for : (f : File) (c : ℕ) → c < 8 → IsFile f → length (bank f c).renames + 256 ≤ length f.cells
-has_room_for f c lt ok = omega (arith, ok.extra, get_or-le-sum_by renames_in f.banks c no_bank (omega (arith, ok.eight)))

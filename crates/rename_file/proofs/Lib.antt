@@ -1,8 +1,6 @@
 pub mod Valued
-pub mod Numbered
-pub mod Written
-pub mod Maps
 pub mod Uses
+pub mod Maps
 pub mod Banks
 pub mod Files
 pub mod Sources

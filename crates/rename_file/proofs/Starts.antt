@@ -9,6 +9,7 @@ use Rattle.std.proofs.lemmas.List.Sums.{sum_by-cons, sum_by_more}
 use Rattle.rename_file.specs.declared.rename_map.Rename.{Rename}
 use Rattle.rename_file.specs.File.{IsFile, Bank, IsBank, IsRename, no_bank, at, uses_in}
 use Rattle.rename_file.specs.Fresh.{IsFirst}
+use Rattle.rename_file.specs.Previous.{IsUndoable}
 
 -- 1 from a up to b, and 0 elsewhere
 abbrev between : ℕ → ℕ → ℕ → ℕ
@@ -94,6 +95,10 @@ first_file n bs free cells cells-are eight all len row =
           total ∙ between_none (length cells) p;
       extra = let none : sum_by (λ (b : Bank). length b.renames) bs ≡ 0 = rw whole at (no_renames bs 8 (omega arith) all') in omega (arith, none);
     }
+
+-- no context has a rename to undo
+pub first_undoable : (bs : List Bank) (t : List ℕ) → ((c : ℕ) → c < 8 → IsFirst (get_or bs c no_bank) c) → (c : ℕ) → c < 8 → IsUndoable t (get_or bs c no_bank)
+first_undoable bs t all c lt = rw (all c lt).renames tt
 
 -- one more number in a row
 pub row_more : (xs : List ℕ) (x a : ℕ) → ((i : ℕ) → i < length xs → get_or xs i 0 ≡ a + i) → x ≡ a + length xs → (i : ℕ) → i < length (xs ++ x ∷ []) → get_or (xs ++ x ∷ []) i 0 ≡ a + i

@@ -6,6 +6,7 @@ use Rattle.std.proofs.lemmas.Bool.Decides.{nat_tests}
 use Rattle.std.proofs.lemmas.List.Sums.{sum_by-set, sum_by_more, get_or-le-sum_by}
 use Rattle.std.proofs.lemmas.List.{take_all}
 use Rattle.std.proofs.lemmas.Option.{get_or_from_slice_get, slice_get_within}
+use Rattle.rename_file.specs.declared.rename_map.Rename.{Rename}
 use Rattle.rename_file.specs.File.{File, IsFile, Bank, IsNewestFree, bank, no_bank, at, uses_in, uses}
 
 -- a change of one context
@@ -49,3 +50,8 @@ not_committed f p c r ok free lt narrow same =
     let q : ℕ = slice_index (bank f c).committed r in
     let used : 0 < sum_by (uses_in p) f.banks = rw same at (committed_used f c r ok lt narrow) in
     omega (arith, used, used_once f p ok, newest_use p p f.free free, at_self p)
+
+-- nor is it a rename
+pub not_renamed : (f : File) (p c : ℕ) → IsFile f → IsNewestFree f p → c < 8 → sum_by (λ (n : Rename). at p n.register) (bank f c).renames ≡ 0
+not_renamed f p c ok free lt =
+    omega (arith, used_once f p ok, newest_use p p f.free free, at_self p, get_or-le-sum_by (uses_in p) f.banks c no_bank (omega (arith, ok.eight)))

@@ -1,10 +1,9 @@
 pub mod FaultText
 pub mod File
 pub mod Valued
-pub mod Slots
-pub mod Numbered
-pub mod Listed
+pub mod Past
 pub mod Fresh
 pub mod Newest
 pub mod ShownMap
+pub mod Previous
 pub mod Shown

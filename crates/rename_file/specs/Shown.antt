@@ -1,7 +1,8 @@
 -- What the registers in memory stand for.
-use Rattle.std.specs.Prelude.{◌≤◌, length}
+use Rattle.std.specs.Prelude.{ℕ, ◌<◌, ◌≤◌, length}
 use Rattle.rename_file.specs.declared.registers.Registers.TheInside.{Inside}
-use Rattle.rename_file.specs.File.{File, IsFile}
+use Rattle.rename_file.specs.File.{File, IsFile, bank}
+use Rattle.rename_file.specs.Previous.{IsUndoable}
 
 abbrev pub shown : {A : Type 0} → Inside A → File
 shown r = record { banks = r.maps; free = r.free.items; cells = r.cells }
@@ -10,3 +11,4 @@ shown r = record { banks = r.maps; free = r.free.items; cells = r.cells }
 pub record IsShown {A : Type 0} (r : Inside A) : Type 0 where
   pub file : IsFile (shown r)
   pub room : length r.cells ≤ 480
+  pub undoable : (c : ℕ) → c < 8 → IsUndoable r.previous (bank (shown r) c)

@@ -6,12 +6,11 @@
 #![tactic(auto)]
 
 mod cells;
-mod changes;
 mod fault;
 mod physical_register;
 mod registers;
 mod rename_map;
-mod slots;
+mod renames;
 
 pub use fault::RenameFault;
 pub use physical_register::PhysicalRegister;

@@ -1,12 +1,12 @@
 //! The physical registers of all contexts.
 
 ghost use Rattle.std.specs.Prelude.{true, false, ◌≡◌, ◌↔◌, ◌+◌, ◌<◌, ◌≤◌, length, replicate, slice_index, IfOk, OnOk, OnErr, IsOk, IsSome, IsTrue, Ok, Err, Some};
-ghost use Rattle.rename_file.specs.File.{IsFile, bank, cell, mapped, rename_count, IsNewestFree, with_cell, renamed, committed_one, undone, first};
+ghost use Rattle.rename_file.specs.File.{IsFile, bank, cell, mapped, rename_count, IsNewestFree, with_cell, renamed, committed_one, undone, first, last};
 ghost use Rattle.rename_file.specs.Fresh.{IsFresh};
 ghost use Rattle.rename_file.specs.Newest.{IsNewest};
 
 use crate::cells::Cells;
-use crate::rename_map::{RenameMap, first_maps};
+use crate::rename_map::{Rename, RenameMap, first_maps};
 use crate::{PhysicalRegister, RenameFault};
 use arrayvec::ArrayVec;
 use join_law::Ctx;
@@ -19,6 +19,9 @@ use std::marker::Model;
 pub struct Registers<A: Allocator = Global> {
     cells: Cells<A>,
     free: ArrayVec<PhysicalRegister, 224>,
+    // For each register that is a rename, what its rd stood for before. A register is one rename at most, so no list of
+    // the renames is needed, and the 224 extra registers take 448 bytes for all contexts.
+    previous: [PhysicalRegister; 480],
     maps: [RenameMap; 8],
 }
 
@@ -53,7 +56,12 @@ impl<A: Allocator + Copy> Registers<A> {
             free.push(PhysicalRegister::at(number));
         }
         let cells = Cells::new(alloc, 256 + extra)?;
-        Ok(Registers { maps, free, cells })
+        Ok(Registers {
+            maps,
+            free,
+            cells,
+            previous: [PhysicalRegister::default(); 480],
+        })
     }
 }
 
@@ -159,33 +167,41 @@ impl<A: Allocator> Registers<A> {
         };
         self.cells.clear(taken.index());
         let map = &mut self.maps[context.index()];
-        map.push(rd, taken);
+        let previous = map.push(Rename {
+            rd,
+            register: taken,
+        });
+        self.previous[taken.index()] = previous;
         Ok(taken)
     }
 
-    /// Makes the oldest rename of the context, which has its value, the committed register. The one that it replaces
-    /// is free.
-    pub fn commit(&mut self, context: Ctx)
+    /// Makes the oldest rename of the context, which is lent and has its value, the committed register. The one that it
+    /// replaces is free.
+    pub fn commit(&mut self, context: Ctx, rename: Rename)
         requires some { 0 < length (bank self.old context).renames }
+        requires oldest { rename ≡ first (bank self.old context) }
         requires ready { IsSome (cell self.old (first (bank self.old context)).register) }
         ensures committed { self.new ≡ committed_one self.old context }
         ensures file { IsFile self.new }
     {
         let map = &mut self.maps[context.index()];
-        let freed = map.commit();
+        let freed = map.commit(rename);
         self.free.push(freed);
     }
 
-    /// Takes the newest rename of the context off. Its register is free, and its name stands for what it stood for
-    /// before.
-    pub fn undo(&mut self, context: Ctx)
-        requires { 0 < length (bank self.old context).renames }
+    /// Takes the newest rename of the context, which is lent, off. Its register is free, and its name stands for what it
+    /// stood for before.
+    pub fn undo(&mut self, context: Ctx, rename: Rename)
+        requires some { 0 < length (bank self.old context).renames }
+        requires newest { rename ≡ last (bank self.old context) }
         ensures undone { self.new ≡ undone self.old context }
         ensures file { IsFile self.new }
     {
+        let Rename { rd, register } = rename;
+        let previous = self.previous[register.index()];
         let map = &mut self.maps[context.index()];
-        let freed = map.undo();
-        self.free.push(freed);
+        map.undo(rd, previous);
+        self.free.push(register);
     }
 }
 

@@ -5,7 +5,7 @@ ghost use Rattle.rename_file.specs.File.{mapped, renamed_bank, committed_bank, u
 ghost use Rattle.rename_file.specs.Fresh.{IsFirst};
 
 use crate::PhysicalRegister;
-use crate::changes::Changes;
+use crate::renames::Renames;
 use std::marker::Model;
 
 /// From here on `register` stands for `rd`.
@@ -17,20 +17,13 @@ pub struct Rename {
     pub register: PhysicalRegister,
 }
 
-// A rename, and which register stood for its rd before.
-#[derive(Clone, Copy, Debug, PartialEq, Eq)]
-pub(crate) struct Change {
-    pub rename: Rename,
-    pub previous: PhysicalRegister,
-}
-
 // The committed registers of a context, and its renames, oldest first. The current map is kept beside them, so that a
-// look-up is one index, and each rename keeps what it replaced, so that it can be undone.
+// look-up is one index.
 #[derive(Drop)]
 pub(crate) struct RenameMap {
     current: [PhysicalRegister; 32],
-    changes: Changes,
     committed: [PhysicalRegister; 32],
+    renames: Renames,
 }
 
 impl Model for RenameMap {
@@ -57,7 +50,7 @@ impl RenameMap {
         RenameMap {
             committed,
             current: committed,
-            changes: Changes::new(),
+            renames: Renames::new(),
         }
     }
 
@@ -77,42 +70,44 @@ impl RenameMap {
         self.committed[rs as usize]
     }
 
-    // One more rename, the newest.
-    pub(crate) fn push(&mut self, rd: u8, register: PhysicalRegister)
-        requires name { rd < 32 }
-        requires room { length self.old.renames < 255 }
-        ensures { self.new ≡ renamed_bank self.old rd register }
+    // One more rename, the newest. The register that it replaces is returned.
+    #[inline(always)]
+    pub(crate) fn push(&mut self, rename: Rename) -> PhysicalRegister
+        requires { rename.rd < 32 }
+        ensures map { self.new ≡ renamed_bank self.old rename.rd rename.register }
+        ensures previous { result ≡ mapped self.old rename.rd }
     {
-        let previous = self.current[rd as usize];
-        self.current[rd as usize] = register;
-        let rename = Rename { rd, register };
-        self.changes.push(Change { rename, previous });
+        let previous = self.current[rename.rd as usize];
+        self.current[rename.rd as usize] = rename.register;
+        self.renames.push(rename);
+        previous
     }
 
     // The oldest rename becomes the committed register. The one that it replaces is returned.
-    pub(crate) fn commit(&mut self) -> PhysicalRegister
+    #[inline(always)]
+    pub(crate) fn commit(&mut self, rename: Rename) -> PhysicalRegister
         requires some { 0 < length self.old.renames }
-        requires name { (first self.old).rd < 32 }
+        requires name { rename.rd < 32 }
+        requires oldest { rename ≡ first self.old }
         ensures map { self.new ≡ committed_bank self.old }
         ensures freed { result ≡ slice_index self.old.committed (first self.old).rd }
     {
-        let oldest = self.changes.pop_front();
-        let Rename { rd, register } = oldest.rename;
-        let freed = self.committed[rd as usize];
-        self.committed[rd as usize] = register;
+        let freed = self.committed[rename.rd as usize];
+        self.committed[rename.rd as usize] = rename.register;
+        self.renames.drop_front();
         freed
     }
 
-    // The newest rename is forgotten, and its register returned.
-    pub(crate) fn undo(&mut self) -> PhysicalRegister
+    // The newest rename is forgotten: its name stands for a register that it stood for before.
+    pub(crate) fn undo(&mut self, rd: u8, previous: PhysicalRegister)
         requires some { 0 < length self.old.renames }
-        requires name { (last self.old).rd < 32 }
-        ensures map { self.new ≡ undone_bank self.old }
-        ensures freed { result ≡ (last self.old).register }
+        requires name { rd < 32 }
+        requires newest { rd ≡ (last self.old).rd }
+        requires previous { previous ≡ mapped (undone_bank self.old) rd }
+        ensures { self.new ≡ undone_bank self.old }
     {
-        let change = self.changes.pop_back();
-        self.current[change.rename.rd as usize] = change.previous;
-        change.rename.register
+        self.current[rd as usize] = previous;
+        self.renames.drop_back();
     }
 }
 

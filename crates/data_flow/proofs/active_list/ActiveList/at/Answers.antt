@@ -1,7 +1,7 @@
 use Rattle.std.proofs.Common.{◌≡◌, ℕ, Some, ◌+◌, ◌%◌, ap, sym, ◌∙◌, arith}
 use Rattle.std.specs.Option.{option_map}
 use Rattle.circular_buffer.specs.Buffer.{Buffer}
-use Rattle.rename_file.proofs.Laws.{counted, found_at}
+use Rattle.data_flow.proofs.Numbered.{counted, found_at}
 use Rattle.data_flow.specs.declared.operands.Renamed.{Renamed}
 use Rattle.data_flow.specs.Slots.{slot_at, slot_of}
 use Rattle.data_flow.specs.Listed.{of_number}

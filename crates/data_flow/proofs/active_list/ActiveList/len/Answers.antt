@@ -1,6 +1,6 @@
 use Rattle.std.proofs.Common.{ap, arith}
 use Rattle.circular_buffer.specs.Buffer.{Buffer}
-use Rattle.rename_file.proofs.Laws.{counted}
+use Rattle.data_flow.proofs.Numbered.{counted}
 use Rattle.data_flow.specs.declared.operands.Renamed.{Renamed}
 use Rattle.data_flow.specs.Listed.{of_number}
 use Rattle.data_flow.proofs.active_list.ActiveList.len.Goals as goal

@@ -1,6 +1,6 @@
 use Rattle.std.proofs.Common.{ℕ, ◌+◌, ◌<◌, ◌%◌, ap, length, arith}
 use Rattle.circular_buffer.specs.Buffer.{Buffer, buffer}
-use Rattle.rename_file.proofs.Laws.{counted, pushed}
+use Rattle.data_flow.proofs.Numbered.{counted, pushed}
 use Rattle.data_flow.specs.declared.operands.Renamed.{Renamed}
 use Rattle.data_flow.specs.Slots.{with_slot}
 use Rattle.data_flow.specs.Listed.{of_number}

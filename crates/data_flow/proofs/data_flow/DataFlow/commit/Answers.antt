@@ -1,4 +1,4 @@
-use Rattle.std.proofs.Common.{get_or, arith, ap, sym, refl}
+use Rattle.std.proofs.Common.{get_or, arith, ap, sym, refl, ◌∙◌}
 use Rattle.rename_file.specs.File.{File}
 use Rattle.data_flow.proofs.Places.{here}
 use Rattle.data_flow.proofs.Sources.{not_true, not_false}
@@ -16,6 +16,13 @@ commit-requires-clause-some g c =
     let found = get_or c.self.inside.renamed c.index.result c.index-self-index.result in
     let front = front_is found c.pop_front-oldest.result c.pop_front-oldest.ensures.oldest in
     (commit_asks c.self.inside c.args.self.now c.args.context c.index.result found c.pop_front-oldest.result h front (not_true _ (sym c.if-has_destination.ensures)) c.requires.done).some
+
+pub commit-requires-clause-oldest : goal.commit-requires-clause-oldest
+commit-requires-clause-oldest g c =
+    let h = here c.self.inside c.args.self.now c.args.context c.index.result c.index-self-index.result c.self.view_is c.self.invariant c.index.ensures.value c.index.ensures.bound in
+    let found = get_or c.self.inside.renamed c.index.result c.index-self-index.result in
+    let front = front_is found c.pop_front-oldest.result c.pop_front-oldest.ensures.oldest in
+    c.rename.ensures ∙ (commit_asks c.self.inside c.args.self.now c.args.context c.index.result found c.pop_front-oldest.result h front (not_true _ (sym c.if-has_destination.ensures)) c.requires.done).oldest
 
 pub commit-requires-clause-ready : goal.commit-requires-clause-ready
 commit-requires-clause-ready g c =

@@ -1,4 +1,4 @@
-use Rattle.std.proofs.Common.{get_or, arith, ap, sym, refl}
+use Rattle.std.proofs.Common.{get_or, arith, ap, sym, refl, ◌∙◌}
 use Rattle.rename_file.specs.File.{File}
 use Rattle.data_flow.proofs.Places.{here}
 use Rattle.data_flow.proofs.Sources.{not_true, not_false}
@@ -10,12 +10,19 @@ pop_back-newest-requires g c =
     let h = here c.self.inside c.args.self.now c.args.context c.index.result c.index-self-index.result c.self.view_is c.self.invariant c.index.ensures.value c.index.ensures.bound in
     omega (arith, h.count, c.requires.some)
 
-pub undo-requires : goal.undo-requires
-undo-requires g c =
+pub undo-requires-clause-some : goal.undo-requires-clause-some
+undo-requires-clause-some g c =
     let h = here c.self.inside c.args.self.now c.args.context c.index.result c.index-self-index.result c.self.view_is c.self.invariant c.index.ensures.value c.index.ensures.bound in
     let found = get_or c.self.inside.renamed c.index.result c.index-self-index.result in
     let back = back_is found c.pop_back-newest.result c.pop_back-newest.ensures.youngest in
-    undo_asks c.self.inside c.args.self.now c.args.context c.index.result found c.pop_back-newest.result h back (not_true _ (sym c.if-has_destination.ensures))
+    (undo_asks c.self.inside c.args.self.now c.args.context c.index.result found c.pop_back-newest.result h back (not_true _ (sym c.if-has_destination.ensures))).some
+
+pub undo-requires-clause-newest : goal.undo-requires-clause-newest
+undo-requires-clause-newest g c =
+    let h = here c.self.inside c.args.self.now c.args.context c.index.result c.index-self-index.result c.self.view_is c.self.invariant c.index.ensures.value c.index.ensures.bound in
+    let found = get_or c.self.inside.renamed c.index.result c.index-self-index.result in
+    let back = back_is found c.pop_back-newest.result c.pop_back-newest.ensures.youngest in
+    c.rename.ensures ∙ (undo_asks c.self.inside c.args.self.now c.args.context c.index.result found c.pop_back-newest.result h back (not_true _ (sym c.if-has_destination.ensures))).newest
 
 pub invariant_of-self : goal.invariant_of-self
 invariant_of-self g c =

@@ -1,7 +1,7 @@
 use Rattle.std.proofs.Common.{ap, get_or, ◌<◌, arith}
 use Rattle.rename_file.specs.Shown.{shown}
 use Rattle.rename_file.proofs.Files.{has_room}
-use Rattle.rename_file.proofs.FoundContext.{found, committed_file}
+use Rattle.rename_file.proofs.FoundContext.{found, committed_file, committed_undoable}
 use Rattle.rename_file.proofs.registers.Registers.commit.Goals as goal
 
 pub push-requires : goal.push-requires
@@ -17,7 +17,7 @@ invariant_of-self g c =
     let at = found f c.args.context c.index.result (get_or c.self.inside.maps c.index.result c.index-self-index.result) c.index.ensures.value below (ap (get_or c.self.inside.maps c.index.result) c.index-self-index.is) in
     let some = rw (← c.self.view_is) at c.requires.some in
     let ready = rw (← c.self.view_is) at c.requires.ready in
-    rw c.push.ensures.items (record { file = committed_file f c.args.context c.index.result (get_or c.self.inside.maps c.index.result c.index-self-index.result) c.commit-freed.new.self c.commit-freed.result c.self.invariant.file at some ready c.commit-freed.ensures.map c.commit-freed.ensures.freed; room = c.self.invariant.room })
+    rw c.push.ensures.items (record { file = committed_file f c.args.context c.index.result (get_or c.self.inside.maps c.index.result c.index-self-index.result) c.commit-freed.new.self c.commit-freed.result c.self.invariant.file at some ready c.commit-freed.ensures.map c.commit-freed.ensures.freed; room = c.self.invariant.room; undoable = committed_undoable c.self.inside.previous f c.args.context c.index.result (get_or c.self.inside.maps c.index.result c.index-self-index.result) c.commit-freed.new.self c.self.invariant.file at some c.commit-freed.ensures.map c.self.invariant.undoable })
 
 pub returns-clause-file : goal.returns-clause-file
 returns-clause-file g c = (invariant_of-self g c).file

@@ -17,6 +17,7 @@ invariant_of-self g c =
     rw c.write.ensures (record {
       file = IsFile-written (shown c.self.inside) c.index-2.result c.args.value (rw c.index-2.ensures.value (known.2 c.requires.0)) c.self.invariant.file;
       room = rw length-set c.self.invariant.room;
+      undoable = c.self.invariant.undoable;
     })
 
 pub returns-clause-file : goal.returns-clause-file

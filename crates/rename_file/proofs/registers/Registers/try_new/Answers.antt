@@ -1,6 +1,6 @@
 use Rattle.std.proofs.Common.{rules, ◌≡◌, ℕ, Option, ◌+◌, Some, length, replicate, arith}
 use Rattle.std.proofs.lemmas.List.{length_push, length-replicate}
-use Rattle.rename_file.proofs.Starts.{first_file, row_more}
+use Rattle.rename_file.proofs.Starts.{first_file, first_undoable, row_more}
 use Rattle.rename_file.proofs.registers.Registers.try_new.Goals as goal
 
 pub loop-number-preserved : goal.loop-number-preserved
@@ -16,6 +16,7 @@ invariant_of-result g c =
     let len : length c.loop-number.free.items ≡ c.args.extra = omega arith in
     record {
       file = first_file c.args.extra c.first_maps-maps.result c.loop-number.free.items c.in_ok-cells.cells cells c.first_maps-maps.ensures.eight c.first_maps-maps.ensures.first len c.loop-number.invariant.row;
+      undoable = first_undoable c.first_maps-maps.result (replicate 480 c.default.result) c.first_maps-maps.ensures.first;
       room = rw cells (omega (arith, length-replicate {A = Option ℕ} (256 + c.args.extra) (Some 0)));
     }
 

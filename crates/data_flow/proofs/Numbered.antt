@@ -3,7 +3,7 @@ use Rattle.std.proofs.Common.{◌≡◌, ℕ, zero, suc, ◌+◌, ◌-◌, ◌<�
 use Rattle.std.proofs.lemmas.Bool.{cases_eq}
 use Rattle.std.proofs.lemmas.List.{length_push, get_or_push, get_or_append_left, take-append-le, take_all}
 use Rattle.std.proofs.lemmas.Option.{slice_get-get_or}
-use Rattle.rename_file.specs.Numbered.{numbered, count}
+use Rattle.data_flow.specs.Numbered.{numbered, count}
 
 module _ {X : Type 0} where
   length-numbered : (at : ℕ → X) (h n : ℕ) → length (numbered at h n) ≡ n
@@ -45,17 +45,6 @@ module _ {X : Type 0} where
       let len = counted at h t now is in
       let found : X = at ((h + k) % 256) in
       slice_get-get_or now k found lt ∙ ap (λ (xs : List X). Some (get_or xs k found)) (sym is) ∙ ap Some (numbered_at at h (count h t) k found (omega (arith, len, lt)))
-
-  pub oldest_at : (at : ℕ → X) (h t : ℕ) (now : List X) → numbered at h (count h t) ≡ now → h < 256 → 0 < length now → slice_get now 0 ≡ Some (at h)
-  oldest_at at h t now is below some =
-      let first : (h + 0) % 256 ≡ h = omega arith in
-      found_at at h t 0 now is some ∙ ap (λ i. Some (at i)) first
-
-  pub newest_at : (at : ℕ → X) (h t : ℕ) (now : List X) → numbered at h (count h t) ≡ now → h < 256 → t < 256 → 0 < length now → slice_get now (length now - 1) ≡ Some (at ((t + 255) % 256))
-  newest_at at h t now is below below' some =
-      let len = counted at h t now is in
-      let last : (h + (length now - 1)) % 256 ≡ (t + 255) % 256 = omega (arith, len, some) in
-      found_at at h t (length now - 1) now is (omega (arith, some)) ∙ ap (λ i. Some (at i)) last
 
   pub pushed : (f g : ℕ → X) (h t : ℕ) (now : List X) (x : X) → numbered f h (count h t) ≡ now → h < 256 → t < 256 → length now < 255 → g t ≡ x → ((k : ℕ) → k < length now → g ((h + k) % 256) ≡ f ((h + k) % 256)) → numbered g h (count h ((t + 1) % 256)) ≡ now ++ x ∷ []
   pushed f g h t now x is below below' room new others =
