@@ -17,8 +17,8 @@ use Rattle.core_view.specs.View.{entry_at, no_entry}
 use Rattle.core_view.specs.Events.{completed_entry, complete_in, kept_length}
 use Rattle.core_view.proofs.RingForm.{complete_take, kept_take}
 use Rattle.core_view.proofs.Live.{complete_live}
-use Rattle.data_flow.specs.Flow.{Node, Lane, Flow, Waiter, no_node, node_at, lane, with_result, result_for, cut_from, cut_flow}
-use Rattle.core_context.specs.Track.{Track, left_by, completed}
+use Rattle.data_flow.specs.Flow.{Node, Lane, Flow, Waiter, no_node, node_at, lane, with_result, result_for, cut_from, cut_flow, left_in}
+use Rattle.core_context.specs.Track.{Track, left_by, completed, cut_stamp}
 use Rattle.core_context.specs.Queued.{is_behind, waiting_of, waiter_for, up_to_guess, settled}
 use Rattle.core_context.specs.Steps.{cut_if, finished_flow, cut_by, settled_flow, completed_flow, AreTold}
 use Rattle.core_context.specs.Cores.{operands_of, node_of_entry, AllFetched, is_waiting, waiters_of, IsCore}
@@ -184,6 +184,18 @@ module _ (start : State) (stamp reorder : ℕ) (f : Flow) (c : ℕ) (t : Track) 
           → (b : Bool) → nat_lt n (length t.context.flight) ≡ b → IsCut (cut_if done_flow c (if b then Some (entry_at t.context n).stamp else None)) n
       by_test none some true is = some (ltb-true n (length t.context.flight) is) within core lt stage
       by_test none some false is = none (ltb-false n (length t.context.flight) is) within core lt stage
+
+  -- so many instructions are below the stamp from which all are squashed as entries are renamed then
+  pub cut_count : c < length f.lanes → IsCore start stamp reorder f [] c t → i < length t.context.flight → (entry_at t.context i).stage ≡ Issued x → (s : ℕ) → cut_stamp t.context i x ≡ Some s
+      → (completed t i x).renamed ≡ left_in done_flow c s
+  cut_count within core lt stage s is =
+      let n : ℕ = left_by t.context i x in
+      let cut = is_cut within core lt stage in
+      let there : c < length done_flow.lanes = omega (arith, within, (sizes-finished_flow f c i (result_in x.outcome)).lanes) in
+      let here : lane (cut_by f c i x t.context) c ≡ cut_from (lane done_flow c) s = ap (λ o. lane (cut_if done_flow c o) c) is ∙ lane-cut_same done_flow c s there in
+      let len : left_in done_flow c s ≡ min t.renamed (min n (length done_flight)) =
+      ap (λ (l : Lane). length l.nodes) (sym here) ∙ ap length cut.nodes ∙ length-map (take t.renamed (take n done_flight)) node_of_entry ∙ length-take t.renamed (take n done_flight) ∙ ap (min t.renamed) (length-take n done_flight) in
+      omega (arith, len, core.within, length-set t.context.flight i (completed_entry (entry_at t.context i) x))
 
   -- ---- the marks
 

@@ -38,7 +38,7 @@ use Rattle.core_context.proofs.CoreOfFlight.{IsFlightCore, core_from}
 use Rattle.core_context.proofs.Stages.{renamed_place, renamed_drop, nodes_drop}
 
 -- no instruction is below stamp 0
-none_left : (ns : List Node) → filter (λ (n : Node). nat_lt n.operands.stamp 0) ns ≡ []
+pub none_left : (ns : List Node) → filter (λ (n : Node). nat_lt n.operands.stamp 0) ns ≡ []
 none_left [] = refl
 none_left (n ∷ ns) = let past : nat_lt n.operands.stamp 0 ≡ false = le-ltb n.operands.stamp 0 (omega arith) in rw past (none_left ns)
 

@@ -3,12 +3,11 @@
 ghost use Rattle.std.specs.Prelude.{◌≡◌, ◌≢◌, ◌↔◌, ℕ, ◌+◌, ◌<◌, ◌≤◌, ◌^◌, ◌==◌, ◌&&◌, length, take, drop, IsSome, IsTrue, IfSome, Some, None, All, Bool, true, false, map, slice_get, option_map};
 ghost use Rattle.std.specs.List.{list_any};
 ghost use Rattle.std.specs.Option.{option_map_or};
-ghost use Rattle.core_view.specs.Outcomes.{image_of, IsSized};
 ghost use Rattle.data_flow.specs.Flow.{lane, node_at, sources_at, taken, waits_in, cut_flow, released};
 ghost use Rattle.core_view.specs.declared.entry.Entry.{Entry};
 ghost use Rattle.core_view.specs.declared.entry.Stage.TheVariants.{Fetched, Queued};
 ghost use Rattle.core_view.specs.declared.outcome.Outcome.TheVariants.{Stops};
-ghost use Rattle.core_view.specs.Flight.{seen_of, IsSound, is_open_guess as is_open_guess_entry};
+ghost use Rattle.core_view.specs.Flight.{is_open_guess as is_open_guess_entry};
 ghost use Rattle.core_view.specs.Operations.{destination_of, stops_at_fetch, is_load, is_store};
 ghost use Rattle.core_view.specs.Queues.{loads_of, stores_of};
 ghost use Rattle.core_view.specs.View.{entry_at};
@@ -74,7 +73,7 @@ fn park<A: Allocator>(flow: &mut DataFlow<A>, track: &mut Track<A>, context: Ctx
     ensures flow { flow.new ≡ cut_flow flow.old context 0 }
     ensures dropped { result ≡ length track.old.context.flight }
 {
-    flow.cut_from(context, 0);
+    flow.cut_from(context, 0, 0);
     track.park()
 }
 
@@ -87,7 +86,7 @@ pub fn stop<A: Allocator>(flow: &mut DataFlow<A>, track: &mut Track<A>, context:
     ensures event { IsEventAt context flow.old flow.new track.old track.new }
 {
     track.stop(why);
-    flow.cut_from(context, 0);
+    flow.cut_from(context, 0, 0);
 }
 
 /// The entry at a place, which is issued, completes, if it is plain: no store, and fetch went on after it where it goes. It
@@ -184,10 +183,9 @@ fn finish_entry<A: Allocator>(
     context: Ctx,
     place: usize,
 )
+    requires core { IsIdleCore flow.old context track.old }
     requires place { place < length track.old.context.flight }
-    requires known { place < length (lane flow.old context).nodes }
     requires issued { IsIssued (entry_at track.old.context place).stage }
-    requires sound { IsSound (image_of track.old.context.state) (seen_of track.old.context.state) track.old.context.state.pc track.old.context.flight }
     ensures track { track.new ≡ completed track.old place (execution_of (entry_at track.old.context place).stage) }
     ensures flow { flow.new ≡ cut_by flow.old context place (execution_of (entry_at track.old.context place).stage) track.old.context }
 {
@@ -197,7 +195,7 @@ fn finish_entry<A: Allocator>(
         flow.finish(context, place, value);
     }
     if let Some(stamp) = cut {
-        flow.cut_from(context, stamp);
+        flow.cut_from(context, stamp, track.renamed_count());
     }
 }
 

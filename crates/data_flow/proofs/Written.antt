@@ -8,7 +8,6 @@ use Rattle.data_flow.specs.Slots.{slot_at, with_slot}
 
 -- there are 64 slots
 pub record AreWide (s : Slots) : Type 0 where
-  pub stamps : length s.stamps ≡ 64
   pub destinations : length s.destinations ≡ 64
   pub renamed_destinations : length s.renamed_destinations ≡ 64
   pub renamed_firsts : length s.renamed_firsts ≡ 64
@@ -17,7 +16,6 @@ pub record AreWide (s : Slots) : Type 0 where
 pub slot_written : (s : Slots) (i : ℕ) (n : Renamed) → AreWide s → i < 64 → slot_at (with_slot s i n) i ≡ n
 slot_written s i n wide lt =
     rw (
-      get_or-set_same s.stamps i n.operands.stamp 0 (omega (arith, wide.stamps)),
       get_or-set_same s.destinations i n.operands.destination 0 (omega (arith, wide.destinations)),
       eq-eqb i i refl,
       get_or-set_same s.renamed_destinations i n.destination 0 (omega (arith, wide.renamed_destinations)),
@@ -28,7 +26,6 @@ slot_written s i n wide lt =
 pub slot_kept : (s : Slots) (i k : ℕ) (n : Renamed) → k ≢ i → slot_at (with_slot s i n) k ≡ slot_at s k
 slot_kept s i k n other =
     rw (
-      get_or-set_other s.stamps i k n.operands.stamp 0 other,
       get_or-set_other s.destinations i k n.operands.destination 0 other,
       ne_eqb k i other,
       get_or-set_other s.renamed_destinations i k n.destination 0 other,

@@ -80,6 +80,10 @@ without_oldest l = record l { registers = written l.registers (node_at l 0).oper
 abbrev pub without_newest : Lane → Lane
 without_newest l = record l { nodes = take (length l.nodes - 1) l.nodes }
 
+-- so many of the oldest instructions are left
+abbrev pub kept : Lane → ℕ → Lane
+kept l n = record l { nodes = take n l.nodes }
+
 -- the instructions from a stamp on are forgotten
 abbrev pub cut_from : Lane → ℕ → Lane
 cut_from l k = record l { nodes = filter (λ n. nat_lt n.operands.stamp k) l.nodes }
@@ -137,6 +141,10 @@ is_waiter_from c k w = (w.context == c) && nat_le k w.stamp
 -- the instructions of a context from a stamp on are forgotten, and don't wait
 abbrev pub cut_flow : Flow → ℕ → ℕ → Flow
 cut_flow f c k = record f { lanes = slice_set f.lanes c (cut_from (lane f c) k); waiters = filter (λ w. not (is_waiter_from c k w)) f.waiters }
+
+-- how many of a context are below a stamp
+abbrev pub left_in : Flow → ℕ → ℕ → ℕ
+left_in f c k = length (cut_from (lane f c) k).nodes
 
 abbrev pub with_speculative : ℕ → ℕ → Bool → Waiter → Waiter
 with_speculative c k flag w = if is_waiter c k w then record w { speculative = flag } else w

@@ -1,7 +1,6 @@
 //! The data flow of eight contexts: registers, renaming, and the queue of what waits for its sources.
 
-ghost use Rattle.std.specs.Prelude.{◌≡◌, ℕ, ◌+◌, ◌-◌, ◌<◌, ◌≤◌, ◌↔◌, [], ◌∷◌, ◌++◌, false, length, map, option_map, All, IfOk, OnErr, IsOk, IsSome, IsTrue, Err, not, is_some, slice_set, count_by, ◌==◌, ◌&&◌};
-ghost use Rattle.circular_buffer.specs.Buffer.{last_item};
+ghost use Rattle.std.specs.Prelude.{◌≡◌, ℕ, ◌+◌, ◌-◌, ◌<◌, ◌≤◌, ◌↔◌, [], ◌∷◌, ◌++◌, false, length, map, All, IfOk, OnErr, IsOk, IsSome, IsTrue, Err, not, is_some, slice_set, count_by, ◌==◌, ◌&&◌};
 ghost use Rattle.std.specs.List.{list_any};
 ghost use Rattle.issue_queue.specs.Entry.{is_named};
 ghost use Rattle.issue_queue.specs.Views.{view_of};
@@ -10,7 +9,7 @@ ghost use Rattle.issue_queue.specs.Stamps.{place_of_oldest};
 ghost use Rattle.rename_file.specs.File.{IsFile, bank};
 ghost use Rattle.data_flow.specs.Banks.{bank_with, CellsWith, IsNamed};
 ghost use Rattle.data_flow.specs.Wired.{cell_of, waiting_entry};
-ghost use Rattle.data_flow.specs.Flow.{lane, node_at, sources_at, with_lane, with_register, with_node, with_result, without_oldest, cut_from, without_newest, is_waiter_from, cut_flow, takes, taken, waits_in, with_speculative, with_held, released, queued, first_flow};
+ghost use Rattle.data_flow.specs.Flow.{lane, node_at, sources_at, with_lane, with_register, with_node, with_result, without_oldest, without_newest, kept, cut_flow, left_in, takes, taken, waits_in, with_speculative, with_held, released, queued, first_flow};
 
 use crate::active_list::{ActiveList, first_lists};
 use crate::operands::{Operands, Renamed};
@@ -165,42 +164,25 @@ impl<A: Allocator> DataFlow<A> {
         }
     }
 
-    /// The instructions of a context from a stamp on are forgotten, youngest first.
-    pub fn cut_from(&mut self, context: Ctx, stamp: u64)
+    /// The instructions of a context from a stamp on are forgotten, youngest first. It is lent how many stay in flight.
+    pub fn cut_from(&mut self, context: Ctx, stamp: u64, left: usize)
+        requires { left ≡ left_in self.old context stamp }
         ensures { self.new ≡ cut_flow self.old context stamp }
     {
         self.queue.drop_from(context, stamp);
-        self.undo_from(context, stamp);
+        self.keep_oldest(context, left);
     }
 
-    // The same of instructions that don't wait.
-    fn undo_from(&mut self, context: Ctx, stamp: u64)
-        requires { All (λ w. is_waiter_from context stamp w ≡ false) self.old.waiters }
-        ensures { self.new ≡ with_lane self.old context (cut_from (lane self.old context) stamp) }
+    // The instructions of a context but so many of the oldest, which don't wait, are forgotten.
+    fn keep_oldest(&mut self, context: Ctx, left: usize)
+        requires within { left ≤ length (lane self.old context).nodes }
+        requires idle { (i : ℕ) → left ≤ i → i < length (lane self.old context).nodes → waits_in self.old context (node_at (lane self.old context) i).operands.stamp ≡ false }
+        ensures { self.new ≡ with_lane self.old context (kept (lane self.old context) left) }
     {
         let len = self.renamed[context.index()].len();
-        for _done in 0..len {
-            let Some(newest) = self.newest_stamp(context) else {
-                return;
-            };
-            if newest < stamp {
-                return;
-            }
+        for _done in left..len {
             self.undo_newest(context);
         }
-    }
-
-    // The stamp of the youngest instruction of a context.
-    fn newest_stamp(&self, context: Ctx) -> Option<u64>
-        ensures { result ≡ option_map (λ n. n.operands.stamp) (last_item (lane self.now context).nodes) }
-    {
-        let list = &self.renamed[context.index()];
-        let len = list.len();
-        if len == 0 {
-            return None;
-        }
-        let newest = list.at(len - 1);
-        Some(newest.stamp)
     }
 
     // The youngest instruction of a context, which doesn't wait, is forgotten.

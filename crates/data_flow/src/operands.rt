@@ -31,11 +31,10 @@ pub(crate) struct Renamed {
     pub second: PhysicalRegister,
 }
 
-/// What is read of an instruction in flight: all but its source registers, for which the physical ones stand.
+/// What is read of an instruction in flight: all but its stamp, and its source registers, for which the physical ones
+/// stand.
 #[derive(Clone, Copy)]
 pub(crate) struct Slot {
-    /// Its stamp.
-    pub stamp: u64,
     /// The register that its result goes to: x0 where it has no destination.
     pub name: Register,
     /// The physical register of its result. It is of no use where it has no destination.

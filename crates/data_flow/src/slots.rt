@@ -13,20 +13,20 @@ use std::snapshot::Snapshot;
 // multiplication.
 #[derive(Drop)]
 pub(crate) struct Slots {
-    pub stamps: [u64; 64],
     pub destinations: [Register; 64],
     pub renamed_destinations: [PhysicalRegister; 64],
     pub renamed_firsts: [PhysicalRegister; 64],
     pub renamed_seconds: [PhysicalRegister; 64],
-    // Contracts see the source registers, and no code reads them: a `Snapshot` has no bytes.
-    pub sources: Snapshot<Sources>,
+    // Contracts see the stamp and the source registers, and no code reads them: a `Snapshot` has no bytes.
+    pub unread: Snapshot<Unread>,
 }
 
-/// The source registers of what was written to slots: of nothing, or of what was written before, then to one slot.
+/// The stamp and the source registers of what was written to slots: of nothing, or of what was written before, then to
+/// one slot.
 #[derive(Drop)]
-pub(crate) enum Sources {
+pub(crate) enum Unread {
     Nothing,
-    After(Snapshot<Sources>, usize, Register, Register),
+    After(Snapshot<Unread>, usize, u64, Register, Register),
 }
 
 impl Slots {
@@ -35,12 +35,11 @@ impl Slots {
         let zero = Register::new(0);
         let unused = PhysicalRegister::default();
         Slots {
-            stamps: [0; 64],
             destinations: [zero; 64],
             renamed_destinations: [unused; 64],
             renamed_firsts: [unused; 64],
             renamed_seconds: [unused; 64],
-            sources: Snapshot::of(&Sources::Nothing),
+            unread: Snapshot::of(&Unread::Nothing),
         }
     }
 
@@ -51,7 +50,6 @@ impl Slots {
         ensures { result ≡ slot_of (slot_at self.now slot) }
     {
         Slot {
-            stamp: self.stamps[slot],
             name: self.destinations[slot],
             destination: self.renamed_destinations[slot],
             first: self.renamed_firsts[slot],
@@ -66,12 +64,17 @@ impl Slots {
         ensures { self.new ≡ with_slot self.old slot renamed }
     {
         let operands = renamed.operands;
-        self.stamps[slot] = operands.stamp;
         self.destinations[slot] = operands.destination;
         self.renamed_destinations[slot] = renamed.destination;
         self.renamed_firsts[slot] = renamed.first;
         self.renamed_seconds[slot] = renamed.second;
-        let before = mem::replace(&mut self.sources, Snapshot::of(&Sources::Nothing));
-        self.sources = Snapshot::of(&Sources::After(before, slot, operands.first, operands.second));
+        let before = mem::replace(&mut self.unread, Snapshot::of(&Unread::Nothing));
+        self.unread = Snapshot::of(&Unread::After(
+            before,
+            slot,
+            operands.stamp,
+            operands.first,
+            operands.second,
+        ));
     }
 }

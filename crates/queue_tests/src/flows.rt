@@ -124,10 +124,10 @@ fn restores_an_older_value(rt: HostRuntime) {
     flow.rename(first, named(1, 5, 1, 0));
     flow.finish(first, 0, 15);
     flow.rename(first, named(2, 5, 5, 1));
-    flow.cut_from(first, 2);
+    flow.cut_from(first, 2, 1);
     flow.rename(first, named(3, 0, 5, 1));
     let restored = flow.sources(first, 1);
-    flow.cut_from(first, 1);
+    flow.cut_from(first, 1, 0);
     flow.rename(first, named(4, 0, 5, 1));
     assert_eq!(rt;
         [restored, flow.sources(first, 0)],
@@ -150,7 +150,7 @@ fn counts_what_waits(rt: HostRuntime) {
         (true, Some(2), None)
     );
     let before = counts(&flow, first);
-    flow.cut_from(first, 2);
+    flow.cut_from(first, 2, 1);
     assert_eq!(rt; [before, counts(&flow, first)], [[29, 2, 1], [30, 1, 0]]);
 }
 

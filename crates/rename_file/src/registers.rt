@@ -19,8 +19,8 @@ use std::marker::Model;
 pub struct Registers<A: Allocator = Global> {
     cells: Cells<A>,
     free: ArrayVec<PhysicalRegister, 224>,
-    // For each register that is a rename, what its rd stood for before. A register is one rename at most, so no list of
-    // the renames is needed, and the 224 extra registers take 448 bytes for all contexts.
+    // For each register that is a rename, what its rd stood for before. A register is one rename at most, so one array
+    // serves all contexts, and no order of the renames is kept.
     previous: [PhysicalRegister; 480],
     maps: [RenameMap; 8],
 }

@@ -2,16 +2,8 @@ use Rattle.std.proofs.Common.{ap, arith}
 use Rattle.core_view.specs.View.{entry_at}
 use Rattle.flight.specs.Flights.{execution_of}
 use Rattle.core_context.specs.Track.{Track}
-use Rattle.core_context.proofs.Completes.{issued_known, issued_renamed, told_completed}
+use Rattle.core_context.proofs.Completes.{issued_renamed, told_completed}
 use Rattle.core_context.proofs.events.complete_entry.Goals as goal
-
-pub finish_entry-requires-clause-known : goal.finish_entry-requires-clause-known
-finish_entry-requires-clause-known g c =
-    let k = c.requires.core in
-    issued_known k.start k.stamp k.reorder c.args.flow.now c.args.context c.args.track.now c.args.place (execution_of (entry_at c.args.track.now.context c.args.place).stage) k.core c.requires.place c.requires.issued
-
-pub finish_entry-requires-clause-sound : goal.finish_entry-requires-clause-sound
-finish_entry-requires-clause-sound g c = c.requires.core.core.live.flight.sound
 
 pub settle_speculation-requires-clause-renamed : goal.settle_speculation-requires-clause-renamed
 settle_speculation-requires-clause-renamed g c =

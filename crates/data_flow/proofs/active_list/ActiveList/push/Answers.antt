@@ -12,7 +12,6 @@ returns c =
     let slots = c.self.inside.slots in
     let here : ℕ = c.self.inside.tail % 64 in
     let wide : AreWide slots = record {
-      stamps = omega arith;
       destinations = omega arith;
       renamed_destinations = omega arith;
       renamed_firsts = omega arith;

@@ -1,4 +1,5 @@
-use Rattle.data_flow.proofs.Cuts.{drops, cut_shows}
+use Rattle.std.proofs.Common.{arith}
+use Rattle.data_flow.proofs.Cuts.{drops, dropped, cut_shows}
 use Rattle.data_flow.proofs.data_flow.DataFlow.cut_from.Goals as goal
 
 pub invariant_of-self : goal.invariant_of-self
@@ -8,8 +9,11 @@ invariant_of-self g c = record {
   waiting = (drops c.self.inside c.args.context c.args.stamp c.drop_from.new.self c.self.invariant c.drop_from.ensures).waiting;
 }
 
-pub undo_from-requires : goal.undo_from-requires
-undo_from-requires g c = (drops c.self.inside c.args.context c.args.stamp c.drop_from.new.self c.self.invariant c.drop_from.ensures).idle
+pub keep_oldest-requires-clause-within : goal.keep_oldest-requires-clause-within
+keep_oldest-requires-clause-within g c = (dropped c.self.inside c.args.self.now c.args.context c.args.stamp c.args.left c.drop_from.new.self c.self.view_is c.self.invariant (omega arith) c.requires c.drop_from.ensures).within
+
+pub keep_oldest-requires-clause-idle : goal.keep_oldest-requires-clause-idle
+keep_oldest-requires-clause-idle g c = (dropped c.self.inside c.args.self.now c.args.context c.args.stamp c.args.left c.drop_from.new.self c.self.view_is c.self.invariant (omega arith) c.requires c.drop_from.ensures).idle
 
 pub returns : goal.returns
-returns g c = cut_shows c.self.inside c.args.self.now c.undo_from.new.self c.args.context c.args.stamp c.drop_from.new.self c.self.view_is c.drop_from.ensures c.undo_from.ensures
+returns g c = cut_shows c.self.inside c.args.self.now c.keep_oldest.new.self c.args.context c.args.stamp c.args.left c.drop_from.new.self c.self.view_is c.self.invariant (omega arith) c.requires c.drop_from.ensures c.keep_oldest.ensures
