@@ -3,8 +3,10 @@
 
 mod places;
 mod slots;
+mod turns;
 
 pub use places::{
     assign, both, count, first, has_more, lowest, next, push, up_to_first, without_first,
 };
-pub use slots::{clear_slot, clear_where, set_slot, turn, turn_eight};
+pub use slots::{clear_slot, set_slot, turn, turn_eight};
+pub use turns::after_first;

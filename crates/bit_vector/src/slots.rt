@@ -1,6 +1,6 @@
 //! A word as bits of slots in a round: a bit may be set that need not be.
 
-ghost use Rattle.std.specs.Prelude.{◌≢◌, ◌+◌, ◌%◌, ◌≡◌, ℕ, ◌<◌, ◌≤◌, false, IsTrue};
+ghost use Rattle.std.specs.Prelude.{◌≢◌, ◌+◌, ◌%◌, ◌≡◌, ℕ, ◌<◌, ◌≤◌};
 ghost use Rattle.std.specs.Int.{bit_at};
 
 /// The word with the bit of a slot set.
@@ -22,18 +22,6 @@ pub fn clear_slot(word: u64, slot: usize) -> u64
     ensures others { (i : ℕ) → i < 64 → i ≢ slot → bit_at result i ≡ bit_at word i }
 {
     word & !(1 << slot)
-}
-
-/// The word with the bit of a slot clear, where it is to go, and else as it is.
-// It takes no jump: whether the bit goes would be guessed wrongly too often.
-#[inline(always)]
-pub fn clear_where(word: u64, slot: usize, goes: bool) -> u64
-    requires { slot < 64 }
-    ensures kept { goes ≡ false → result ≡ word }
-    ensures clear { IsTrue goes → bit_at result slot ≡ 0 }
-    ensures others { (i : ℕ) → i < 64 → i ≢ slot → bit_at result i ≡ bit_at word i }
-{
-    word & !(u64::from(goes) << slot)
 }
 
 /// The word turned, so that a slot comes first.

@@ -1,5 +1,4 @@
 pub mod FinalMarks
-pub mod FirstBits
 pub mod InFlight
 pub mod MachineIssues
 pub mod Machines

@@ -8,7 +8,6 @@ mod issuing;
 mod machine;
 mod retiring;
 mod selection;
-mod turns;
 
 pub use completing::{Completion, complete};
 pub use issuing::issue;

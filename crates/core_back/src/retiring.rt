@@ -12,8 +12,7 @@ ghost use Rattle.core_back.specs.Machine.{Machine as MachineView, IsAlike, in_fl
 ghost use Rattle.core_back.specs.Turn.{IsInTurn, GoesOn, ended};
 
 use crate::machine::Machine;
-use crate::turns::after_first;
-use bit_vector::{next, push, turn_eight};
+use bit_vector::{after_first, next, push, turn_eight};
 use branch_predict::Guess;
 use core_view::EntryId;
 use join_law::Ctx;

@@ -1,10 +1,10 @@
-//! The turns that are left in a part of a cycle, a bit each.
+//! A word of what has yet to come to its turn, a bit each.
 
 ghost use Rattle.std.specs.Prelude.{◌≡◌, ◌≢◌, ℕ, ◌<◌, false, IsTrue};
 ghost use Rattle.std.specs.Int.{bit_at};
 
-/// The word of the turns that are left once the first had its turn: without it, unless it stays.
-// It takes no jump, since whether a turn stays would be guessed wrongly too often.
+/// The word once its first bit had its turn: without it, unless it stays.
+// It takes no jump: whether the bit goes would be guessed wrongly too often.
 #[inline(always)]
 pub fn after_first(word: u64, stays: bool) -> u64
     requires { 0 < word }

@@ -1,5 +1,5 @@
-use Rattle.core_back.proofs.FirstBits.{first_stays, first_goes, others_stay}
-use Rattle.core_back.proofs.turns.after_first.Goals as goal
+use Rattle.bit_vector.proofs.FirstBits.{first_stays, first_goes, others_stay}
+use Rattle.bit_vector.proofs.turns.after_first.Goals as goal
 
 pub returns-clause-kept : goal.returns-clause-kept
 returns-clause-kept c on = first_stays c.args.word c.from.result c.args.stays c.requires c.from.ensures on
