@@ -2,7 +2,7 @@ use Rattle.std.proofs.Common.{rules, ◌≡◌, ap, refl, Some, None}
 use Rattle.std.specs.Prelude.{not}
 use Rattle.circular_buffer.specs.Buffer.{last_item}
 use Rattle.core_context.proofs.Ends.{end_some, end_none}
-use Rattle.core_context.proofs.track.end_of.Goals as goal
+use Rattle.core_context.proofs.track.completion.end_of.Goals as goal
 
 pub returns-in-Some : goal.returns-in-Some
 returns-in-Some g c =

@@ -1,0 +1,177 @@
+//! How an entry of a context completes, and what it squashes.
+
+ghost use Rattle.std.specs.Prelude.{◌≡◌, ◌+◌, ◌-◌, ◌<◌, ◌≤◌, true, false, length, Some, option_copied, None};
+ghost use Rattle.reorder_buffer.specs.Growing.{IsGrowing};
+ghost use Rattle.core_view.specs.Outcomes.{image_of};
+ghost use Rattle.core_view.specs.Flight.{seen_of, bytes_in, IsSound};
+ghost use Rattle.core_view.specs.Operations.{is_store, stops_at_fetch};
+ghost use Rattle.core_view.specs.declared.entry.Entry.{Entry};
+ghost use Rattle.core_view.specs.View.{entry_at};
+ghost use Rattle.flight.specs.Flights.{entry_in, execution_of, IsIssued};
+ghost use Rattle.core_context.specs.Ends.{IsEnd};
+ghost use Rattle.core_context.specs.Track.{finished, cut_at, completed, cut_stamp, is_mispredicted_by};
+
+use crate::track::Track;
+use core_view::{Access, Bytes, Entry, Outcome, Stage};
+use flight::Flight;
+use std::alloc::Allocator;
+
+impl<A: Allocator> Track<A> {
+    /// The entry at a place, which is issued, completes, and squashes what it doesn't keep. Returns the stamp of the oldest
+    /// entry that was squashed.
+    pub(crate) fn complete(&mut self, place: usize) -> Option<u64>
+        requires place { place < length self.old.context.flight }
+        requires issued { IsIssued (entry_at self.old.context place).stage }
+        requires sound { IsSound (image_of self.old.context.state) (seen_of self.old.context.state) self.old.context.state.pc self.old.context.flight }
+        ensures completed { self.new ≡ completed self.old place (execution_of (entry_at self.old.context place).stage) }
+        ensures cut { result ≡ cut_stamp self.old.context place (execution_of (entry_at self.old.context place).stage) }
+    {
+        let stamp = self.finish(place)?;
+        self.cut_past(place, stamp);
+        Some(stamp)
+    }
+
+    /// The entry at a place, which is issued, completes. Returns the stamp of the oldest entry that it doesn't keep.
+    fn finish(&mut self, place: usize) -> Option<u64>
+        requires place { place < length self.old.context.flight }
+        requires issued { IsIssued (entry_at self.old.context place).stage }
+        requires sound { IsSound (image_of self.old.context.state) (seen_of self.old.context.state) self.old.context.state.pc self.old.context.flight }
+        ensures finished { self.new ≡ finished self.old place (execution_of (entry_at self.old.context place).stage) }
+        ensures cut { result ≡ cut_stamp self.old.context place (execution_of (entry_at self.old.context place).stage) }
+        ensures growing { IsGrowing (λ (e : Entry). e.stamp) self.new.context.flight }
+        ensures bound { self.new.renamed ≤ length self.new.context.flight }
+    {
+        // How many there are is a bound of a place, and their stamps grow, before and after.
+        let _len = self.flight.len();
+        let entry = self.flight.get(place).unwrap();
+        if entry.operation.is_store() {
+            return self.finish_store(place);
+        }
+        let mispredicted = is_mispredicted(entry);
+        self.flight.finish(place);
+        self.fetch_pc = fetch_pc_after(&self.flight, place, self.fetch_pc);
+        let _left = self.flight.len();
+        let _renamed = self.flight.renamed_count();
+        if !mispredicted {
+            return None;
+        }
+        let next = self.flight.get(place + 1)?;
+        Some(next.stamp)
+    }
+
+    /// The same of a store.
+    #[inline(always)]
+    fn finish_store(&mut self, place: usize) -> Option<u64>
+        requires place { place < length self.old.context.flight }
+        requires issued { IsIssued (entry_at self.old.context place).stage }
+        requires store { is_store (entry_at self.old.context place).operation ≡ true }
+        requires sound { IsSound (image_of self.old.context.state) (seen_of self.old.context.state) self.old.context.state.pc self.old.context.flight }
+        ensures finished { self.new ≡ finished self.old place (execution_of (entry_at self.old.context place).stage) }
+        ensures cut { result ≡ cut_stamp self.old.context place (execution_of (entry_at self.old.context place).stage) }
+        ensures growing { IsGrowing (λ (e : Entry). e.stamp) self.new.context.flight }
+        ensures bound { self.new.renamed ≤ length self.new.context.flight }
+    {
+        let store = self.flight.get(place).unwrap();
+        let stamp = store.stamp;
+        match bytes_to_come(store) {
+            Some(bytes) => {
+                let bytes = *bytes;
+                self.finish_writing(place, stamp, Some(bytes))
+            }
+            None => self.finish_writing(place, stamp, None),
+        }
+    }
+
+    /// The same, with its stamp and the bytes that it writes, none where it stops.
+    // They are read ahead of what is written into the ring, after which its entry would have to be looked for again.
+    #[inline(always)]
+    fn finish_writing(&mut self, place: usize, stamp: u64, bytes: Option<Bytes>) -> Option<u64>
+        requires place { place < length self.old.context.flight }
+        requires issued { IsIssued (entry_at self.old.context place).stage }
+        requires store { is_store (entry_at self.old.context place).operation ≡ true }
+        requires sound { IsSound (image_of self.old.context.state) (seen_of self.old.context.state) self.old.context.state.pc self.old.context.flight }
+        requires stamp { stamp ≡ (entry_at self.old.context place).stamp }
+        requires bytes { bytes ≡ bytes_in (execution_of (entry_at self.old.context place).stage).outcome }
+        ensures finished { self.new ≡ finished self.old place (execution_of (entry_at self.old.context place).stage) }
+        ensures cut { result ≡ cut_stamp self.old.context place (execution_of (entry_at self.old.context place).stage) }
+        ensures growing { IsGrowing (λ (e : Entry). e.stamp) self.new.context.flight }
+        ensures bound { self.new.renamed ≤ length self.new.context.flight }
+    {
+        // The stamps grow, before and after.
+        let _len = self.flight.len();
+        self.flight.finish(place);
+        self.fetch_pc = fetch_pc_after(&self.flight, place, self.fetch_pc);
+        let _left = self.flight.len();
+        let _renamed = self.flight.renamed_count();
+        self.queue.resolve_store(stamp, bytes)
+    }
+
+    /// The entries from a stamp on are dropped. The one at a place stays.
+    fn cut_past(&mut self, place: usize, stamp: u64)
+        requires place { place < length self.old.context.flight }
+        requires kept { (entry_at self.old.context place).stamp < stamp }
+        ensures { self.new ≡ cut_at self.old stamp }
+    {
+        self.flight.cut_past(place, stamp);
+        (self.fetch_pc, self.goes_on) = end_of(&self.flight, self.pc);
+        self.queue.drop_from(stamp);
+    }
+}
+
+/// Whether the next pc of an issued entry was guessed, and wrongly: then nothing younger is kept.
+fn is_mispredicted(entry: &Entry) -> bool
+    requires { IsIssued entry.now.stage }
+    ensures { result ≡ is_mispredicted_by entry.now (execution_of entry.now.stage).outcome }
+{
+    let Stage::Issued { execution } = entry.stage else {
+        unreachable!();
+    };
+    match execution.outcome {
+        Outcome::Goes { step } => entry.is_mispredicted(&step),
+        Outcome::Stops { .. } => false,
+    }
+}
+
+/// The bytes that an issued entry will write, if it writes any.
+// They are lent: each function that gave them by value would have them copied once more, in pieces.
+#[inline(always)]
+fn bytes_to_come(entry: &Entry) -> Option<&Bytes>
+    requires { IsIssued entry.now.stage }
+    ensures { option_copied result ≡ bytes_in (execution_of entry.now.stage).outcome }
+{
+    let Stage::Issued { execution } = &entry.stage else {
+        return None;
+    };
+    let Outcome::Goes { step } = &execution.outcome else {
+        return None;
+    };
+    let Access::Writes { bytes } = &step.access else {
+        return None;
+    };
+    Some(bytes)
+}
+
+/// The end of a flight over a pc: the pc at which fetch goes on, and whether it does.
+fn end_of<A: Allocator>(flight: &Flight<A>, pc: u64) -> (u64, bool)
+    ensures { IsEnd pc result.0 result.1 flight.now.entries }
+{
+    match flight.last() {
+        Some(entry) => (entry.followed, !entry.operation.stops_at_fetch()),
+        None => (pc, true),
+    }
+}
+
+/// The pc at which fetch goes on once the entry at a place has completed, where it went on at another before.
+#[inline(always)]
+fn fetch_pc_after<A: Allocator>(flight: &Flight<A>, place: usize, fetch_pc: u64) -> u64
+    requires { place < length flight.now.entries }
+    ensures last { place + 1 ≡ length flight.now.entries → result ≡ (entry_in flight.now.entries place).followed }
+    ensures before { place + 1 < length flight.now.entries → result ≡ fetch_pc }
+{
+    let count = flight.len();
+    if place + 1 < count {
+        return fetch_pc;
+    }
+    let entry = flight.get(place).unwrap();
+    entry.followed
+}
