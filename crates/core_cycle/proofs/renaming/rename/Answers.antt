@@ -1,12 +1,11 @@
 use Rattle.std.proofs.Common.{◌≡◌, ◌<◌, ◌≤◌, ◌∙◌, refl, sym, ap, subst, length, arith, List, get_or, Option, Some, None, ℕ, ◌≢◌}
 use Rattle.std.proofs.lemmas.Bool.{le-ltb}
-use Rattle.std.proofs.lemmas.Bool.{ltb-false}
 use Rattle.core_view.specs.declared.note.EntryId.{EntryId}
 use Rattle.core_view.specs.View.{View}
 use Rattle.core_cycle.specs.Fronts.{AreFronts, AreKept, IsFront}
 use Rattle.core_cycle.specs.Runs.{IsGrown}
 use Rattle.core_cycle.proofs.Alike.{alike_none, alike_chain}
-use Rattle.core_cycle.proofs.KeptRuns.{behind_fronts, others_left, none_left, turn_decreases}
+use Rattle.core_cycle.proofs.KeptRuns.{behind_fronts, none_longer, others_left, none_left, turn_decreases}
 use Rattle.core_cycle.proofs.FrontsBetween.{apart_kept, below_next, kept_fronts, renamed_past}
 use Rattle.core_cycle.proofs.Renamings.{rename_none}
 use Rattle.core_cycle.proofs.renaming.rename.Goals as goal
@@ -46,13 +45,10 @@ end_run-requires-clause-others g c =
 pub end_run-requires-clause-none : goal.end_run-requires-clause-none
 end_run-requires-clause-none g c = λ stayed.
     let run = c.rename_run.ensures.run in
-    let more = run.more in
-    let before = c.len-before.ensures.value in
-    let now = c.len.ensures.value in
     let room = c.loop-context.invariant.room in
-    let few = ltb-false c.len-before.result c.len.result stayed in
+    let none = none_longer c.in-Some.context c.from-width.result c.loop-context.machine.view c.rename_run.new.machine.view (g.L.Listing.items c.loop-context.renamed) (g.L.Listing.items c.rename_run.new.renamed) run c.len-before.result c.len.result c.len-before.ensures.value c.len.ensures.value stayed in
     none_left c.loop-context.machine.view c.loop-context.left c.in-Some.context c.loop-context.invariant.fronts c.rename_run.new.machine.view c.take-limit.result c.in-Some.ensures.least
-    (c.take-limit.ensures.above c.in-Some.ensures.least) (run.same (omega (arith, more, before, now, few))) (c.rename_run.ensures.cannot (omega (arith, more, before, now, few, room)))
+    (c.take-limit.ensures.above c.in-Some.ensures.least) (run.same none) (c.rename_run.ensures.cannot (omega (arith, none, room)))
 
 pub returns-then-len-width-clause-lawful : goal.returns-then-len-width-clause-lawful
 returns-then-len-width-clause-lawful g c =
@@ -118,10 +114,8 @@ end_run-requires-clause-others_kept g c = apart_kept c.loop-context.machine.view
 pub end_run-requires-clause-stayed : goal.end_run-requires-clause-stayed
 end_run-requires-clause-stayed g c = λ stayed.
     let run = c.rename_run.ensures.run in
-    let more = run.more in
-    let before = c.len-before.ensures.value in
-    let now = c.len.ensures.value in
-    subst (λ (v : View). AreKept v c.loop-context.fronts) (sym (run.same (let few = ltb-false c.len-before.result c.len.result stayed in omega (arith, more, before, now, few)))) c.loop-context.invariant.kept
+    let none = none_longer c.in-Some.context c.from-width.result c.loop-context.machine.view c.rename_run.new.machine.view (g.L.Listing.items c.loop-context.renamed) (g.L.Listing.items c.rename_run.new.renamed) run c.len-before.result c.len.result c.len-before.ensures.value c.len.ensures.value stayed in
+    subst (λ (v : View). AreKept v c.loop-context.fronts) (sym (run.same none)) c.loop-context.invariant.kept
 
 pub returns-then-len-width-clause-kept : goal.returns-then-len-width-clause-kept
 returns-then-len-width-clause-kept g c = c.end_run.ensures.kept
