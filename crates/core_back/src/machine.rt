@@ -1,6 +1,6 @@
 //! Eight contexts, and the data flow that they share.
 
-ghost use Rattle.std.specs.Prelude.{◌≡◌, ℕ, ◌+◌, ◌-◌, ◌<◌, ◌≤◌, ◌^◌, ◌&&◌, ◌==◌, false, not, length, count_by, slice_get, slice_index, slice_index_or, [], IfOk, IfSome, IsSome, MatchOption, Some, None, true, is_some, option_map, IsTrue, ◌↔◌};
+ghost use Rattle.std.specs.Prelude.{◌≡◌, ℕ, ◌+◌, ◌-◌, ◌<◌, ◌≤◌, ◌^◌, ◌&&◌, ◌==◌, false, not, length, drop, count_by, slice_get, slice_index, slice_index_or, [], IfOk, IfSome, IsSome, MatchOption, Some, None, true, is_some, option_map, IsTrue, ◌↔◌};
 ghost use Rattle.core_view.specs.declared.outcome.Outcome.TheVariants.{Stops};
 ghost use Rattle.core_view.specs.Events.{retire_event, stop_event, complete_event};
 ghost use Rattle.core_view.specs.Operations.{is_guessed};
@@ -214,6 +214,15 @@ impl<A: Allocator> Machine<A> {
     {
         let track = &self.tracks[context.index()];
         track.is_head_done()
+    }
+
+    /// Whether the entry after the oldest of a context is done.
+    #[inline(always)]
+    pub fn is_next_done(&self, context: Ctx) -> bool
+        ensures { result ≡ is_some (first_done (drop 1 (context_at self.now context).flight)) }
+    {
+        let track = &self.tracks[context.index()];
+        track.is_next_done()
     }
 
     /// The oldest entry of a context, which is done with a step, retires. A branch or jump is shown to the guess. At its
