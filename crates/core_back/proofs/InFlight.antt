@@ -26,6 +26,14 @@ in_flight-with_context m n c x lost e lt fewer =
     let total = sum_by-set (λ (y : Context). length y.flight) m.view.contexts c x no_context lt in
     subst (λ (q : Machine). lost + in_flight q ≡ in_flight m) (sym e) (omega (arith, total, fewer))
 
+-- and the flight of the context lost as many as there are fewer in flight
+pub flight-with_context : (m n : Machine) (c : ℕ) (x : Context) (lost : ℕ) → n ≡ with_context m c x → c < length m.view.contexts → lost + in_flight n ≡ in_flight m → lost + length x.flight ≡ length (context_at m c).flight
+unfolding in_flight
+flight-with_context m n c x lost e lt fewer =
+    let total = sum_by-set (λ (y : Context). length y.flight) m.view.contexts c x no_context lt in
+    let same = ap (λ (k : Machine). sum_by (λ (y : Context). length y.flight) k.view.contexts) e in
+    omega (arith, total, same, fewer)
+
 -- the same of the machine in memory
 pub in_flight_after : {A : Type 0} (m : Inside A) (now v : Machine) (c : ℕ) (x : Context) (lost : ℕ) → machine_of m ≡ now → c < length m.tracks.items → v ≡ with_context now c x → lost + length x.flight ≡ length (context_at now c).flight → lost + in_flight v ≡ in_flight now
 in_flight_after m now v c x lost shows lt e fewer =

@@ -1,11 +1,12 @@
 -- A selection, and the issue of the first entry that was selected, in the machine.
-use Rattle.std.proofs.Common.{◌≡◌, ◌≢◌, ℕ, zero, suc, ◌+◌, ◌<◌, ◌≤◌, Bool, true, false, List, [], ◌∷◌, length, get_or, drop, map, Option, Some, refl, sym, ap, subst, ◌∙◌, arith, inl, inr}
-use Rattle.std.specs.Prelude.{◌||◌, ◌==◌, not, set, All, AllPairs, IfSome}
+use Rattle.std.proofs.Common.{◌≡◌, ◌≢◌, ℕ, suc, ◌+◌, ◌<◌, Bool, true, false, List, [], ◌∷◌, length, get_or, drop, map, Option, Some, refl, sym, ap, subst, ◌∙◌, arith, inl, inr}
+use Rattle.std.specs.Prelude.{◌||◌, ◌&&◌, ◌==◌, not, set, All, AllPairs, IfSome}
 use Rattle.std.proofs.lemmas.List.Elements.{All-filter}
-use Rattle.std.proofs.lemmas.Bool.{cases_lt, lt-ltb, or_parts}
+use Rattle.std.proofs.lemmas.Bool.{cases_eq, cases_lt, lt-ltb, or_parts, and_parts, eqb-false, ne_eqb, not-true}
 use Rattle.std.proofs.lemmas.Bool.Decides.{nat_tests}
 use Rattle.std.specs.Arc.{arc_value}
-use Rattle.std.proofs.lemmas.List.{get_or_read, get_or-set_same, get_or-set_other, get_or_past, length-set, map-set}
+use Rattle.std.proofs.lemmas.List.{get_or-set_same, get_or-set_other, get_or_past, length-set, map-set}
+use Rattle.word_mask.specs.Mask.{has}
 use Rattle.core_view.specs.declared.note.EntryId.{EntryId}
 use Rattle.origin_set.specs.Start.{start}
 use Rattle.core_view.specs.View.{Context, entry_at, seen_at}
@@ -30,6 +31,7 @@ use Rattle.core_context.proofs.Laws.{remarked_twice, remarked_lane, held_kept, i
 use Rattle.core_back.proofs.Machines.{At, at_context, idle_names, room_after}
 use Rattle.core_back.proofs.Selections.{first_apart, rest_apart, ready_place, name_selected, remarked_core, select_core, select_waiters, select_apart, select_supplied, select_free, select_clear, select_idle}
 use Rattle.core_back.proofs.Chosen.{is_chosen}
+use Rattle.core_back.proofs.CompletedTurns.{has_none}
 use Rattle.core_back.proofs.Renamable.{track_flight}
 use Rattle.core_back.specs.Selected.{IsChosen}
 use Rattle.issue_queue.specs.declared.entry.QueueView.{QueueView}
@@ -231,31 +233,23 @@ same_supplied f g names same supplied i d lt =
     let lanes : lane g n.context ≡ lane f n.context = ap (λ (h : Flow). lane h n.context) same in
     rw lanes (supplied i d lt)
 
--- the eight contexts, in order
-pub context_of : (cs : List ℕ) (i d : ℕ) → cs ≡ 0 ∷ 1 ∷ 2 ∷ 3 ∷ 4 ∷ 5 ∷ 6 ∷ 7 ∷ [] → i < 8 → get_or cs i d ≡ i
-context_of cs i d is lt = rw is (by_place i lt)
-  where
-    by_place : (i : ℕ) → i < 8 → get_or (0 ∷ 1 ∷ 2 ∷ 3 ∷ 4 ∷ 5 ∷ 6 ∷ 7 ∷ []) i d ≡ i
-    by_place zero lt = refl
-    by_place (suc zero) lt = refl
-    by_place (suc (suc zero)) lt = refl
-    by_place (suc (suc (suc zero))) lt = refl
-    by_place (suc (suc (suc (suc zero)))) lt = refl
-    by_place (suc (suc (suc (suc (suc zero))))) lt = refl
-    by_place (suc (suc (suc (suc (suc (suc zero)))))) lt = refl
-    by_place (suc (suc (suc (suc (suc (suc (suc zero))))))) lt = refl
-    by_place (suc (suc (suc (suc (suc (suc (suc (suc i)))))))) lt = absurd (omega arith)
+-- ---- context by context
 
--- one more context of which none has to wait
-pub unheld_next : (ts : List Track) (n : ℕ) (t : Track) → n < length ts → t ≡ get_or ts n t → HoldsNone t → ((c : ℕ) → c < n → HoldsNone (get_or ts c no_track)) → (c : ℕ) → c < n + 1 → HoldsNone (get_or ts c no_track)
-unheld_next ts n t within read none before c lt = elim (cases_lt c n) [
-  | inl first ↦ before c first
-  | inr from ↦ let last : c ≡ n = omega (arith, lt, from) in subst (λ i. HoldsNone (get_or ts i no_track)) (sym last) (subst HoldsNone (get_or_read ts n t within read no_track) none)
-]
+-- a bit goes, and every other stays
+module _ (left next n : ℕ) (word : (p : ℕ) → has next p ≡ (has left p && not (p == n))) where
+  other_bit : (d : ℕ) → d ≢ n → has next d ≡ has left d
+  other_bit d other = word d ∙ ap (λ b. has left d && not b) (ne_eqb d n other) ∙ and_true (has left d)
+    where
+      and_true : (b : Bool) → (b && true) ≡ b
+      and_true true = refl
+      and_true false = refl
+
+  left_before : (d : ℕ) → has next d ≡ true → (has left d ≡ true) × (d ≢ n)
+  left_before d set = let parts = and_parts (has left d) (not (d == n)) (sym (word d) ∙ set) in (parts.0, eqb-false d n (not-true (d == n) parts.1))
 
 module _ {A : Type 0} where
-  -- the loads of the first contexts were asked of, and nothing but what is held has changed
-  pub record IsHeldTo (m h : Inside A) (n : ℕ) : Type 0 where
+  -- the loads of the contexts that are not left were asked of, and nothing but what is held has changed
+  pub record IsHeldBut (m h : Inside A) (left : ℕ) : Type 0 where
     pub origins : h.origins ≡ m.origins
     pub flow : IsRemarked m.flow h.flow
     pub tracks : h.tracks.items ≡ m.tracks.items
@@ -263,58 +257,54 @@ module _ {A : Type 0} where
     pub stamp : h.stamp ≡ m.stamp
     pub room : h.fetch_room ≡ m.fetch_room
     pub profile : h.profile ≡ m.profile
-    pub held : (c : ℕ) → c < n → AreHeld h.flow c (get_or m.tracks.items c no_track)
-    pub rest : (c : ℕ) → n ≤ c → (k : ℕ) → IsMarked h.flow c k false
+    pub known : (c : ℕ) → has left c ≡ true → c < 8
+    pub held : (c : ℕ) → c < 8 → has left c ≡ false → AreHeld h.flow c (get_or m.tracks.items c no_track)
+    pub rest : (c : ℕ) → has left c ≡ true → (k : ℕ) → IsMarked h.flow c k false
     pub none : h.holds ≡ false → AreLetGo h.flow
 
-  -- all are let go first
-  pub held_to_none : (m h : Inside A) → h.flow ≡ record m.flow { waiters = map released m.flow.waiters } → h.origins ≡ m.origins → h.tracks ≡ m.tracks → h.cycle ≡ m.cycle → h.stamp ≡ m.stamp → h.fetch_room ≡ m.fetch_room → h.profile ≡ m.profile → IsHeldTo m h 0
-  held_to_none m h is origins tracks cycle stamp room profile = record {
-    origins = origins;
-    flow = released_remarked m.flow h.flow is;
-    tracks = ap (λ v. v.items) tracks;
-    cycle = cycle;
-    stamp = stamp;
-    room = room;
-    profile = profile;
-    held = λ c lt. absurd (omega (arith, lt));
-    rest = λ c le k. let_go_marked h.flow (released_all m.flow h.flow is) c k;
-    none = λ unheld. released_all m.flow h.flow is;
-  }
+  -- all are let go first: those of a context of which none has to wait are then held as they have to be
+  pub held_first : (m h : Inside A) (left : ℕ) → IsMachine m → h.flow ≡ record m.flow { waiters = map released m.flow.waiters }
+      → ((c : ℕ) → has left c ≡ true → c < 8) → ((c : ℕ) → c < 8 → has left c ≡ false → HoldsNone (get_or m.tracks.items c no_track))
+      → h.origins ≡ m.origins → h.tracks ≡ m.tracks → h.cycle ≡ m.cycle → h.stamp ≡ m.stamp → h.fetch_room ≡ m.fetch_room → h.profile ≡ m.profile → IsHeldBut m h left
+  held_first m h left ok is known none origins tracks cycle stamp room profile =
+      let free : AreLetGo h.flow = released_all m.flow h.flow is in
+      record {
+        origins = origins;
+        flow = released_remarked m.flow h.flow is;
+        tracks = ap (λ v. v.items) tracks;
+        cycle = cycle;
+        stamp = stamp;
+        room = room;
+        profile = profile;
+        known = known;
+        held = λ c lt clear. none c lt clear h.flow c (λ i under. core_answered (ok.cores c lt) i (omega (arith, under))) (let_go_marked h.flow free c);
+        rest = λ c set k. let_go_marked h.flow free c k;
+        none = λ unheld. free;
+      }
 
-  -- the first contexts, of which none has to wait, are asked of already
-  pub held_to_first : (m h : Inside A) (n : ℕ) → IsMachine m → n ≤ 8 → ((c : ℕ) → c < n → HoldsNone (get_or m.tracks.items c no_track)) → IsHeldTo m h 0 → IsHeldTo m h n
-  held_to_first m h n ok few none first = record {
-    origins = first.origins;
-    flow = first.flow;
-    tracks = first.tracks;
-    cycle = first.cycle;
-    stamp = first.stamp;
-    room = first.room;
-    profile = first.profile;
-    held = λ c lt. none c lt h.flow c (λ i under. core_answered (ok.cores c (omega (arith, lt, few))) i (omega (arith, under))) (first.rest c (omega arith));
-    rest = λ c le. first.rest c (omega arith);
-    none = first.none;
-  }
+  -- where no context is left, all loads are held as they have to be
+  pub held_in_all : (m h : Inside A) (left : ℕ) → IsHeldBut m h left → left ≡ 0 → (c : ℕ) → c < 8 → AreHeld h.flow c (get_or m.tracks.items c no_track)
+  held_in_all m h left so_far over c lt = so_far.held c lt (ap (λ w. has w c) over ∙ has_none c)
 
   -- the machine as it was before
-  pub record IsHeldFrom (now : Machine) (h : Inside A) (n : ℕ) : Type 0 where
+  pub record IsHeldFrom (now : Machine) (h : Inside A) (left : ℕ) : Type 0 where
     pub machine : Inside A
     pub shows : machine_of machine ≡ now
     pub ok : IsMachine machine
-    pub so_far : IsHeldTo machine h n
+    pub so_far : IsHeldBut machine h left
 
-  -- the next context
-  pub context_next : (m h : Inside A) (now : Machine) (n k : ℕ) (t : Track) → machine_of m ≡ now → IsMachine m → IsHeldTo m h n → n < 8 → k ≡ n → t ≡ get_or h.tracks.items k t → At m now n t
-  context_next m h now n k t shows ok so_far lt same read = at_context m now n k t shows ok lt same (subst (λ (ts : List Track). t ≡ get_or ts k t) so_far.tracks read)
+  -- a context that is left
+  pub context_next : (m h : Inside A) (now : Machine) (left n k : ℕ) (t : Track) → machine_of m ≡ now → IsMachine m → IsHeldBut m h left → has left n ≡ true → k ≡ n → t ≡ get_or h.tracks.items k t → At m now n t
+  context_next m h now left n k t shows ok so_far set same read = at_context m now n k t shows ok (so_far.known n set) same (subst (λ (ts : List Track). t ≡ get_or ts k t) so_far.tracks read)
 
-  pub held_nodes : (m h : Inside A) (now : Machine) (n c : ℕ) (t : Track) → At m now n t → IsHeldTo m h n → c ≡ n → length (lane h.flow c).nodes ≡ t.renamed
-  held_nodes m h now n c t at_n so_far same = rw (same, remarked_lane m.flow h.flow n so_far.flow) (node_count at_n.core)
+  pub held_nodes : (m h : Inside A) (now : Machine) (left n : ℕ) (t : Track) → At m now n t → IsHeldBut m h left → length (lane h.flow n).nodes ≡ t.renamed
+  held_nodes m h now left n t at_n so_far = rw (remarked_lane m.flow h.flow n so_far.flow) (node_count at_n.core)
 
-  pub held_to_next : (m h w : Inside A) (now : Machine) (n c : ℕ) (t : Track) (held : Bool) → At m now n t → IsHeldTo m h n → c ≡ n
-      → IsRemarked h.flow w.flow → AreHeld w.flow c t → ((d j : ℕ) (b : Bool) → d ≢ c → IsMarked h.flow d j b → IsMarked w.flow d j b) → (held ≡ false → w.flow ≡ h.flow)
-      → w.origins ≡ h.origins → w.tracks ≡ h.tracks → w.cycle ≡ h.cycle → w.stamp ≡ h.stamp → w.fetch_room ≡ h.fetch_room → w.profile ≡ h.profile → w.holds ≡ (h.holds || held) → IsHeldTo m w (n + 1)
-  held_to_next m h w now n c t held at_n so_far context marks here others kept origins tracks cycle stamp room profile holds = record {
+  -- its loads are asked of
+  pub held_next : (m h w : Inside A) (now : Machine) (left next n : ℕ) (t : Track) (held : Bool) → At m now n t → IsHeldBut m h left → ((p : ℕ) → has next p ≡ (has left p && not (p == n)))
+      → IsRemarked h.flow w.flow → AreHeld w.flow n t → ((d j : ℕ) (b : Bool) → d ≢ n → IsMarked h.flow d j b → IsMarked w.flow d j b) → (held ≡ false → w.flow ≡ h.flow)
+      → w.origins ≡ h.origins → w.tracks ≡ h.tracks → w.cycle ≡ h.cycle → w.stamp ≡ h.stamp → w.fetch_room ≡ h.fetch_room → w.profile ≡ h.profile → w.holds ≡ (h.holds || held) → IsHeldBut m w next
+  held_next m h w now left next n t held at_n so_far word marks here others kept origins tracks cycle stamp room profile holds = record {
     origins = origins ∙ so_far.origins;
     flow = remarked_twice m.flow h.flow w.flow so_far.flow marks;
     tracks = ap (λ v. v.items) tracks ∙ so_far.tracks;
@@ -322,19 +312,20 @@ module _ {A : Type 0} where
     stamp = stamp ∙ so_far.stamp;
     room = room ∙ so_far.room;
     profile = profile ∙ so_far.profile;
-    held = λ d lt. elim (cases_lt d n) [
-      | inl before ↦ held_kept h.flow w.flow d (get_or m.tracks.items d no_track) marks (λ j b. others d j b (λ is. absurd (omega (arith, before, is, context)))) (so_far.held d before)
-      | inr from ↦ let last : d ≡ n = omega (arith, lt, from) in rw (last, ← at_n.track, ← context) here
+    known = λ d set. so_far.known d (left_before left next n word d set).0;
+    held = λ d lt clear. elim (cases_eq d n) [
+      | inl same ↦ rw (same, ← at_n.track) here
+      | inr other ↦ held_kept h.flow w.flow d (get_or m.tracks.items d no_track) marks (λ j b. others d j b other) (so_far.held d lt (sym (other_bit left next n word d other) ∙ clear))
     ];
-    rest = λ d le j. others d j false (λ is. absurd (omega (arith, le, is, context))) (so_far.rest d (omega (arith, le)) j);
+    rest = λ d set j. let before = left_before left next n word d set in others d j false before.1 (so_far.rest d before.0 j);
     none = λ unheld. let parts = or_parts h.holds held (sym holds ∙ unheld) in subst AreLetGo (sym (kept parts.1)) (so_far.none parts.0);
   }
 
   -- the machine after a selection among what isn't held
-  pub selected_machine : (m h w : Inside A) (now : Machine) (n : ℕ) {key : Waiting → ℕ} {width : ℕ} {names : List EntryId} → machine_of m ≡ now → IsMachine m → now.names ≡ [] → IsHeldTo m h n → 8 ≤ n
+  pub selected_machine : (m h w : Inside A) (now : Machine) (left : ℕ) {key : Waiting → ℕ} {width : ℕ} {names : List EntryId} → machine_of m ≡ now → IsMachine m → now.names ≡ [] → IsHeldBut m h left → left ≡ 0
       → w.flow ≡ record h.flow { waiters = w.flow.waiters } → IsSelected key width (queued h.flow) (queued w.flow) names
       → w.origins ≡ h.origins → w.tracks ≡ h.tracks → w.selected ≡ names → w.cycle ≡ h.cycle → w.stamp ≡ h.stamp → w.fetch_room ≡ h.fetch_room → w.profile ≡ h.profile → w.holds ≡ h.holds → IsMachine w
-  selected_machine m h w now n {names = names} shows ok idle so_far all same s origins tracks selected cycle stamp room profile holds =
+  selected_machine m h w now left {names = names} shows ok idle so_far over same s origins tracks selected cycle stamp room profile holds =
       let origins_m : w.origins ≡ m.origins = origins ∙ so_far.origins in
       let tracks_m : w.tracks.items ≡ m.tracks.items = ap (λ v. v.items) tracks ∙ so_far.tracks in
       let stamp_m : w.stamp ≡ m.stamp = stamp ∙ so_far.stamp in
@@ -368,26 +359,26 @@ module _ {A : Type 0} where
       clear j d lt = elim (cases_lt (get_or names j d).context 8) [
         | inl below ↦
             let name = get_or names j d in
-            select_clear h.flow (cores name.context below) name.stamp (name_selected names j d lt) (so_far.held name.context (omega (arith, below, all))) (ap (λ (f : Flow). lane f name.context) same) (select_free h.flow s j d lt)
+            select_clear h.flow (cores name.context below) name.stamp (name_selected names j d lt) (held_in_all m h left so_far over name.context below) (ap (λ (f : Flow). lane f name.context) same) (select_free h.flow s j d lt)
         | inr past ↦
             let none : get_or m.tracks.items (get_or names j d).context no_track ≡ no_track = get_or_past m.tracks.items (get_or names j d).context no_track (omega (arith, past, ok.tracks)) in
             rw none (λ i a b under. absurd (omega (arith, under)))
       ]
 
   -- and what it shows
-  pub selected_shown : (m h : Inside A) (now : Machine) (n : ℕ) (names : List EntryId) → machine_of m ≡ now → IsHeldTo m h n
+  pub selected_shown : (m h : Inside A) (now : Machine) (left : ℕ) (names : List EntryId) → machine_of m ≡ now → IsHeldBut m h left
       → (let v : Machine = record {
         origin = arc_value h.origins.c0;
         view = record { profile = h.profile; cycle = h.cycle; stamp = h.stamp; contexts = map (λ (t : Track). t.context) h.tracks.items };
         names = names;
         fetch_room = h.fetch_room;
       } in v) ≡ record now { names = names }
-  selected_shown m h now n names shows so_far = rw (so_far.origins, so_far.cycle, so_far.stamp, so_far.tracks, so_far.room, so_far.profile, ← shows) refl
+  selected_shown m h now left names shows so_far = rw (so_far.origins, so_far.cycle, so_far.stamp, so_far.tracks, so_far.room, so_far.profile, ← shows) refl
 
   -- and what was chosen of the view
-  pub selected_choice : (m h : Inside A) (g : Flow) (now : Machine) (n : ℕ) (key : QueueView → ℕ) (width : ℕ) (names : List EntryId) → machine_of m ≡ now → IsMachine m → now.names ≡ [] → IsHeldTo m h n → 8 ≤ n
+  pub selected_choice : (m h : Inside A) (g : Flow) (now : Machine) (left : ℕ) (key : QueueView → ℕ) (width : ℕ) (names : List EntryId) → machine_of m ≡ now → IsMachine m → now.names ≡ [] → IsHeldBut m h left → left ≡ 0
       → IsSelected (λ e. key (view_of e)) width (queued h.flow) (queued g) names → IsChosen key width now.view names
-  selected_choice m h g now n key width names shows ok idle so_far past s =
+  selected_choice m h g now left key width names shows ok idle so_far over s =
       is_chosen h.flow now.view (λ c. get_or m.tracks.items c no_track)
       (λ c lt. remarked_core (subst (λ ns. IsCore (start (arc_value m.origins.c0) c) m.stamp m.profile.reorder_buffer m.flow ns c (get_or m.tracks.items c no_track)) (idle_names m now shows idle) (ok.cores c lt)) so_far.flow)
-      (λ c lt. so_far.held c (omega (arith, lt, past))) (eight-remarked m.flow h.flow so_far.flow ok.contexts) (λ c lt. track_flight m now c shows ok lt) key width (queued g) names s
+      (held_in_all m h left so_far over) (eight-remarked m.flow h.flow so_far.flow ok.contexts) (λ c lt. track_flight m now c shows ok lt) key width (queued g) names s

@@ -1,6 +1,6 @@
 -- A front of a flight retires, entry by entry.
 use Rattle.std.proofs.Common.{◌≡◌, ◌≢◌, ℕ, zero, suc, ◌+◌, ◌<◌, ◌≤◌, Bool, true, false, List, [], ◌∷◌, ◌++◌, length, take, drop, get_or, map, All, Option, Some, None, refl, sym, ap, ◌∙◌, subst, arith, add-zero, append_assoc}
-use Rattle.std.specs.Prelude.{◌==◌, if◌then◌else◌, set}
+use Rattle.std.specs.Prelude.{◌==◌, ◌&&◌, if◌then◌else◌, set, is_some}
 use Rattle.std.proofs.lemmas.Bool.Decides.{nat_tests}
 use Rattle.std.proofs.lemmas.List.{drop-drop, take_more, set-get_or}
 use Rattle.std.proofs.lemmas.List.Elements.{All-push}
@@ -20,9 +20,10 @@ use Rattle.core_view.proofs.Live.{flight_running}
 use Rattle.core_view.specs.Events.{retire_event, stop_event}
 use Rattle.lawful_cycle.specs.Retire.{goes_on, is_done_on, stop_in, stop_done, stop_at_front, is_front_done, status_past, flight_if, past, KeepsDone}
 use Rattle.core_view.specs.declared.note.EntryId.{EntryId}
-use Rattle.core_back.specs.Machine.{Machine, context_at, with_context, with_contexts, no_context}
+use Rattle.core_back.specs.Machine.{Machine, context_at, in_flight, with_context, with_contexts, no_context}
 use Rattle.core_context.specs.Heads.{done_outcome, first_done}
 use Rattle.core_back.specs.Turn.{TurnsBy, reached, IsOnWay, stopped_by, ended, id_of}
+use Rattle.core_back.proofs.InFlight.{flight-with_context}
 
 -- ---- the front entry
 
@@ -220,6 +221,11 @@ some_flight : (es : List Entry) (o : Outcome) → first_done es ≡ Some o → 0
 some_flight [] o h = absurd cc
 some_flight (e ∷ es) o h = omega arith
 
+some_context : (xs : List Context) (c : ℕ) → 0 < length (get_or xs c no_context).flight → c < length xs
+some_context [] c some = absurd (omega (arith, some))
+some_context (x ∷ xs) zero some = omega arith
+some_context (x ∷ xs) (suc c) some = omega (arith, some_context xs c some)
+
 -- a context that has a done entry at its front becomes another
 module _ (m n : Machine) (c : ℕ) (x : Context) (o : Outcome) (done : first_done (context_at m c).flight ≡ Some o) (e : n ≡ with_context m c x) where
   pub context_now : context_at n c ≡ x
@@ -229,6 +235,31 @@ module _ (m n : Machine) (c : ℕ) (x : Context) (o : Outcome) (done : first_don
   pub one_changed : (k : Machine) → m ≡ with_context k c (context_at m c) → n ≡ with_context k c (context_at n c)
   one_changed k f =
       e ∙ ap (λ (j : Machine). with_context j c x) f ∙ ap (with_contexts k) (set_twice k.view.contexts c (context_at m c) x) ∙ ap (with_context k c) (sym context_now)
+
+-- ---- the next entry
+
+-- it is the oldest where nothing else has left, and where all have left and none but the oldest was dropped there was none
+next_left : (es : List Entry) (parked next : Bool) (dropped : ℕ) → next ≡ is_some (first_done (drop 1 es)) → 0 < length es → dropped + 1 + length (if parked then [] else drop 1 es) ≡ length es
+    → (next && (dropped == 0)) ≡ is_some (first_done (if parked then [] else drop 1 es))
+next_left [] parked next dropped is some fewer = absurd (omega (arith, some))
+next_left (e ∷ es) false false dropped is some fewer = is
+next_left (e ∷ es) false true zero is some fewer = is
+next_left (e ∷ es) false true (suc d) is some fewer = absurd (omega (arith, fewer))
+next_left (e ∷ es) true false dropped is some fewer = refl
+next_left (e ∷ es) true true (suc d) is some fewer = grind (arith, nat_tests)
+next_left (e ∷ []) true true zero is some fewer = absurd cc
+next_left (e ∷ f ∷ es) true true zero is some fewer = absurd (omega (arith, fewer))
+
+-- a context goes on after its oldest entry retired where its next one was done, and none was dropped
+pub next_stays : (m n : Machine) (c : ℕ) (step : Step) (next : Bool) (dropped : ℕ) → first_done (context_at m c).flight ≡ Some (Goes step) → n ≡ with_context m c (retire_event (context_at m c) step) → dropped + 1 + in_flight n ≡ in_flight m
+    → next ≡ is_some (first_done (drop 1 (context_at m c).flight)) → (next && (dropped == 0)) ≡ is_some (first_done (context_at n c).flight)
+next_stays m n c step next dropped done is fewer known =
+    let x = context_at m c in
+    let some : 0 < length x.flight = some_flight x.flight (Goes step) done in
+    next_left x.flight (x.count + 1 == x.target) next dropped known some (flight-with_context m n c (retire_event x step) (dropped + 1) is (some_context m.view.contexts c some) fewer)
+    ∙ ap (λ (y : Context). is_some (first_done y.flight)) (sym (context_now m n c (retire_event x step) (Goes step) done is))
+
+-- ---- the machine as it was
 
 pub none_changed : (m : Machine) (c : ℕ) → m ≡ with_context m c (context_at m c)
 none_changed m c = ap (with_contexts m) (sym (set-get_or m.view.contexts c no_context))

@@ -7,7 +7,7 @@ ghost use Rattle.word_mask.specs.Mask.{has};
 ghost use Rattle.core_back.specs.Completing.{IsTurn};
 ghost use Rattle.core_back.specs.Machine.{IsAlike, context_at, in_flight, with_contexts, completed_context};
 
-use crate::machine::Machine;
+use crate::machine::{Machine, first_context};
 use join_law::Ctx;
 use std::alloc::Allocator;
 
@@ -58,16 +58,6 @@ fn hinted<A: Allocator>(machine: &Machine<A>) -> u64
         word = word_mask::assigned(word, context.index(), machine.may_be_due(context));
     }
     word
-}
-
-/// The first context of a word.
-#[inline(always)]
-fn first_context(word: u64) -> Ctx
-    requires some { 0 < word }
-    requires known { (c : ℕ) → has word c ≡ true → c < 8 }
-    ensures { has word result ≡ true }
-{
-    Ctx::new(word_mask::lowest(word)).unwrap()
 }
 
 /// Whether one more entry of a context may be due, after so many completed.

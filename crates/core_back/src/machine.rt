@@ -1,6 +1,6 @@
 //! Eight contexts, and the data flow that they share.
 
-ghost use Rattle.std.specs.Prelude.{◌≡◌, ℕ, ◌+◌, ◌-◌, ◌<◌, ◌≤◌, ◌^◌, ◌&&◌, ◌==◌, false, not, length, count_by, slice_get, slice_index, slice_index_or, [], IfOk, IfSome, IsSome, MatchOption, Some, None, true, is_some, option_map, IsTrue, ◌↔◌};
+ghost use Rattle.std.specs.Prelude.{◌≡◌, ℕ, ◌+◌, ◌-◌, ◌<◌, ◌≤◌, ◌^◌, ◌&&◌, ◌==◌, false, not, length, drop, count_by, slice_get, slice_index, slice_index_or, [], IfOk, IfSome, IsSome, MatchOption, Some, None, true, is_some, option_map, IsTrue, ◌↔◌};
 ghost use Rattle.core_view.specs.declared.outcome.Outcome.TheVariants.{Stops};
 ghost use Rattle.core_view.specs.Events.{retire_event, stop_event, complete_event};
 ghost use Rattle.core_view.specs.Operations.{is_guessed};
@@ -20,6 +20,7 @@ ghost use Rattle.core_back.specs.Renamable.{front_stops};
 ghost use Rattle.core_back.specs.First.{IsFirst, IsTarget, AreMarksAt};
 ghost use Rattle.checkpoint.specs.Aligned.{IsAligned};
 ghost use Rattle.join_law.specs.Eight.{place_of};
+ghost use Rattle.word_mask.specs.Mask.{has};
 
 use crate::fetching::fetch_block;
 use crate::first::{first_flow, first_tracks, marks_of, origins_of};
@@ -216,6 +217,15 @@ impl<A: Allocator> Machine<A> {
         track.is_head_done()
     }
 
+    /// Whether the entry after the oldest of a context is done.
+    #[inline(always)]
+    pub fn is_next_done(&self, context: Ctx) -> bool
+        ensures { result ≡ is_some (first_done (drop 1 (context_at self.now context).flight)) }
+    {
+        let track = &self.tracks[context.index()];
+        track.is_next_done()
+    }
+
     /// The oldest entry of a context, which is done with a step, retires. A branch or jump is shown to the guess. At its
     /// target the context is parked, and its younger entries are dropped.
     #[inline(always)]
@@ -318,11 +328,13 @@ impl<A: Allocator> Machine<A> {
     {
         events::release(&mut self.flow, self.holds);
         self.holds = false;
-        for index in unheld_count(self.tracks.as_slice())..8 {
-            let context = Ctx::new(index).unwrap();
-            let track = &self.tracks[index];
+        let mut left = holding(self.tracks.as_slice());
+        while left != 0 {
+            let context = first_context(left);
+            let track = &self.tracks[context.index()];
             let held = events::hold_loads(&mut self.flow, track, context);
             self.holds = self.holds || held;
+            left = word_mask::cleared(left, context.index());
         }
         self.selected.select(&mut self.flow, order, width);
     }
@@ -553,19 +565,30 @@ impl<A: Allocator> Machine<A> {
     }
 }
 
-/// How many of eight contexts come before the first of which a load may have to wait for an older store.
+/// A word with a bit for each of eight contexts a load of which may have to wait for an older store.
 #[inline(always)]
-fn unheld_count<A: Allocator>(tracks: &[Track<A>]) -> usize
+fn holding<A: Allocator>(tracks: &[Track<A>]) -> u64
     requires { length tracks.now ≡ 8 }
-    ensures few { result ≤ 8 }
-    ensures none { (c : ℕ) → c < result → HoldsNone (slice_index_or tracks.now c no_track) }
+    ensures known { (c : ℕ) → has result c ≡ true → c < 8 }
+    ensures none { (c : ℕ) → c < 8 → has result c ≡ false → HoldsNone (slice_index_or tracks.now c no_track) }
 {
-    for index in 0..8usize {
-        if events::may_hold(&tracks[index]) {
-            return index;
-        }
+    // Gathered without a jump, as none could be guessed.
+    let mut word = 0;
+    for context in Ctx::all() {
+        let may_hold = events::may_hold(&tracks[context.index()]);
+        word = word_mask::assigned(word, context.index(), may_hold);
     }
-    8
+    word
+}
+
+/// The first context of a word.
+#[inline(always)]
+pub(crate) fn first_context(word: u64) -> Ctx
+    requires some { 0 < word }
+    requires known { (c : ℕ) → has word c ≡ true → c < 8 }
+    ensures { has word result ≡ true }
+{
+    Ctx::new(word_mask::lowest(word)).unwrap()
 }
 
 /// An entry that issued, and its lag.

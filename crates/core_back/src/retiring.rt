@@ -5,7 +5,7 @@ ghost use Rattle.std.specs.Int.{bit_at};
 ghost use Rattle.hart_step.specs.State.{State};
 ghost use Rattle.core_view.specs.declared.note.EntryId.{EntryId};
 ghost use Rattle.core_view.specs.View.{IsLive};
-ghost use Rattle.core_context.specs.Heads.{first_done};
+ghost use Rattle.core_context.specs.Heads.{first_done, IsGoing};
 ghost use Rattle.fetch_policy.specs.Lawful.{turn as turn_of};
 ghost use Rattle.lawful_cycle.specs.Retire.{IsRetire};
 ghost use Rattle.core_back.specs.Machine.{Machine as MachineView, IsAlike, in_flight, context_at, with_context};
@@ -126,20 +126,7 @@ fn retire_oldest<A: Allocator, G: Guess, L: Listing<EntryId, 16>>(
         };
     }
     match machine.head_stop(context) {
-        None => {
-            let gone = machine.retire(guess, context);
-            let dropped = with_dropped(dropped, gone.dropped);
-            let goes_on = machine.is_head_done(context);
-            retired.push(EntryId {
-                context,
-                stamp: gone.stamp,
-            });
-            Turn {
-                left: left - 1,
-                dropped,
-                goes_on,
-            }
-        }
+        None => retire_going(machine, guess, context, left, dropped, retired),
         Some(why) => {
             let stopped = machine.stop(context, why);
             Turn {
@@ -148,6 +135,50 @@ fn retire_oldest<A: Allocator, G: Guess, L: Listing<EntryId, 16>>(
                 goes_on: false,
             }
         }
+    }
+}
+
+/// The oldest entry of a context, which is done with a step, retires, and takes a place of the width.
+// Whether the context goes on is known before: the next entry is the oldest then, unless the context is parked, which
+// drops it. So nothing is read that the retirement has just written.
+#[inline(always)]
+fn retire_going<A: Allocator, G: Guess, L: Listing<EntryId, 16>>(
+    machine: &mut Machine<A>,
+    guess: &mut G,
+    context: Ctx,
+    left: usize,
+    dropped: usize,
+    retired: &mut L,
+) -> Turn
+    requires idle { machine.old.names ≡ [] }
+    requires going { IsGoing (first_done (context_at machine.old context).flight) }
+    requires some { 0 < left }
+    requires room { length (L.items retired.old) + left ≤ 16 }
+    requires few { dropped ≤ 6400 }
+    ensures alike { IsAlike machine.old machine.new }
+    ensures idle { machine.new.names ≡ [] }
+    ensures width { length (L.items retired.new) + result.left ≤ 16 }
+    ensures turn { (s : State) (stamp : ℕ) (b : MachineView) (k room : ℕ) (old : List EntryId) → IsLive s stamp (context_at b context) → IsInTurn b machine.old context k room left old (L.items retired.old) →
+        GoesOn result.goes_on b machine.new context (k + 1) room result.left old (L.items retired.new) }
+    ensures more { IsTrue result.goes_on → IsSome (first_done (context_at machine.new context).flight) }
+    ensures fewer { result.left ≤ left }
+    ensures one_fewer { IsTrue result.goes_on → result.left + 1 ≡ left }
+    ensures keeps { G.may_answer guess.new ≡ G.may_answer guess.old }
+    ensures dropped { result.dropped + length (L.items retired.new) + in_flight machine.new ≡ dropped + length (L.items retired.old) + in_flight machine.old }
+    ensures bound { result.dropped ≤ dropped + 80 }
+{
+    let next = machine.is_next_done(context);
+    let gone = machine.retire(guess, context);
+    let dropped = with_dropped(dropped, gone.dropped);
+    let goes_on = next && gone.dropped == 0;
+    retired.push(EntryId {
+        context,
+        stamp: gone.stamp,
+    });
+    Turn {
+        left: left - 1,
+        dropped,
+        goes_on,
     }
 }
 

@@ -236,13 +236,17 @@ held_all old f c t n holds h le i lt stage =
     rw lanes (h.held i (omega (arith, le, lt)) stage)
 
 -- where no load waits none has to wait for a store
-pub holds_no_load : (t : Track) → NoneFrom is_waiting_load t.context.flight 0 → HoldsNone t
+holds_no_load : (t : Track) → NoneFrom is_waiting_load t.context.flight 0 → HoldsNone t
 holds_no_load t next = λ f c answered let_go. held_all f f c t t.renamed false (held_skip f f c t 0 t.renamed false (held_first f c t let_go) (omega arith) (λ i from lt. next i from)) (omega arith)
 
 -- nor where no store is in the queue
-pub holds_no_store : (t : Track) (no_store : Bool) → (no_store ≡ true → stores_of t.context.flight ≡ []) → not no_store ≡ false → HoldsNone t
+holds_no_store : (t : Track) (no_store : Bool) → (no_store ≡ true → stores_of t.context.flight ≡ []) → not no_store ≡ false → HoldsNone t
 holds_no_store t true stores h = λ f c answered let_go. none_stored_held f c t answered let_go (stores refl)
 holds_no_store t false stores h = absurd (true≢false h)
+
+pub holds_none : (t : Track) (load no_store : Bool) → (load ≡ false → NoneFrom is_waiting_load t.context.flight 0) → (no_store ≡ true → stores_of t.context.flight ≡ []) → (load && not no_store) ≡ false → HoldsNone t
+holds_none t false no_store loads stores h = holds_no_load t (loads refl)
+holds_none t true no_store loads stores h = holds_no_store t no_store stores h
 
 -- of another context they are held still
 pub held_kept : (f g : Flow) (c : ℕ) (t : Track) → IsRemarked f g → ((k : ℕ) (b : Bool) → IsMarked f c k b → IsMarked g c k b) → AreHeld f c t → AreHeld g c t

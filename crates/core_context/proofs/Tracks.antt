@@ -88,6 +88,11 @@ first_is_done (e ∷ es) = by_stage e.stage
     by_stage (Issued x) = refl
     by_stage (Done x) = refl
 
+-- and the one after it
+pub next_is_done : (es : List Entry) → is_done (get_or es 1 no_entry).stage ≡ is_some (first_done (drop 1 es))
+next_is_done [] = refl
+next_is_done (e ∷ es) = first_is_done es
+
 -- ---- the end of a flight
 
 -- the pc where a flight goes on is the one that its last entry was followed at

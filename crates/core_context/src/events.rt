@@ -527,7 +527,8 @@ pub fn release<A: Allocator>(flow: &mut DataFlow<A>, holds: bool)
 pub fn may_hold<A: Allocator>(track: &Track<A>) -> bool
     ensures { result ≡ false → HoldsNone track.now }
 {
-    track.has_queued_load() && !track.has_no_store()
+    // Both are asked, without a jump between them.
+    track.has_queued_load() & !track.has_no_store()
 }
 
 /// Tells the queue which loads of a context, which are all let go, have to wait for an older store. Returns whether one
@@ -541,9 +542,6 @@ pub fn hold_loads<A: Allocator>(flow: &mut DataFlow<A>, track: &Track<A>, contex
     ensures others { (d k : ℕ) (b : Bool) → d ≢ context → IsMarked flow.old d k b → IsMarked flow.new d k b }
     ensures none { result ≡ false → flow.new ≡ flow.old }
 {
-    if !may_hold(track) {
-        return false;
-    }
     let mut holds = false;
     let mut from = 0;
     for _turn in 0..track.renamed_count() {

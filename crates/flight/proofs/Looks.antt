@@ -1,5 +1,5 @@
 -- What the words and the hints of a flight show of its entries.
-use Rattle.std.proofs.Common.{◌≡◌, ◌≢◌, ℕ, zero, suc, ◌+◌, ◌*◌, ◌%◌, ◌<◌, ◌≤◌, Bool, true, false, cond, List, [], ◌∷◌, length, take, get_or, Some, None, is_some, refl, sym, ◌∙◌, ap, arith, inl, inr, ◌⊎◌}
+use Rattle.std.proofs.Common.{◌≡◌, ◌≢◌, ℕ, zero, suc, ◌+◌, ◌*◌, ◌/◌, ◌%◌, ◌<◌, ◌≤◌, Bool, true, false, cond, List, [], ◌∷◌, length, take, get_or, Some, None, is_some, refl, sym, ◌∙◌, ap, arith, inl, inr, ◌⊎◌}
 use Rattle.std.specs.Prelude.{◌==◌, if◌then◌else◌}
 use Rattle.std.specs.Int.{bit_at}
 use Rattle.std.proofs.lemmas.Bool.{eqb-true}
@@ -88,3 +88,14 @@ first-bit test (e ∷ es) w (suc r) is within ahead fetched = ap (λ n. n % 2 ==
     low : (b : Bool) (n : ℕ) → ((cond b 1 0 + 2 * n) % 2 == 1) ≡ b
     low true n = grind (arith, nat_tests)
     low false n = grind (arith, nat_tests)
+
+-- and the second: it is the first of the word of the others
+pub second-bit : (test : Entry → Bool) (es : List Entry) (w r : ℕ) → w ≡ word_of test (take r es) → r ≤ length es → IsAhead r es → ((e : Entry) → e.stage ≡ Fetched → test e ≡ false) → (w / 2 % 2 == 1) ≡ test (entry_in es 1)
+second-bit test es w zero is within ahead fetched = ap (λ n. n / 2 % 2 == 1) is ∙ sym (fetched (entry_in es 1) (ahead 1 (omega arith)))
+second-bit test [] w (suc r) is within ahead fetched = absurd (omega arith)
+second-bit test (e ∷ es) w (suc r) is within ahead fetched = ap (λ n. n / 2 % 2 == 1) is ∙ ap (λ n. n % 2 == 1) (others (test e) (word_of test (take r es)))
+    ∙ first-bit test es (word_of test (take r es)) r refl (omega (arith, within)) (λ i after. ahead (suc i) (omega (arith, after))) fetched
+  where
+    others : (b : Bool) (n : ℕ) → (cond b 1 0 + 2 * n) / 2 ≡ n
+    others true n = omega arith
+    others false n = omega arith

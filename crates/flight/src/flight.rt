@@ -106,6 +106,14 @@ impl<A: Allocator> Flight<A> {
         self.marks.done % 2 == 1
     }
 
+    /// Whether the entry after the oldest is done.
+    #[inline(always)]
+    pub fn is_next_done(&self) -> bool
+        ensures { result ≡ is_done (entry_in self.now.entries 1).stage }
+    {
+        self.marks.done / 2 % 2 == 1
+    }
+
     /// The youngest entry.
     pub fn last(&self) -> Option<&Entry>
         ensures { option_copied result ≡ last_item self.now.entries }

@@ -7,9 +7,6 @@ use Rattle.core_context.proofs.HeldLoads.{remarked_lane, held_first, held_next, 
 use Rattle.core_context.proofs.events.hold_loads.Goals as goal
 use Rattle.core_context.proofs.events.hold_loads.Goals.{then-holds, else-holds}
 
-pub returns-then-not-may_hold-clause-held : goal.returns-then-not-may_hold-clause-held
-returns-then-not-may_hold-clause-held g c = c.may_hold.ensures c.if-not-may_hold.true c.args.flow.now c.args.context c.requires.answered c.requires.let_go
-
 pub loop-turn-init : goal.loop-turn-init
 loop-turn-init g c = record { below = held_first c.args.flow.now c.args.context c.args.track.now c.requires.let_go; past = omega arith; within = omega arith }
 
