@@ -1,5 +1,5 @@
 -- The end of a flight, as it is kept beside it, event by event.
-use Rattle.std.proofs.Common.{◌≡◌, ℕ, zero, suc, ◌+◌, ◌-◌, ◌<◌, Bool, true, false, List, [], ◌∷◌, ◌++◌, length, get_or, drop, Some, None, refl, sym, ap, ◌∙◌, arith, inl, inr, ◌⊎◌}
+use Rattle.std.proofs.Common.{◌≡◌, ℕ, zero, suc, ◌+◌, ◌-◌, ◌<◌, Bool, true, false, List, [], ◌∷◌, ◌++◌, length, get_or, drop, slice_get, Some, None, refl, sym, ap, ◌∙◌, arith, inl, inr, ◌⊎◌}
 use Rattle.std.specs.Prelude.{set, not}
 use Rattle.std.proofs.lemmas.List.{length-set}
 use Rattle.circular_buffer.specs.Buffer.{last_item}
@@ -8,11 +8,14 @@ use Rattle.core_view.specs.declared.outcome.Step.{Step}
 use Rattle.core_view.specs.declared.outcome.Outcome.{Outcome}
 use Rattle.core_view.specs.declared.outcome.Outcome.TheVariants.{Goes, Stops}
 use Rattle.core_view.specs.Operations.{stops_at_fetch}
-use Rattle.core_view.specs.Events.{followed_by}
+use Rattle.core_view.specs.Events.{followed_by, with_stage, renamed_stage}
 use Rattle.core_view.specs.Flight.{pc_past, is_open}
+use Rattle.core_view.specs.Queues.{loads_of, stores_of}
 use Rattle.core_view.specs.View.{no_entry}
+use Rattle.load_store_queue.specs.Queues.{Queues}
 use Rattle.core_context.specs.Ends.{IsEnd}
-use Rattle.core_context.proofs.Tracks.{pc_last, pc_some, open_some, none_last}
+use Rattle.core_context.specs.Placed.{Holds}
+use Rattle.core_context.proofs.Tracks.{set_read, pc_last, pc_some, open_some, none_last}
 
 -- ---- another entry at a place
 
@@ -32,6 +35,15 @@ open_set (f ∷ g ∷ es) (suc (suc i)) e same = open_set (g ∷ es) (suc i) e s
 -- an entry comes further, followed as it was
 pub end_set : (pc q : ℕ) (b : Bool) (es fs : List Entry) (i : ℕ) (e : Entry) → IsEnd pc q b es → fs ≡ set es i e → e.followed ≡ (get_or es i no_entry).followed → e.operation ≡ (get_or es i no_entry).operation → IsEnd pc q b fs
 end_set pc q b es fs i e end is followed operation = rw is (record { pc_is = end.pc_is ∙ sym (pc_set pc es i e followed); open_is = end.open_is ∙ sym (open_set es i e operation) })
+
+-- the oldest fetched entry is renamed, and its access has its place
+pub renamed_kept : (cycle pc next : ℕ) (goes : Bool) (es fs : List Entry) (i : ℕ) (e : Entry) (q : Queues) → slice_get es i ≡ Some e → fs ≡ set es i (let f = get_or es i no_entry in with_stage f (renamed_stage cycle f.operation))
+    → Holds q (set es i (with_stage e (renamed_stage cycle e.operation))) → IsEnd pc next goes es → (q.loads ≡ loads_of fs) × (q.stores ≡ stores_of fs) × IsEnd pc next goes fs
+renamed_kept cycle pc next goes es fs i e q read items held end =
+    (held.loads ∙ sym (ap (λ (gs : List Entry). loads_of gs) is), held.stores ∙ sym (ap (λ (gs : List Entry). stores_of gs) is), end_set pc next goes es fs i _ end items refl refl)
+  where
+    is : fs ≡ set es i (with_stage e (renamed_stage cycle e.operation))
+    is = set_read es fs i e (λ f. with_stage f (renamed_stage cycle f.operation)) read items
 
 at_end : (i n : ℕ) → i < n → (i + 1 ≡ n) ⊎ (i + 1 < n)
 at_end i n lt = grind arith

@@ -12,3 +12,4 @@ pub mod Renamable
 pub mod Left
 pub mod Text
 pub mod Ends
+pub mod Placed
