@@ -14,7 +14,7 @@ use Rattle.core_view.specs.Queues.{loads_of, stores_of}
 use Rattle.core_view.specs.View.{no_entry}
 use Rattle.load_store_queue.specs.Queues.{Queues}
 use Rattle.core_context.specs.Ends.{IsEnd}
-use Rattle.core_context.specs.Placed.{Holds}
+use Rattle.entry_stages.specs.Placed.{Holds}
 use Rattle.core_context.proofs.Tracks.{set_read, pc_last, pc_some, open_some, none_last}
 
 -- ---- another entry at a place

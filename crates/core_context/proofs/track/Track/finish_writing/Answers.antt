@@ -13,7 +13,7 @@ use Rattle.core_view.specs.Queues.{loads_of, conflict_in}
 use Rattle.core_view.specs.View.{no_entry, entry_at}
 use Rattle.load_store_queue.specs.Queues.{Queues, slot_with_bytes}
 use Rattle.core_context.specs.Track.{Track, cut_stamp}
-use Rattle.core_context.proofs.QueueSlots.{store_holds}
+use Rattle.entry_stages.proofs.Laws.{store_holds}
 use Rattle.core_context.proofs.Tracks.{cut_store}
 use Rattle.core_context.proofs.Ends.{end_finished}
 use Rattle.core_context.proofs.track.Track.finish_writing.Goals as goal

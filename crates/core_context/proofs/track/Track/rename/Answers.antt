@@ -1,6 +1,6 @@
 use Rattle.std.proofs.Common.{rules, ◌≡◌, ap, slice_get, Some}
 use Rattle.flight.specs.Flights.{Flight}
-use Rattle.core_context.proofs.QueueSlots.{can_place}
+use Rattle.entry_stages.proofs.Laws.{can_place}
 use Rattle.core_context.proofs.Ends.{renamed_kept}
 use Rattle.core_context.proofs.track.Track.rename.Goals as goal
 
