@@ -1,4 +1,4 @@
-//! What the stages of the core do with one entry, apart from the flight that it stands in.
+//! What the stages of the core do with one entry, without the track that it stands in.
 #![tactic(auto)]
 
 mod accesses;
