@@ -18,7 +18,7 @@ use Rattle.core_view.specs.Events.{MayFollow}
 use Rattle.data_flow.specs.Flow.{Flow, lane, with_lane, without_oldest, cut_flow}
 use Rattle.core_context.specs.Track.{Track, is_last, retired, stepped, parked, stopped, completed, renamed_one, fetched_one}
 use Rattle.core_context.specs.Steps.{retired_flow, completed_flow, renamed_flow}
-use Rattle.core_context.specs.Heads.{first_done}
+use Rattle.entry_stages.specs.Heads.{first_done}
 use Rattle.core_context.specs.Cores.{front_room}
 use Rattle.core_context.specs.Left.{IsEventAt, KeepsCores}
 use Rattle.core_context.proofs.OtherContexts.{cut_flow_left, retired_flow_left, completed_flow_left}

@@ -7,13 +7,11 @@ pub mod OtherContexts
 pub mod FlowSizes
 pub mod CoreOfFlight
 pub mod Completes
-pub mod Computes
 pub mod Retires
 pub mod Renames
 pub mod Fetches
 pub mod HeldLoads
 pub mod WaiterMarks
-pub mod QueueSlots
 pub mod Tracks
 pub mod RenamedAreOldest
 pub mod WaitingCounts
@@ -26,5 +24,4 @@ pub mod PlainCompletes
 pub mod PlainNext
 pub mod AnyNext
 pub mod Laws
-pub mod Texts
 pub mod Ends

@@ -29,7 +29,7 @@ use Rattle.data_flow.specs.Flow.{Node, Lane, Flow, no_node, node_at, lane, with_
 use Rattle.core_context.specs.Track.{Track, is_last, retired, stopped}
 use Rattle.core_context.specs.Queued.{queued_at, waiting_of}
 use Rattle.core_context.specs.Steps.{retired_flow}
-use Rattle.core_context.specs.Heads.{done_outcome, first_done}
+use Rattle.entry_stages.specs.Heads.{done_outcome, first_done}
 use Rattle.core_context.specs.Cores.{node_of_entry, AllFetched, IsCore}
 use Rattle.core_context.proofs.Waiting.{or_none, queued_past}
 use Rattle.core_context.proofs.Queue.{waiting-cut, none_before, none_selected, waiters-drop, core_waiting}

@@ -10,10 +10,6 @@ use Rattle.reorder_buffer.specs.Growing.{IsGrowing as IsRising, below}
 use Rattle.reorder_buffer.proofs.Stamps.{take-below}
 use Rattle.hart_step.specs.declared.stop.Stop.{Stop}
 use Rattle.core_view.specs.declared.span.Bytes.{Bytes}
-use Rattle.hart_step.specs.declared.environment.Environment.{Environment}
-use Rattle.paged_memory.specs.Cells.{Cells}
-use Rattle.core_view.specs.declared.outcome.Access.{Access}
-use Rattle.core_view.specs.declared.outcome.Access.TheVariants.{Free, Reads, Writes}
 use Rattle.core_view.specs.declared.outcome.Step.{Step}
 use Rattle.core_view.specs.declared.outcome.Outcome.{Outcome}
 use Rattle.core_view.specs.declared.outcome.Outcome.TheVariants.{Goes, Stops}
@@ -22,7 +18,7 @@ use Rattle.core_view.specs.declared.entry.Stage.{Stage}
 use Rattle.core_view.specs.declared.entry.Stage.TheVariants.{Fetched, Queued, Issued, Done}
 use Rattle.core_view.specs.declared.entry.Entry.{Entry}
 use Rattle.core_view.specs.Operations.{stops_at_fetch, is_guessed, is_store}
-use Rattle.core_view.specs.Outcomes.{Image, bytes_written, memory_after}
+use Rattle.core_view.specs.Outcomes.{Image, bytes_written}
 use Rattle.core_view.specs.Flight.{is_queued, is_done, Seen, seen_past, pc_past, is_open, span_read, bytes_in, touches, clean_length, HasOutcome, IsSoundEntry, IsSound}
 use Rattle.core_view.specs.Events.{is_mispredicted, kept_length, completed_entry, complete_in}
 use Rattle.core_view.specs.Queues.{is_renamed, loads_of, conflict_in, conflict_of}
@@ -34,10 +30,11 @@ use Rattle.core_view.proofs.RingForm.{complete_take}
 use Rattle.core_view.proofs.Sound.{sound_at}
 use Rattle.flight.specs.Flights.{NoneFrom, IsNext}
 use Rattle.flight.specs.Marked.{is_waiting}
-use Rattle.core_context.specs.Heads.{IsGoing, done_outcome, first_done}
+use Rattle.entry_stages.specs.Heads.{IsGoing, done_outcome, first_done}
 use Rattle.core_context.specs.Queued.{queued_at}
-use Rattle.core_context.specs.Track.{Track, left_by, cut_stamp, finished, cut_at, completed, is_mispredicted_by}
-use Rattle.core_context.proofs.QueueSlots.{growing_whole}
+use Rattle.entry_stages.specs.Mispredicted.{is_mispredicted_by}
+use Rattle.core_context.specs.Track.{Track, left_by, cut_stamp, finished, cut_at, completed}
+use Rattle.entry_stages.proofs.Laws.{growing_whole}
 use Rattle.core_context.proofs.Waiting.{and_none}
 
 -- ---- an entry at a place
@@ -59,12 +56,6 @@ past xs i is =
 -- a change of what stands at a place is a change of what was read there
 pub set_read : (es fs : List Entry) (i : ℕ) (e : Entry) (change : Entry → Entry) → slice_get es i ≡ Some e → fs ≡ set es i (change (get_or es i no_entry)) → fs ≡ set es i (change e)
 set_read es fs i e change read is = is ∙ ap (λ (n : Entry). set es i (change n)) (get_or_from_slice_get es i e no_entry read)
-
--- an access that writes no bytes leaves memory as it is
-pub memory_unwritten : (environment : Environment) (memory : Cells) (a : Access) → bytes_written a ≡ None → memory_after environment memory a ≡ memory
-memory_unwritten environment memory Free none = refl
-memory_unwritten environment memory (Reads span) none = refl
-memory_unwritten environment memory (Writes bytes) none = absurd (none-some bytes (sym none))
 
 -- the oldest entry as it is read
 pub going_renamed : (s : Stage) → IsGoing (done_outcome s) → is_renamed s ≡ true

@@ -12,7 +12,7 @@ use Rattle.data_flow.specs.Flow.{Flow, Waiter, is_waiter, lane, sources_at}
 use Rattle.data_tags.specs.declared.delay.Kind.{Kind}
 use Rattle.data_tags.specs.declared.delay.Lag.{Lag}
 use Rattle.lawful_cycle.specs.Delays.{kind_of, address_in, IsLagOf}
-use Rattle.core_context.specs.Effects.{answered_in}
+use Rattle.entry_stages.specs.Effects.{answered_in}
 use Rattle.core_context.specs.Queued.{queued_at}
 use Rattle.core_context.specs.Track.{Track, issued}
 

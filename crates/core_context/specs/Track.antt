@@ -1,18 +1,16 @@
 -- One context, and what each event makes of it.
-use Rattle.std.specs.Prelude.{ℕ, ◌+◌, ◌-◌, Bool, false, ◌==◌, nat_lt, if◌then◌else◌, [], ◌∷◌, ◌++◌, length, drop, min, slice_set, Option, Some, None}
+use Rattle.std.specs.Prelude.{ℕ, ◌+◌, ◌-◌, Bool, ◌==◌, nat_lt, if◌then◌else◌, [], ◌∷◌, ◌++◌, length, drop, min, slice_set, Option, Some, None}
 use Rattle.reorder_buffer.specs.Growing.{below}
 use Rattle.hart_step.specs.declared.stop.Stop.{Stop}
 use Rattle.hart_step.specs.State.{State}
 use Rattle.core_view.specs.declared.outcome.Step.{Step}
-use Rattle.core_view.specs.declared.outcome.Outcome.{Outcome}
-use Rattle.core_view.specs.declared.outcome.Outcome.TheVariants.{Goes, Stops}
 use Rattle.core_view.specs.declared.entry.Execution.{Execution}
 use Rattle.core_view.specs.declared.entry.Entry.{Entry}
 use Rattle.core_view.specs.declared.status.Status.TheVariants.{Parked}
 use Rattle.flight.specs.Flights.{Flight}
 use Rattle.core_view.specs.Outcomes.{moved}
 use Rattle.core_view.specs.View.{Context, entry_at, first_context}
-use Rattle.core_view.specs.Events.{completed_entry, is_mispredicted, retire_event, stop_event, complete_event, kept_length, issue_event, rename_event, fetch_event, with_flight}
+use Rattle.core_view.specs.Events.{completed_entry, retire_event, stop_event, complete_event, kept_length, issue_event, rename_event, fetch_event, with_flight}
 
 -- a context, how many of its entries are renamed, which are the oldest, how many entries there may be, and how many renamed loads and stores
 pub record Track : Type 0 where
@@ -72,11 +70,6 @@ cut_at t k = let es = below (λ e. e.stamp) k t.context.flight in record t { con
 
 abbrev pub completed : Track → ℕ → Execution → Track
 completed t i x = record t { context = complete_event t.context i x; renamed = min t.renamed (left_by t.context i x) }
-
--- an entry's next pc was guessed, and wrongly by its outcome; after a stop there is none
-abbrev pub is_mispredicted_by : Entry → Outcome → Bool
-is_mispredicted_by e (Goes step) = is_mispredicted e step
-is_mispredicted_by e (Stops why) = false
 
 -- the stamp of the oldest entry that is squashed, if one is
 abbrev pub cut_stamp : Context → ℕ → Execution → Option ℕ

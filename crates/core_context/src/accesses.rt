@@ -2,27 +2,21 @@
 
 ghost use Rattle.std.specs.Prelude.{◌≡◌, ◌<◌, ◌^◌, length, take, true, false};
 ghost use Rattle.hart_step.specs.declared.effect.Effect.TheVariants.{Loads, Stores};
-ghost use Rattle.hart_step.specs.Next.{stop_of};
-ghost use Rattle.hart_step.specs.Values.{load_bytes};
 ghost use Rattle.core_view.specs.declared.entry.Stage.TheVariants.{Queued};
-ghost use Rattle.core_view.specs.declared.outcome.Outcome.TheVariants.{Stops};
 ghost use Rattle.core_view.specs.Loads.{may_issue};
 ghost use Rattle.core_view.specs.Operations.{is_load};
-ghost use Rattle.core_view.specs.Outcomes.{load_span};
 ghost use Rattle.core_view.specs.View.{entry_at};
 ghost use Rattle.data_tags.specs.declared.delay.Kind.TheVariants.{Load, Store};
-ghost use Rattle.lawful_cycle.specs.Delays.{one_cycle};
 ghost use Rattle.core_context.specs.Issuable.{IsAnswered, effected_at};
-ghost use Rattle.core_context.specs.Performed.{due_after, HasIssuedWith};
+ghost use Rattle.core_context.specs.Performed.{HasIssuedWith};
 
-use crate::lags::{ONE_CYCLE, due_after, lag_of};
 use crate::track::Track;
-use core_view::{Execution, Outcome, Span, loads_at, stores_at};
+use core_view::{loads_at, stores_at};
 use data_tags::{Delay, Kind, Lag};
-use hart_step::{Effect, load_width, stop_of_fault};
+use entry_stages::{ONE_CYCLE, due_after, lag_of, refused, span_of};
+use hart_step::Effect;
 use join_law::Ctx;
 use load_store_queue::LoadAnswer;
-use paged_memory::Fault;
 use rv64_decode::{LoadKind, StoreWidth};
 use std::alloc::Allocator;
 
@@ -99,24 +93,4 @@ pub(crate) fn perform_store<A: Allocator, D: Delay>(
     let lag = lag_of(delay, context, Kind::Store, address, &outcome);
     track.issue_other(place, due_after(cycle, lag, outcome));
     lag
-}
-
-/// What an access comes to that memory refuses in a cycle: a stop, due in the next.
-fn refused(fault: Fault, cycle: u64) -> Execution
-    requires { cycle < 2 ^ 56 }
-    ensures { result ≡ due_after cycle one_cycle (Stops (stop_of fault)) }
-{
-    let why = stop_of_fault(fault);
-    due_after(cycle, ONE_CYCLE, Outcome::Stops { why })
-}
-
-/// The span that a load asks for.
-#[inline(always)]
-pub(crate) fn span_of(kind: LoadKind, address: u64) -> Span
-    ensures { result ≡ load_span address (load_bytes kind) }
-{
-    Span {
-        address,
-        size: load_width(kind).bytes(),
-    }
 }

@@ -14,7 +14,7 @@ ghost use Rattle.core_view.specs.View.{entry_at};
 ghost use Rattle.core_context.specs.Issuable.{HasIssued, IsAnswered, IsIssuable, IsIssuableAt, IsMarked, AreLetGo, must_wait, AreHeld, HoldsNone};
 ghost use Rattle.core_context.specs.Track.{is_last, retired, parked, stopped, completed, renamed_one};
 ghost use Rattle.core_context.specs.Cores.{operands_of, AllFetched};
-ghost use Rattle.core_context.specs.Heads.{IsGoing, first_done, step_on};
+ghost use Rattle.entry_stages.specs.Heads.{IsGoing, first_done, step_on};
 ghost use Rattle.flight.specs.Flights.{execution_of, is_due, IsIssued};
 ghost use Rattle.core_context.specs.Left.{IsIdleCore, IsEventAt};
 ghost use Rattle.core_context.specs.Renamable.{HasPlaces, IsRenamable};
@@ -25,8 +25,9 @@ use crate::track::Track;
 use branch_predict::Guess;
 use core_profile::Profile;
 use core_view::{Decoded, Entry};
-use data_flow::{DataFlow, Operands};
+use data_flow::DataFlow;
 use data_tags::{Delay, Lag};
+use entry_stages::{is_past_front, operands};
 use hart_step::Stop;
 use join_law::Ctx;
 use std::alloc::Allocator;
@@ -275,16 +276,6 @@ fn has_places_apart<A: Allocator>(flow: &DataFlow<A>, track: &Track<A>, operatio
     operation.stops_at_fetch() || flow.has_place()
 }
 
-/// Whether an entry was fetched as many cycles ago as the front delay says.
-fn is_past_front(entry: &Entry, cycle: u64, profile: &Profile) -> bool
-    ensures { IsTrue result ↔ (entry.now.fetched + profile.now.front_delay ≤ cycle) }
-{
-    match cycle.checked_sub(u64::from(profile.front_delay)) {
-        Some(latest) => entry.fetched <= latest,
-        None => false,
-    }
-}
-
 /// The oldest fetched entry is renamed in a cycle, if it can be and its stamp is no greater than a limit. Returns its stamp.
 pub fn rename<A: Allocator>(
     flow: &mut DataFlow<A>,
@@ -389,18 +380,6 @@ fn rename_waiting<A: Allocator>(flow: &mut DataFlow<A>, track: &mut Track<A>, co
     let guessed = entry.operation.is_guessed();
     track.rename_waiting();
     flow.rename_waiting(context, operands(&entry), guessed, speculative);
-}
-
-/// The registers that an entry names.
-fn operands(entry: &Entry) -> Operands
-    ensures { result ≡ operands_of entry.now }
-{
-    Operands {
-        stamp: entry.stamp,
-        destination: entry.operation.destination(),
-        first: entry.operation.first_source(),
-        second: entry.operation.second_source(),
-    }
 }
 
 /// Tells the queue of the entries that are behind no guessed entry any more: those up to the oldest guessed entry that

@@ -2,13 +2,11 @@
 #![tactic(auto)]
 
 mod accesses;
-mod decoded_memory;
 pub mod events;
 mod fetching;
 mod issuing;
-mod lags;
-mod retirement;
 mod track;
 
-pub use fetching::{Onward, fetch};
+pub use entry_stages::Onward;
+pub use fetching::fetch;
 pub use track::Track;

@@ -19,7 +19,7 @@ use Rattle.core_view.specs.Operations.{is_load}
 use Rattle.core_view.specs.Flight.{is_done, has_missed, is_missed_load}
 use Rattle.core_view.specs.View.{no_entry}
 use Rattle.flight.specs.declared.marks.Marks.{Marks}
-use Rattle.flight.specs.Marked.{word_of, marks_of, missed_at_issue, is_load_that_missed, has_completed}
+use Rattle.flight.specs.Marked.{word_of, marks_of, is_waiting_load, missed_at_issue, is_load_that_missed, has_completed}
 use Rattle.flight.specs.Flights.{entry_in}
 
 pub five : (a b c d e a' b' c' d' e' : ℕ) → a ≡ a' → b ≡ b' → c ≡ c' → d ≡ d' → e ≡ e' →
@@ -42,6 +42,10 @@ word-unset p es e w is fails = is ∙ grown es
     grown : (fs : List Entry) → word_of p fs ≡ word_of p (fs ++ e ∷ [])
     grown [] = ap (λ b. cond b 1 0 + 2 * 0) (sym fails)
     grown (f ∷ fs) = ap (λ n. cond (p f) 1 0 + 2 * n) (grown fs)
+
+-- the word of loads that wait, beside the others of an entry more
+pub loads-told : (es : List Entry) (e : Entry) (w : ℕ) → w ≡ word_of is_waiting_load (es ++ e ∷ []) → record (marks_of (es ++ e ∷ [])) { waiting_loads = w } ≡ marks_of (es ++ e ∷ [])
+loads-told es e w is = ap (λ v. let m : Marks = record (marks_of (es ++ e ∷ [])) { waiting_loads = v } in m) is
 
 pub word-set : (p : Entry → Bool) (es : List Entry) (e : Entry) (w r place : ℕ) (b : Bool) → w ≡ word_of p es → place < length es → length es ≤ 64 → b ≡ p e →
     ((ms : List Bool) → w ≡ mask_l ms → place < length ms → length ms ≤ 64 → r ≡ mask_l (set ms place b)) → r ≡ word_of p (set es place e)

@@ -60,9 +60,7 @@ impl Marks {
         requires { place < 64 }
         ensures { (es : List Entry) → self.old ≡ marks_of es → place ≡ length es → entry.now.stage ≡ Queued → self.new ≡ marks_of (es ++ entry.now ∷ []) }
     {
-        self.waiting = push(self.waiting, place, true);
-        self.open_guesses = push(self.open_guesses, place, entry.operation.is_guessed());
-        // Their other bits are clear, that at the place too.
+        self.push_queued(place, entry);
         if entry.operation.is_load() {
             self.waiting_loads = push(self.waiting_loads, place, true);
         }
@@ -74,7 +72,16 @@ impl Marks {
         requires { place < 64 }
         ensures { (es : List Entry) → self.old ≡ marks_of es → place ≡ length es → entry.now.stage ≡ Queued → is_load entry.now.operation ≡ false → self.new ≡ marks_of (es ++ entry.now ∷ []) }
     {
-        // Its other bits are clear.
+        self.push_queued(place, entry);
+    }
+
+    /// The same but for the word of the loads that wait.
+    #[inline(always)]
+    fn push_queued(&mut self, place: usize, entry: &Entry)
+        requires { place < 64 }
+        ensures { (es : List Entry) → self.old ≡ marks_of es → place ≡ length es → entry.now.stage ≡ Queued → self.new ≡ record (marks_of (es ++ entry.now ∷ [])) { waiting_loads = self.old.waiting_loads } }
+    {
+        // The other bits at the place are clear already.
         self.waiting = push(self.waiting, place, true);
         self.open_guesses = push(self.open_guesses, place, entry.operation.is_guessed());
     }

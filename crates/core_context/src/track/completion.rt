@@ -1,18 +1,19 @@
 //! How an entry of a context completes, and what it squashes.
 
-ghost use Rattle.std.specs.Prelude.{◌≡◌, ◌+◌, ◌-◌, ◌<◌, ◌≤◌, true, false, length, Some, option_copied, None};
+ghost use Rattle.std.specs.Prelude.{◌≡◌, ◌+◌, ◌-◌, ◌<◌, ◌≤◌, true, length, Some, None};
 ghost use Rattle.reorder_buffer.specs.Growing.{IsGrowing};
 ghost use Rattle.core_view.specs.Outcomes.{image_of};
 ghost use Rattle.core_view.specs.Flight.{seen_of, bytes_in, IsSound};
 ghost use Rattle.core_view.specs.Operations.{is_store, stops_at_fetch};
 ghost use Rattle.core_view.specs.declared.entry.Entry.{Entry};
 ghost use Rattle.core_view.specs.View.{entry_at};
-ghost use Rattle.flight.specs.Flights.{entry_in, execution_of, IsIssued};
+ghost use Rattle.flight.specs.Flights.{execution_of, IsIssued};
 ghost use Rattle.core_context.specs.Ends.{IsEnd};
-ghost use Rattle.core_context.specs.Track.{finished, cut_at, completed, cut_stamp, is_mispredicted_by};
+ghost use Rattle.core_context.specs.Track.{finished, cut_at, completed, cut_stamp};
 
 use crate::track::Track;
-use core_view::{Access, Bytes, Entry, Outcome, Stage};
+use core_view::Bytes;
+use entry_stages::{bytes_to_come, fetch_pc_after, is_mispredicted};
 use flight::Flight;
 use std::alloc::Allocator;
 
@@ -118,39 +119,6 @@ impl<A: Allocator> Track<A> {
     }
 }
 
-/// Whether the next pc of an issued entry was guessed, and wrongly: then nothing younger is kept.
-fn is_mispredicted(entry: &Entry) -> bool
-    requires { IsIssued entry.now.stage }
-    ensures { result ≡ is_mispredicted_by entry.now (execution_of entry.now.stage).outcome }
-{
-    let Stage::Issued { execution } = entry.stage else {
-        unreachable!();
-    };
-    match execution.outcome {
-        Outcome::Goes { step } => entry.is_mispredicted(&step),
-        Outcome::Stops { .. } => false,
-    }
-}
-
-/// The bytes that an issued entry will write, if it writes any.
-// They are lent: each function that gave them by value would have them copied once more, in pieces.
-#[inline(always)]
-fn bytes_to_come(entry: &Entry) -> Option<&Bytes>
-    requires { IsIssued entry.now.stage }
-    ensures { option_copied result ≡ bytes_in (execution_of entry.now.stage).outcome }
-{
-    let Stage::Issued { execution } = &entry.stage else {
-        return None;
-    };
-    let Outcome::Goes { step } = &execution.outcome else {
-        return None;
-    };
-    let Access::Writes { bytes } = &step.access else {
-        return None;
-    };
-    Some(bytes)
-}
-
 /// The end of a flight over a pc: the pc at which fetch goes on, and whether it does.
 fn end_of<A: Allocator>(flight: &Flight<A>, pc: u64) -> (u64, bool)
     ensures { IsEnd pc result.0 result.1 flight.now.entries }
@@ -159,19 +127,4 @@ fn end_of<A: Allocator>(flight: &Flight<A>, pc: u64) -> (u64, bool)
         Some(entry) => (entry.followed, !entry.operation.stops_at_fetch()),
         None => (pc, true),
     }
-}
-
-/// The pc at which fetch goes on once the entry at a place has completed, where it went on at another before.
-#[inline(always)]
-fn fetch_pc_after<A: Allocator>(flight: &Flight<A>, place: usize, fetch_pc: u64) -> u64
-    requires { place < length flight.now.entries }
-    ensures last { place + 1 ≡ length flight.now.entries → result ≡ (entry_in flight.now.entries place).followed }
-    ensures before { place + 1 < length flight.now.entries → result ≡ fetch_pc }
-{
-    let count = flight.len();
-    if place + 1 < count {
-        return fetch_pc;
-    }
-    let entry = flight.get(place).unwrap();
-    entry.followed
 }

@@ -2,7 +2,7 @@ use Rattle.std.proofs.Common.{length, arith, ap, sym, ◌∙◌}
 use Rattle.core_view.specs.declared.outcome.Outcome.TheVariants.{Goes}
 use Rattle.core_view.proofs.Live.{flight_running}
 use Rattle.core_context.specs.Track.{Track}
-use Rattle.core_context.specs.Heads.{first_done, step_on}
+use Rattle.entry_stages.specs.Heads.{first_done, step_on}
 use Rattle.core_context.proofs.Retires.{is_first_done, oldest_renamed, oldest_known, oldest_done, oldest_idle, oldest_below, oldest_sized, oldest_unwritten, oldest_followed, oldest_goes}
 use Rattle.core_context.proofs.EventsKept.{parked_is, parked_kept, running_is, running_kept, one_fewer}
 use Rattle.core_context.proofs.events.retire.Goals as goal

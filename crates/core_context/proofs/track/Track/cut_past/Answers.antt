@@ -4,7 +4,7 @@ use Rattle.reorder_buffer.specs.Growing.{below}
 use Rattle.core_view.specs.declared.entry.Entry.{Entry}
 use Rattle.core_view.specs.Queues.{LoadSlot, StoreSlot, loads_of, stores_of}
 use Rattle.load_store_queue.specs.Queues.{Queues, load_stamp, store_stamp}
-use Rattle.core_context.proofs.QueueSlots.{loads_below, stores_below}
+use Rattle.entry_stages.proofs.Laws.{loads_below, stores_below}
 use Rattle.core_context.proofs.track.Track.cut_past.Goals as goal
 
 pub invariant_of-self : goal.invariant_of-self

@@ -8,8 +8,9 @@ use Rattle.core_view.specs.Outcomes.{image_of}
 use Rattle.core_view.specs.Flight.{seen_of, IsSound}
 use Rattle.core_view.specs.Events.{completed_entry}
 use Rattle.core_view.specs.View.{no_entry, entry_at}
-use Rattle.core_context.specs.Track.{Track, cut_stamp, is_mispredicted_by}
-use Rattle.core_context.proofs.QueueSlots.{other_holds}
+use Rattle.entry_stages.specs.Mispredicted.{is_mispredicted_by}
+use Rattle.core_context.specs.Track.{Track, cut_stamp}
+use Rattle.entry_stages.proofs.Laws.{other_holds}
 use Rattle.core_context.proofs.Tracks.{set_read, cut_kept, cut_wrong_none, cut_wrong_some, writes_none}
 use Rattle.core_context.proofs.Ends.{end_finished}
 use Rattle.core_context.proofs.track.Track.finish.Goals as goal

@@ -8,7 +8,7 @@ use Rattle.core_view.specs.Flight.{seen_of, IsSound}
 use Rattle.core_view.specs.Events.{completed_entry}
 use Rattle.core_view.specs.View.{no_entry, entry_at}
 use Rattle.core_context.specs.Track.{Track, cut_stamp}
-use Rattle.core_context.proofs.QueueSlots.{other_holds}
+use Rattle.entry_stages.proofs.Laws.{other_holds}
 use Rattle.core_context.proofs.Tracks.{cut_kept, followed_right, writes_none}
 use Rattle.core_context.proofs.Ends.{end_set, followed_still}
 use Rattle.core_context.proofs.track.Track.finish_plain.Goals as goal

@@ -1,7 +1,7 @@
 use Rattle.std.proofs.Common.{ap, ◌∙◌}
 use Rattle.std.specs.Prelude.{is_some}
 use Rattle.core_context.specs.Track.{Track}
-use Rattle.core_context.specs.Heads.{first_done}
+use Rattle.entry_stages.specs.Heads.{first_done}
 use Rattle.core_context.proofs.Tracks.{first_is_done}
 use Rattle.core_context.proofs.track.Track.is_head_done.Goals as goal
 

@@ -12,7 +12,7 @@ use Rattle.core_view.specs.Events.{with_stage}
 use Rattle.core_view.specs.View.{no_entry}
 use Rattle.load_store_queue.specs.Queues.{Queues, with_span}
 use Rattle.core_context.proofs.Tracks.{set_read}
-use Rattle.core_context.proofs.QueueSlots.{loads_issue, stores_issue}
+use Rattle.entry_stages.proofs.Laws.{loads_issue, stores_issue}
 use Rattle.core_context.proofs.Ends.{end_set}
 use Rattle.core_context.proofs.track.Track.issue_load.Goals as goal
 

@@ -5,7 +5,7 @@ use Rattle.core_view.specs.declared.entry.Entry.{Entry}
 use Rattle.core_view.specs.Queues.{loads_of, stores_of}
 use Rattle.core_view.specs.Operations.{stops_at_fetch}
 use Rattle.core_view.specs.Flight.{is_open}
-use Rattle.core_context.proofs.QueueSlots.{loads_push, stores_push}
+use Rattle.entry_stages.proofs.Laws.{loads_push, stores_push}
 use Rattle.core_context.proofs.Ends.{end_push}
 use Rattle.core_context.proofs.track.Track.push.Goals as goal
 

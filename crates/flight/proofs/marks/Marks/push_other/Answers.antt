@@ -1,23 +1,14 @@
-use Rattle.std.proofs.Common.{ap, sym, ◌∙◌}
-use Rattle.std.specs.Prelude.{◌&&◌, not}
+use Rattle.std.proofs.Common.{ap, ◌∙◌}
+use Rattle.std.specs.Prelude.{◌&&◌}
 use Rattle.flight.specs.declared.marks.Marks.{Marks}
 use Rattle.core_view.specs.declared.entry.Stage.{Stage}
-use Rattle.core_view.specs.Operations.{is_load, is_guessed}
-use Rattle.core_view.specs.Flight.{is_queued, is_done, is_open_guess}
-use Rattle.flight.specs.Marked.{is_waiting, is_waiting_load, is_load_that_missed, missed_at_issue, has_completed}
-use Rattle.flight.proofs.Words.{five, word-push, word-unset, and-none, and-all}
+use Rattle.core_view.specs.Operations.{is_load}
+use Rattle.core_view.specs.Flight.{is_queued}
+use Rattle.flight.specs.Marked.{is_waiting_load}
+use Rattle.flight.proofs.Words.{loads-told, word-unset}
 use Rattle.flight.proofs.marks.Marks.push_other.Goals as goal
 
 pub returns : goal.returns
 returns c es e at queued no_load =
-    let o = c.args.entry.now.operation in
-    let waits = sym (ap is_queued queued) in
-    let other = ap (λ (s : Stage). is_queued s && is_load o) queued ∙ no_load in
-    let guess = c.is_guessed.ensures ∙ and-all (is_guessed o) ∙ sym (ap (λ (s : Stage). is_guessed o && not (is_done s)) queued) in
-    let missed = ap (λ (s : Stage). is_load o && missed_at_issue s) queued ∙ sym (and-none (is_load o)) in
-    five _ _ _ _ _ _ _ _ _ _
-    (word-push is_waiting es c.args.entry.now _ _ _ _ (ap (λ (m : Marks). m.waiting) e) at waits c.push-self.ensures)
-    (word-unset is_waiting_load es c.args.entry.now _ (ap (λ (m : Marks). m.waiting_loads) e) other)
-    (word-push is_open_guess es c.args.entry.now _ _ _ _ (ap (λ (m : Marks). m.open_guesses) e) at guess c.push-self-2.ensures)
-    (word-unset is_load_that_missed es c.args.entry.now _ (ap (λ (m : Marks). m.missed_loads) e) missed)
-    (word-unset has_completed es c.args.entry.now _ (ap (λ (m : Marks). m.done) e) (ap is_done queued))
+    let other = ap (λ (s : Stage). is_queued s && is_load c.args.entry.now.operation) queued ∙ no_load in
+    c.push_queued.ensures es e at queued ∙ loads-told es c.args.entry.now _ (word-unset is_waiting_load es c.args.entry.now _ (ap (λ (m : Marks). m.waiting_loads) e) other)

@@ -1,37 +1,22 @@
 use Rattle.std.proofs.Common.{ap, sym, ◌∙◌}
-use Rattle.std.specs.Prelude.{◌&&◌, not}
+use Rattle.std.specs.Prelude.{◌&&◌}
 use Rattle.flight.specs.declared.marks.Marks.{Marks}
 use Rattle.core_view.specs.declared.entry.Stage.{Stage}
-use Rattle.core_view.specs.Operations.{is_load, is_guessed}
-use Rattle.core_view.specs.Flight.{is_queued, is_done, is_open_guess}
-use Rattle.flight.specs.Marked.{is_waiting, is_waiting_load, is_load_that_missed, missed_at_issue, has_completed}
-use Rattle.flight.proofs.Words.{five, word-push, word-unset, and-none, and-all}
+use Rattle.core_view.specs.Operations.{is_load}
+use Rattle.core_view.specs.Flight.{is_queued}
+use Rattle.flight.specs.Marked.{is_waiting_load}
+use Rattle.flight.proofs.Words.{loads-told, word-push, word-unset}
 use Rattle.flight.proofs.marks.Marks.push_waiting.Goals as goal
 
 pub returns-then-is_load : goal.returns-then-is_load
 returns-then-is_load c es e at queued =
-    let o = c.args.entry.now.operation in
-    let waits = sym (ap is_queued queued) in
-    let load = sym (ap (λ (s : Stage). is_queued s && is_load o) queued ∙ sym c.is_load.ensures ∙ c.if-is_load.true) in
-    let guess = c.is_guessed.ensures ∙ and-all (is_guessed o) ∙ sym (ap (λ (s : Stage). is_guessed o && not (is_done s)) queued) in
-    let missed = ap (λ (s : Stage). is_load o && missed_at_issue s) queued ∙ sym (and-none (is_load o)) in
-    five _ _ _ _ _ _ _ _ _ _
-    (word-push is_waiting es c.args.entry.now _ _ _ _ (ap (λ (m : Marks). m.waiting) e) at waits c.push-self.ensures)
-    (word-push is_waiting_load es c.args.entry.now _ _ _ _ (ap (λ (m : Marks). m.waiting_loads) e) at load c.push-self-then-is_load.ensures)
-    (word-push is_open_guess es c.args.entry.now _ _ _ _ (ap (λ (m : Marks). m.open_guesses) e) at guess c.push-self-2.ensures)
-    (word-unset is_load_that_missed es c.args.entry.now _ (ap (λ (m : Marks). m.missed_loads) e) missed)
-    (word-unset has_completed es c.args.entry.now _ (ap (λ (m : Marks). m.done) e) (ap is_done queued))
+    let pushed = c.push_queued.ensures es e at queued in
+    let load = sym (ap (λ (s : Stage). is_queued s && is_load c.args.entry.now.operation) queued ∙ sym c.is_load.ensures ∙ c.if-is_load.true) in
+    let was = ap (λ (m : Marks). m.waiting_loads) pushed ∙ ap (λ (m : Marks). m.waiting_loads) e in
+    ap (λ (m : Marks). record m { waiting_loads = c.push-self.result }) pushed
+    ∙ loads-told es c.args.entry.now c.push-self.result (word-push is_waiting_load es c.args.entry.now _ _ _ _ was at load c.push-self.ensures)
 
 pub returns-else-is_load : goal.returns-else-is_load
 returns-else-is_load c es e at queued =
-    let o = c.args.entry.now.operation in
-    let waits = sym (ap is_queued queued) in
-    let other = ap (λ (s : Stage). is_queued s && is_load o) queued ∙ sym c.is_load.ensures ∙ c.if-is_load.false in
-    let guess = c.is_guessed.ensures ∙ and-all (is_guessed o) ∙ sym (ap (λ (s : Stage). is_guessed o && not (is_done s)) queued) in
-    let missed = ap (λ (s : Stage). is_load o && missed_at_issue s) queued ∙ sym (and-none (is_load o)) in
-    five _ _ _ _ _ _ _ _ _ _
-    (word-push is_waiting es c.args.entry.now _ _ _ _ (ap (λ (m : Marks). m.waiting) e) at waits c.push-self.ensures)
-    (word-unset is_waiting_load es c.args.entry.now _ (ap (λ (m : Marks). m.waiting_loads) e) other)
-    (word-push is_open_guess es c.args.entry.now _ _ _ _ (ap (λ (m : Marks). m.open_guesses) e) at guess c.push-self-2.ensures)
-    (word-unset is_load_that_missed es c.args.entry.now _ (ap (λ (m : Marks). m.missed_loads) e) missed)
-    (word-unset has_completed es c.args.entry.now _ (ap (λ (m : Marks). m.done) e) (ap is_done queued))
+    let other = ap (λ (s : Stage). is_queued s && is_load c.args.entry.now.operation) queued ∙ sym c.is_load.ensures ∙ c.if-is_load.false in
+    c.push_queued.ensures es e at queued ∙ loads-told es c.args.entry.now _ (word-unset is_waiting_load es c.args.entry.now _ (ap (λ (m : Marks). m.waiting_loads) e) other)

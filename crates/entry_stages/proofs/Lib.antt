@@ -1,0 +1,5 @@
+mod Texts
+mod Computes
+mod Unwritten
+pub mod QueueSlots
+pub mod Laws
