@@ -547,11 +547,18 @@ impl<A: Allocator> Machine<A> {
         ensures keeps { G.may_answer guess.new ≡ G.may_answer guess.old }
         ensures flights { in_flight self.new + length (L.items fetched.old) ≡ in_flight self.old + length (L.items fetched.new) }
     {
-        let track = &mut self.tracks[context.index()];
-        let most = usize::from(num2.min(self.fetch_room)).min(track.front_room());
-        let number = fetch_block(track, context, guess, self.stamp, self.cycle, most, fetched);
-        self.stamp += number as u64;
-        self.fetch_room -= number as u8;
+        let Machine {
+            tracks,
+            cycle,
+            stamp,
+            fetch_room,
+            ..
+        } = self;
+        let track = &mut tracks[context.index()];
+        let most = usize::from(num2.min(*fetch_room)).min(track.front_room());
+        let number = fetch_block(track, context, guess, *stamp, *cycle, most, fetched);
+        *stamp += number as u64;
+        *fetch_room -= number as u8;
     }
 
     /// The next cycle begins.
