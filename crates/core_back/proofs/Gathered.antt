@@ -1,5 +1,5 @@
 -- The contexts of which a load may have to wait, gathered in a word.
-use Rattle.std.proofs.Common.{◌≡◌, ◌≢◌, ℕ, zero, suc, ◌+◌, ◌<◌, Bool, true, false, List, [], ◌∷◌, length, get_or, refl, sym, ap, subst, ◌∙◌, arith, inl, inr}
+use Rattle.std.proofs.Common.{◌≡◌, ◌≢◌, ℕ, ◌+◌, ◌<◌, Bool, true, false, List, length, get_or, sym, ap, subst, ◌∙◌, arith, inl, inr}
 use Rattle.std.specs.Prelude.{◌==◌, if◌then◌else◌}
 use Rattle.std.proofs.lemmas.Bool.{cases_eq, eq-eqb, ne_eqb}
 use Rattle.std.proofs.lemmas.List.{get_or_read}
@@ -8,21 +8,6 @@ use Rattle.core_context.specs.Track.{Track}
 use Rattle.core_context.specs.Issuable.{HoldsNone}
 use Rattle.core_back.specs.Machine.{no_track}
 use Rattle.core_back.proofs.CompletedTurns.{has_none}
-
--- the eight contexts, in order
-pub context_of : (cs : List ℕ) (i d : ℕ) → cs ≡ 0 ∷ 1 ∷ 2 ∷ 3 ∷ 4 ∷ 5 ∷ 6 ∷ 7 ∷ [] → i < 8 → get_or cs i d ≡ i
-context_of cs i d is lt = rw is (by_place i lt)
-  where
-    by_place : (i : ℕ) → i < 8 → get_or (0 ∷ 1 ∷ 2 ∷ 3 ∷ 4 ∷ 5 ∷ 6 ∷ 7 ∷ []) i d ≡ i
-    by_place zero lt = refl
-    by_place (suc zero) lt = refl
-    by_place (suc (suc zero)) lt = refl
-    by_place (suc (suc (suc zero))) lt = refl
-    by_place (suc (suc (suc (suc zero)))) lt = refl
-    by_place (suc (suc (suc (suc (suc zero))))) lt = refl
-    by_place (suc (suc (suc (suc (suc (suc zero)))))) lt = refl
-    by_place (suc (suc (suc (suc (suc (suc (suc zero))))))) lt = refl
-    by_place (suc (suc (suc (suc (suc (suc (suc (suc i)))))))) lt = absurd (omega arith)
 
 -- of the first contexts, a load of one without a bit never has to wait
 pub record AreGathered (ts : List Track) (word n : ℕ) : Type 0 where

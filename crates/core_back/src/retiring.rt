@@ -157,12 +157,11 @@ fn retire_going<A: Allocator, G: Guess, L: Listing<EntryId, 16>>(
     requires few { dropped ≤ 6400 }
     ensures alike { IsAlike machine.old machine.new }
     ensures idle { machine.new.names ≡ [] }
-    ensures width { length (L.items retired.new) + result.left ≤ 16 }
+    ensures one { length (L.items retired.new) ≡ length (L.items retired.old) + 1 }
+    ensures left { result.left + 1 ≡ left }
     ensures turn { (s : State) (stamp : ℕ) (b : MachineView) (k room : ℕ) (old : List EntryId) → IsLive s stamp (context_at b context) → IsInTurn b machine.old context k room left old (L.items retired.old) →
         GoesOn result.goes_on b machine.new context (k + 1) room result.left old (L.items retired.new) }
     ensures more { IsTrue result.goes_on → IsSome (first_done (context_at machine.new context).flight) }
-    ensures fewer { result.left ≤ left }
-    ensures one_fewer { IsTrue result.goes_on → result.left + 1 ≡ left }
     ensures keeps { G.may_answer guess.new ≡ G.may_answer guess.old }
     ensures dropped { result.dropped + length (L.items retired.new) + in_flight machine.new ≡ dropped + length (L.items retired.old) + in_flight machine.old }
     ensures bound { result.dropped ≤ dropped + 80 }
