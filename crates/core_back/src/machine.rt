@@ -6,7 +6,7 @@ ghost use Rattle.core_view.specs.Events.{retire_event, stop_event, complete_even
 ghost use Rattle.core_view.specs.Operations.{is_guessed};
 ghost use Rattle.core_view.specs.View.{entry_at, IsLive, IsSoundView};
 ghost use Rattle.lawful_cycle.specs.Rename.{CanRename, of_all, oldest_fetched};
-ghost use Rattle.core_view.specs.Flight.{is_queued, is_missed_load};
+ghost use Rattle.core_view.specs.Flight.{is_queued, is_missed_load, is_open};
 ghost use Rattle.lawful_cycle.specs.Fetch.{is_fetched, is_eligible, oldest_place};
 ghost use Rattle.origin_set.specs.Start.{start};
 ghost use Rattle.core_back.specs.Machine.{IsAlike, context_at, in_flight, with_context, with_cycle, no_track, IsNextOf};
@@ -394,6 +394,15 @@ impl<A: Allocator> Machine<A> {
         let _next = self.next_stamp();
         let track = &self.tracks[context.index()];
         events::front_stamp(track)
+    }
+
+    /// Whether more of a context can be fetched behind its youngest entry, which doesn't stop at fetch. No other entry does.
+    #[inline(always)]
+    pub fn is_open(&self, context: Ctx) -> bool
+        ensures { result ≡ is_open (context_at self.now context).flight }
+    {
+        let track = &self.tracks[context.index()];
+        track.is_open()
     }
 
     /// Whether the oldest fetched entry of a context, if it has one, stops at fetch.

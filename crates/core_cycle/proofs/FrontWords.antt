@@ -1,14 +1,7 @@
--- The contexts that may have a front, as bits of a word.
+-- Contexts as bits of a word, which leaves out those of which something is known.
 use Rattle.std.proofs.Common.{◌≡◌, ◌≢◌, ℕ, ◌+◌, ◌<◌, Bool, true, false, cond, not, ◌&&◌, eqb, refl, sym, ap, ◌∙◌, subst, arith, inl, inr}
 use Rattle.std.proofs.lemmas.Bool.{cases_eq, cases_Bool, eq-eqb, ne_eqb, true≢false}
 use Rattle.word_mask.specs.Mask.{has}
-use Rattle.core_view.specs.declared.entry.Entry.{Entry}
-use Rattle.core_view.specs.View.{View}
-use Rattle.lawful_cycle.specs.Rename.{CanRename}
-
--- nothing of a context can be renamed
-abbrev pub IsSpent : View → ℕ → Type 0
-IsSpent v c = (e : Entry) → ¬ (CanRename v c e)
 
 module _ (word new item : ℕ) (flag : Bool) (bits : (p : ℕ) → has new p ≡ cond (eqb p item && flag) true (has word p)) where
   other : (c : ℕ) → c ≢ item → has new c ≡ has word c
@@ -21,12 +14,12 @@ module _ (word new item : ℕ) (flag : Bool) (bits : (p : ℕ) → has new p ≡
     | inr ne ↦ let below = few c (sym (other c ne) ∙ is) in omega (arith, below)
   ]
 
-  -- what it leaves out has nothing to rename
-  pub none_added : (v : View) → ((c : ℕ) → c < item → has word c ≡ false → IsSpent v c) → (flag ≡ false → IsSpent v item) → (c : ℕ) → c < item + 1 → has new c ≡ false → IsSpent v c
-  none_added v below here c lt no_bit = elim (cases_eq c item) [
+  -- of what it leaves out it is known
+  pub known_added : (Known : ℕ → Type 0) → ((c : ℕ) → c < item → has word c ≡ false → Known c) → (flag ≡ false → Known item) → (c : ℕ) → c < item + 1 → has new c ≡ false → Known c
+  known_added Known below here c lt no_bit = elim (cases_eq c item) [
     | inl same ↦ elim (cases_Bool flag) [
       | inl set_ ↦ absurd (true≢false (sym (bits c ∙ rw (eq-eqb c item same, set_) refl) ∙ no_bit))
-      | inr unset ↦ subst (IsSpent v) (sym same) (here unset)
+      | inr unset ↦ subst Known (sym same) (here unset)
     ]
     | inr ne ↦ below c (omega (arith, lt, ne)) (sym (other c ne) ∙ no_bit)
   ]

@@ -2,8 +2,6 @@
 
 ghost use Rattle.std.specs.Prelude.{true, false, ◌≡◌, ℕ, ◌+◌, ◌<◌, ◌≤◌, ◌^◌, None, Some, replicate, IfSome, get_or, slice_index, slice_set};
 ghost use Rattle.word_mask.specs.Mask.{has};
-ghost use Rattle.core_view.specs.declared.entry.Entry.{Entry};
-ghost use Rattle.lawful_cycle.specs.Rename.{CanRename};
 ghost use Rattle.core_cycle.specs.Fronts.{IsLeast, IsOldest, IsPlaced, NoneStops, front_of};
 
 use core_back::Machine;
@@ -91,14 +89,17 @@ impl Fronts {
     }
 }
 
-/// A bit of each context that has fetched entries. It is asked without a jump, and most cycles leave some out.
-fn with_fetched<A: Allocator>(machine: &Machine<A>) -> u64
+/// A bit of each context whose youngest entry stops at fetch: no other entry does. Most have none, and no entry is looked
+/// at to tell.
+fn with_stop<A: Allocator>(machine: &Machine<A>) -> u64
     ensures few { (c : ℕ) → has result c ≡ true → c < 8 }
-    ensures none { (c : ℕ) → has result c ≡ false → (e : Entry) → ¬ (CanRename machine.now.view c e) }
+    ensures none { (c : ℕ) → has result c ≡ false → NoneStops machine.now.view c }
 {
+    // `cycle` ensures that each context is live, so that nothing is fetched behind a stop.
+    let _live = machine.cycle();
     let mut word = 0u64;
     for context in Ctx::all() {
-        word = added(word, context.index(), machine.has_fetched(context));
+        word = added(word, context.index(), !machine.is_open(context));
     }
     word
 }
@@ -109,7 +110,7 @@ fn with_fetched<A: Allocator>(machine: &Machine<A>) -> u64
 pub(crate) fn has_stop<A: Allocator>(machine: &Machine<A>) -> bool
     ensures { result ≡ false → (c : ℕ) → NoneStops machine.now.view c }
 {
-    let mut left = with_fetched(machine);
+    let mut left = with_stop(machine);
     while left != 0 {
         let place = lowest(left);
         if machine.front_stops(context_of(place)) {
