@@ -396,7 +396,8 @@ impl<A: Allocator> Machine<A> {
         events::front_stamp(track)
     }
 
-    /// Whether more of a context can be fetched behind its youngest entry, which doesn't stop at fetch. No other entry does.
+    /// Whether more of a context can be fetched behind its youngest entry, if it has one: that doesn't stop at fetch, and no
+    /// older one does.
     #[inline(always)]
     pub fn is_open(&self, context: Ctx) -> bool
         ensures { result ≡ is_open (context_at self.now context).flight }

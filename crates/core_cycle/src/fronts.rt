@@ -89,8 +89,7 @@ impl Fronts {
     }
 }
 
-/// A bit of each context whose youngest entry stops at fetch: no other entry does. Most have none, and no entry is looked
-/// at to tell.
+/// A bit of each context whose youngest entry stops at fetch, as no older one can. No entry is looked at to tell.
 fn with_stop<A: Allocator>(machine: &Machine<A>) -> u64
     ensures few { (c : ℕ) → has result c ≡ true → c < 8 }
     ensures none { (c : ℕ) → has result c ≡ false → NoneStops machine.now.view c }
