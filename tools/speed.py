@@ -5,9 +5,10 @@ usage: tools/speed.py PROGRAM [OTHER] [--growth] [--rounds R] [--cycles C] [--co
 
 PROGRAM is `smt-lab`, best as crates/smt_lab/out/smt_lab: `./smt-lab` looks for changed sources first. OTHER is another
 program with the same commands: it is timed in turn with PROGRAM, and has to print the same. Each workload runs R times
-(default 5) on each program, all workloads in turn; a time is the median of the processor's time, user and system, of the
-whole process, its start and the reading of its file included. `run` takes C cycles (default 300000) of the programs of
-examples/mix, which don't end, `step` N instructions (default 100000000).
+(default 8) on each program, all workloads in turn. A run's time is that of the processor, user and system, for the whole
+process, its start and the reading of its file included; a time in the tables is the mean of the least quarter of R, since
+what else a machine does only adds to a run. `run` takes C cycles (default 300000) of the programs of examples/mix, which
+don't end, `step` N instructions (default 100000000).
 
 With --growth a cycle is timed over 8, 16, 32 and 64 places of the issue queue, and of the reorder buffer, beside the
 instructions that issue in it, all else by default, at two contexts and at eight.
@@ -55,7 +56,7 @@ class Ran(NamedTuple):
 
 
 class Timed(NamedTuple):
-    """A workload's output, the median of its times on each program, and what went wrong."""
+    """A workload's output, its time on each program (`undisturbed`), and what went wrong."""
 
     workload: Workload
     out: str
@@ -136,8 +137,13 @@ def measure(workloads: Sequence[Workload], programs: Sequence[str], rounds: int,
                 words = [path if word == PLAN else word for word in it.words]
                 for program, held in zip(programs, ran):
                     held.append(runner(program, words))
-    return [Timed(it, ran[0][0].out, [statistics.median(one.seconds for one in held) for held in ran], faults(it, programs, ran))
+    return [Timed(it, ran[0][0].out, [undisturbed([one.seconds for one in held]) for held in ran], faults(it, programs, ran))
             for it, ran in zip(workloads, kept)]
+
+
+def undisturbed(times: Sequence[float]) -> float:
+    """The mean of the least quarter of some times, of one at least."""
+    return statistics.mean(sorted(times)[:max(len(times) // 4, 1)])
 
 
 def faults(it: Workload, programs: Sequence[str], ran: Sequence[Sequence[Ran]]) -> List[str]:
@@ -225,7 +231,7 @@ def main(words: Sequence[str]) -> int:
     parser.add_argument("program")
     parser.add_argument("other", nargs="?")
     parser.add_argument("--growth", action="store_true")
-    parser.add_argument("--rounds", type=int, default=5, metavar="R")
+    parser.add_argument("--rounds", type=int, default=8, metavar="R")
     parser.add_argument("--cycles", type=int, default=300000, metavar="C")
     parser.add_argument("--count", type=int, default=100000000, metavar="N")
     asked = parser.parse_args(words)

@@ -76,7 +76,7 @@ class Tables(unittest.TestCase):
 class Measuring(unittest.TestCase):
     """How often, in which order, and what is kept of it."""
 
-    def test_programs_take_turns_and_the_median_stands(self) -> None:
+    def test_programs_take_turns_and_the_least_stands(self) -> None:
         times: Dict[str, List[float]] = {"one": [5.0, 1.0, 2.0], "two": [3.0, 9.0, 4.0]}
         asked: List[Tuple[str, str]] = []
 
@@ -86,8 +86,13 @@ class Measuring(unittest.TestCase):
 
         it = speed.Workload(("bench",), "", ("step", "bench.s"))
         timed = speed.measure([it], ["one", "two"], 3, runner)
-        self.assertEqual(timed, [speed.Timed(it, BLOCK, [2.0, 4.0], [])])
+        self.assertEqual(timed, [speed.Timed(it, BLOCK, [1.0, 3.0], [])])
         self.assertEqual(asked, [("one", "step"), ("two", "step")] * 3)
+
+    def test_a_time_is_the_mean_of_the_least_quarter(self) -> None:
+        self.assertEqual(speed.undisturbed([9.0]), 9.0)
+        self.assertEqual(speed.undisturbed([7.0, 3.0, 8.0, 9.0, 5.0, 6.0, 4.0]), 3.0)
+        self.assertEqual(speed.undisturbed([7.0, 3.0, 8.0, 9.0, 5.0, 6.0, 4.0, 99.0]), 3.5)
 
     def test_a_plan_is_written_for_the_run(self) -> None:
         seen: List[str] = []
