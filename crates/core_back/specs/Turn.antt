@@ -1,5 +1,5 @@
 -- What a context's turn to retire makes of it.
-use Rattle.std.specs.Prelude.{◌≡◌, ℕ, ◌+◌, ◌≤◌, ◌==◌, Bool, true, false, if◌then◌else◌, List, [], ◌++◌, length, map, take, drop, All, Option, Some, None}
+use Rattle.std.specs.Prelude.{◌≡◌, ℕ, ◌+◌, ◌≤◌, ◌==◌, Bool, true, false, if◌then◌else◌, List, [], ◌++◌, length, map, take, drop, All, Option, Some, None, IsSome, IsTrue}
 use Rattle.hart_step.specs.State.{State}
 use Rattle.core_view.specs.declared.entry.Entry.{Entry}
 use Rattle.core_view.specs.declared.note.EntryId.{EntryId}
@@ -8,9 +8,9 @@ use Rattle.core_view.specs.declared.status.Status.TheVariants.{Running, Parked, 
 use Rattle.core_view.specs.declared.outcome.Outcome.{Outcome}
 use Rattle.core_view.specs.declared.outcome.Outcome.TheVariants.{Goes, Stops}
 use Rattle.core_view.specs.Events.{stop_event}
-use Rattle.core_view.specs.View.{Context}
+use Rattle.core_view.specs.View.{Context, IsLive}
 use Rattle.lawful_cycle.specs.Retire.{is_done_on, past, KeepsDone}
-use Rattle.core_back.specs.Machine.{Machine, context_at, with_context}
+use Rattle.core_back.specs.Machine.{Machine, IsAlike, in_flight, context_at, with_context}
 use Rattle.core_context.specs.Heads.{first_done}
 
 -- the n oldest entries of x have retired: a front, all done without a stop, none past the target
@@ -79,3 +79,13 @@ pub record IsInTurn (b n : Machine) (c k room left : ℕ) (old new : List EntryI
 abbrev pub GoesOn : Bool → Machine → Machine → ℕ → ℕ → ℕ → ℕ → List EntryId → List EntryId → Type 0
 GoesOn true b n c k room left old new = IsInTurn b n c k room left old new
 GoesOn false b n c k room left old new = IsTurn b n c room left old new
+
+-- a step of it: an entry retires, the context stops, or nothing is left of the width; what it dropped is counted
+pub record IsStepOfTurn (m n : Machine) (c left after : ℕ) (goes_on : Bool) (before dropped : ℕ) (old new : List EntryId) : Type 0 where
+  pub alike : IsAlike m n
+  pub idle : n.names ≡ []
+  pub turn : (s : State) (stamp : ℕ) (b : Machine) (k room : ℕ) (names : List EntryId) → IsLive s stamp (context_at b c) →
+      IsInTurn b m c k room left names old → GoesOn goes_on b n c (k + 1) room after names new
+  pub more : IsTrue goes_on → IsSome (first_done (context_at n c).flight)
+  pub counted : dropped + length new + in_flight n ≡ before + length old + in_flight m
+  pub bound : dropped ≤ before + 80

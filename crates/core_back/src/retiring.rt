@@ -2,14 +2,12 @@
 
 ghost use Rattle.std.specs.Prelude.{◌≡◌, ℕ, ◌+◌, ◌<◌, ◌≤◌, List, [], IsSome, IsTrue, None, length};
 ghost use Rattle.std.specs.Int.{bit_at};
-ghost use Rattle.hart_step.specs.State.{State};
 ghost use Rattle.core_view.specs.declared.note.EntryId.{EntryId};
-ghost use Rattle.core_view.specs.View.{IsLive};
 ghost use Rattle.core_context.specs.Heads.{first_done, IsGoing};
 ghost use Rattle.fetch_policy.specs.Lawful.{turn as turn_of};
 ghost use Rattle.lawful_cycle.specs.Retire.{IsRetire};
 ghost use Rattle.core_back.specs.Machine.{Machine as MachineView, IsAlike, in_flight, context_at, with_context};
-ghost use Rattle.core_back.specs.Turn.{IsInTurn, GoesOn, ended};
+ghost use Rattle.core_back.specs.Turn.{IsStepOfTurn, ended};
 
 use crate::machine::Machine;
 use bit_vector::{after_first, next, push, turn_eight};
@@ -105,17 +103,11 @@ fn retire_oldest<A: Allocator, G: Guess, L: Listing<EntryId, 16>>(
     requires done { IsSome (first_done (context_at machine.old context).flight) }
     requires room { length (L.items retired.old) + left ≤ 16 }
     requires few { dropped ≤ 6400 }
-    ensures alike { IsAlike machine.old machine.new }
-    ensures idle { machine.new.names ≡ [] }
+    ensures step { IsStepOfTurn machine.old machine.new context left result.left result.goes_on dropped result.dropped (L.items retired.old) (L.items retired.new) }
     ensures width { length (L.items retired.new) + result.left ≤ 16 }
-    ensures turn { (s : State) (stamp : ℕ) (b : MachineView) (k room : ℕ) (old : List EntryId) → IsLive s stamp (context_at b context) → IsInTurn b machine.old context k room left old (L.items retired.old) →
-        GoesOn result.goes_on b machine.new context (k + 1) room result.left old (L.items retired.new) }
-    ensures more { IsTrue result.goes_on → IsSome (first_done (context_at machine.new context).flight) }
     ensures fewer { result.left ≤ left }
     ensures one_fewer { IsTrue result.goes_on → result.left + 1 ≡ left }
     ensures keeps { G.may_answer guess.new ≡ G.may_answer guess.old }
-    ensures dropped { result.dropped + length (L.items retired.new) + in_flight machine.new ≡ dropped + length (L.items retired.old) + in_flight machine.old }
-    ensures bound { result.dropped ≤ dropped + 80 }
 {
     if left == 0 {
         let stopped = stop_done(machine, context);
@@ -155,16 +147,10 @@ fn retire_going<A: Allocator, G: Guess, L: Listing<EntryId, 16>>(
     requires some { 0 < left }
     requires room { length (L.items retired.old) + left ≤ 16 }
     requires few { dropped ≤ 6400 }
-    ensures alike { IsAlike machine.old machine.new }
-    ensures idle { machine.new.names ≡ [] }
+    ensures step { IsStepOfTurn machine.old machine.new context left result.left result.goes_on dropped result.dropped (L.items retired.old) (L.items retired.new) }
     ensures one { length (L.items retired.new) ≡ length (L.items retired.old) + 1 }
     ensures left { result.left + 1 ≡ left }
-    ensures turn { (s : State) (stamp : ℕ) (b : MachineView) (k room : ℕ) (old : List EntryId) → IsLive s stamp (context_at b context) → IsInTurn b machine.old context k room left old (L.items retired.old) →
-        GoesOn result.goes_on b machine.new context (k + 1) room result.left old (L.items retired.new) }
-    ensures more { IsTrue result.goes_on → IsSome (first_done (context_at machine.new context).flight) }
     ensures keeps { G.may_answer guess.new ≡ G.may_answer guess.old }
-    ensures dropped { result.dropped + length (L.items retired.new) + in_flight machine.new ≡ dropped + length (L.items retired.old) + in_flight machine.old }
-    ensures bound { result.dropped ≤ dropped + 80 }
 {
     let next = machine.is_next_done(context);
     let gone = machine.retire(guess, context);

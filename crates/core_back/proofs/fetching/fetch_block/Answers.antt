@@ -1,8 +1,13 @@
-use Rattle.std.proofs.Common.{◌+◌, refl, subst, ◌∙◌, arith}
+use Rattle.std.proofs.Common.{◌≡◌, ℕ, ◌+◌, ◌-◌, Bool, length, refl, subst, ◌∙◌, arith}
+use Rattle.rv64_decode.specs.declared.insn.Insn.{Insn}
+use Rattle.core_view.specs.View.{entry_at}
+use Rattle.lawful_cycle.specs.Fetch.{ends_block}
 use Rattle.core_context.specs.NextEntry.{IsFetchedBy}
 use Rattle.core_back.proofs.Blocks.{block_open}
-use Rattle.core_back.proofs.BlockTurns.{fetched_none, fetched_next, ends_so, next_pc, block_by}
+use Rattle.core_back.proofs.BlockTurns.{HasFetched, fetched_none, fetched_next, ends_so, next_pc, block_by}
+use Rattle.core_back.proofs.fetching.fetch_block.Given.{Over}
 use Rattle.core_back.proofs.fetching.fetch_block.Goals as goal
+use Rattle.core_back.proofs.fetching.fetch_block.Goals.{After-fetch-onward}
 
 pub loop-number-init : goal.loop-number-init
 loop-number-init g c = record {
@@ -30,57 +35,54 @@ fetch-onward-requires-clause-eligible g c =
     block_open (g.G.Guess.may_answer c.args.guess.now c.args.context) c.args.cycle c.args.stamp c.loop-number.number c.args.track.now.context c.loop-number.track.context i.fetched.block
     c.requires.eligible i.goes (omega (arith, c.requires.front, c.loop-number-test.true))
 
+-- ---- one more is fetched
+
+abbrev may : (g : Over) (c : After-fetch-onward g) → ℕ → Insn → ℕ → Bool
+may g c = g.G.Guess.may_answer c.args.guess.now c.args.context
+
+one : (g : Over) (c : After-fetch-onward g) → IsFetchedBy (may g c) (c.args.stamp + c.loop-number.number) c.args.cycle c.loop-number.track c.fetch-onward.new.track c.fetch-onward.result.pc c.fetch-onward.result.ends
+one g c =
+    subst (λ says. IsFetchedBy (says c.args.context) (c.args.stamp + c.loop-number.number) c.args.cycle c.loop-number.track c.fetch-onward.new.track c.fetch-onward.result.pc c.fetch-onward.result.ends)
+    c.loop-number.invariant.keeps c.fetch-onward.ensures.fetched
+
+fetched : (g : Over) (c : After-fetch-onward g)
+    → HasFetched (may g c) c.args.cycle c.args.stamp c.args.context (c.loop-number.number + 1) c.args.track.now c.fetch-onward.new.track (g.L.Listing.items c.args.fetched.now) (g.L.Listing.items c.push.new.self)
+fetched g c =
+    let i = c.loop-number.invariant in
+    fetched_next (may g c) c.args.cycle c.args.stamp c.args.context c.loop-number.number c.args.track.now c.loop-number.track c.fetch-onward.new.track (g.L.Listing.items c.args.fetched.now) (g.L.Listing.items c.loop-number.fetched) (g.L.Listing.items c.push.new.self)
+    i.fetched i.goes (c.args.stamp + c.loop-number.number) c.fetch-onward.result.pc c.fetch-onward.result.ends refl (one g c) c.fetch-onward.ensures.kept c.push.ensures.items
+
+ends : (g : Over) (c : After-fetch-onward g) → ends_block (entry_at c.fetch-onward.new.track.context (length c.fetch-onward.new.track.context.flight - 1)) ≡ c.fetch-onward.result.ends
+ends g c =
+    let i = c.loop-number.invariant in
+    ends_so (may g c) c.args.cycle c.args.stamp c.args.context c.loop-number.number c.args.track.now c.loop-number.track c.fetch-onward.new.track (g.L.Listing.items c.args.fetched.now) (g.L.Listing.items c.loop-number.fetched) (g.L.Listing.items c.push.new.self)
+    i.fetched i.goes (c.args.stamp + c.loop-number.number) c.fetch-onward.result.pc c.fetch-onward.result.ends refl (one g c)
+
 pub returns-then-onward-clause-block : goal.returns-then-onward-clause-block
 returns-then-onward-clause-block g c =
-    let i = c.loop-number.invariant in
-    let may = g.G.Guess.may_answer c.args.guess.now c.args.context in
-    let k = c.loop-number.number in
-    let u = c.loop-number.track in
-    let v = c.fetch-onward.new.track in
-    let f = c.fetch-onward.result in
-    let one : IsFetchedBy may (c.args.stamp + k) c.args.cycle u v f.pc f.ends = subst (λ says. IsFetchedBy (says c.args.context) (c.args.stamp + k) c.args.cycle u v f.pc f.ends) i.keeps c.fetch-onward.ensures.fetched in
-    block_by may c.args.cycle c.args.stamp c.args.context (k + 1) c.args.track.now v (g.L.Listing.items c.args.fetched.now) (g.L.Listing.items c.push.new.self)
-    (fetched_next may c.args.cycle c.args.stamp c.args.context k c.args.track.now u v (g.L.Listing.items c.args.fetched.now) (g.L.Listing.items c.loop-number.fetched) (g.L.Listing.items c.push.new.self) i.fetched i.goes (c.args.stamp + k) f.pc f.ends refl one c.fetch-onward.ensures.kept c.push.ensures.items)
+    let at = (goal.at.returns-then-onward-clause-block g c).After-fetch-onward in
+    block_by (may g at) c.args.cycle c.args.stamp c.args.context (c.loop-number.number + 1) c.args.track.now c.fetch-onward.new.track (g.L.Listing.items c.args.fetched.now) (g.L.Listing.items c.push.new.self) (fetched g at)
 
 pub returns-then-onward-clause-fewer : goal.returns-then-onward-clause-fewer
-returns-then-onward-clause-fewer g c = λ less.
-    let i = c.loop-number.invariant in
-    let may = g.G.Guess.may_answer c.args.guess.now c.args.context in
-    let k = c.loop-number.number in
-    let u = c.loop-number.track in
-    let v = c.fetch-onward.new.track in
-    let f = c.fetch-onward.result in
-    let one : IsFetchedBy may (c.args.stamp + k) c.args.cycle u v f.pc f.ends = subst (λ says. IsFetchedBy (says c.args.context) (c.args.stamp + k) c.args.cycle u v f.pc f.ends) i.keeps c.fetch-onward.ensures.fetched in
-    record {
-      some = omega arith;
-      ends = ends_so may c.args.cycle c.args.stamp c.args.context k c.args.track.now u v (g.L.Listing.items c.args.fetched.now) (g.L.Listing.items c.loop-number.fetched) (g.L.Listing.items c.push.new.self) i.fetched i.goes (c.args.stamp + k) f.pc f.ends refl one ∙ c.if-onward.true;
-    }
+returns-then-onward-clause-fewer g c =
+    let at = (goal.at.returns-then-onward-clause-fewer g c).After-fetch-onward in
+    λ less. record { some = omega arith; ends = ends g at ∙ c.if-onward.true }
 
 pub returns-then-onward-clause-listed : goal.returns-then-onward-clause-listed
 returns-then-onward-clause-listed g c =
-    let i = c.loop-number.invariant in
-    let may = g.G.Guess.may_answer c.args.guess.now c.args.context in
-    let k = c.loop-number.number in
-    let u = c.loop-number.track in
-    let v = c.fetch-onward.new.track in
-    let f = c.fetch-onward.result in
-    let one : IsFetchedBy may (c.args.stamp + k) c.args.cycle u v f.pc f.ends = subst (λ says. IsFetchedBy (says c.args.context) (c.args.stamp + k) c.args.cycle u v f.pc f.ends) i.keeps c.fetch-onward.ensures.fetched in
-    (fetched_next may c.args.cycle c.args.stamp c.args.context k c.args.track.now u v (g.L.Listing.items c.args.fetched.now) (g.L.Listing.items c.loop-number.fetched) (g.L.Listing.items c.push.new.self) i.fetched i.goes (c.args.stamp + k) f.pc f.ends refl one c.fetch-onward.ensures.kept c.push.ensures.items).listed
+    let at = (goal.at.returns-then-onward-clause-listed g c).After-fetch-onward in
+    (fetched g at).listed
 
 pub loop-number-preserved : goal.loop-number-preserved
 loop-number-preserved g c =
+    let at = (goal.at.loop-number-preserved g c).After-fetch-onward in
     let i = c.loop-number.invariant in
-    let may = g.G.Guess.may_answer c.args.guess.now c.args.context in
-    let k = c.loop-number.number in
-    let u = c.loop-number.track in
-    let v = c.fetch-onward.new.track in
-    let f = c.fetch-onward.result in
-    let one : IsFetchedBy may (c.args.stamp + k) c.args.cycle u v f.pc f.ends = subst (λ says. IsFetchedBy (says c.args.context) (c.args.stamp + k) c.args.cycle u v f.pc f.ends) i.keeps c.fetch-onward.ensures.fetched in
     record {
       within = omega (arith, c.loop-number-test.true);
-      fetched = fetched_next may c.args.cycle c.args.stamp c.args.context k c.args.track.now u v (g.L.Listing.items c.args.fetched.now) (g.L.Listing.items c.loop-number.fetched) (g.L.Listing.items c.push.new.self) i.fetched i.goes (c.args.stamp + k) f.pc f.ends refl one c.fetch-onward.ensures.kept c.push.ensures.items;
-      goes = λ some. ends_so may c.args.cycle c.args.stamp c.args.context k c.args.track.now u v (g.L.Listing.items c.args.fetched.now) (g.L.Listing.items c.loop-number.fetched) (g.L.Listing.items c.push.new.self) i.fetched i.goes (c.args.stamp + k) f.pc f.ends refl one ∙ c.if-onward.false;
-      pc = next_pc may c.args.cycle c.args.stamp c.args.context k c.args.track.now u v (g.L.Listing.items c.args.fetched.now) (g.L.Listing.items c.loop-number.fetched) (g.L.Listing.items c.push.new.self) i.fetched i.goes (c.args.stamp + k) f.pc f.ends refl one;
+      fetched = fetched g at;
+      goes = λ some. ends g at ∙ c.if-onward.false;
+      pc = next_pc (may g at) c.args.cycle c.args.stamp c.args.context c.loop-number.number c.args.track.now c.loop-number.track c.fetch-onward.new.track (g.L.Listing.items c.args.fetched.now) (g.L.Listing.items c.loop-number.fetched) (g.L.Listing.items c.push.new.self)
+          i.fetched i.goes (c.args.stamp + c.loop-number.number) c.fetch-onward.result.pc c.fetch-onward.result.ends refl (one g at);
       long = omega (arith, i.long, c.push.ensures.len);
       keeps = c.fetch-onward.ensures.keeps ∙ i.keeps;
     }

@@ -77,21 +77,21 @@ loop-waiting-preserved g c =
     let between : (i : ℕ) → t + bool_byte (not on) ≤ i → i < u → bit_at c.loop-waiting.waiting i ≡ 0 = left_between m c.loop-waiting.waiting c.after_first-waiting.result t u on h.waiting within c.after_first-waiting.ensures.kept goes others c.next-turn-in-loop-waiting.ensures.within lowest c.next-turn-in-loop-waiting.ensures.set in
     let at : turn_of m.view.cycle c.context_in_turn-context.result ≡ t = ap (λ k. turn_of k c.context_in_turn-context.result) (sym h.first) ∙ c.context_in_turn-context.ensures.turn in
     record {
-      alike = alike_chain m c.loop-waiting.machine c.retire_oldest-after.new.machine h.alike c.retire_oldest-after.ensures.alike;
-      idle = c.retire_oldest-after.ensures.idle;
+      alike = alike_chain m c.loop-waiting.machine c.retire_oldest-after.new.machine h.alike c.retire_oldest-after.ensures.step.alike;
+      idle = c.retire_oldest-after.ensures.step.idle;
       room = c.retire_oldest-after.ensures.width;
       waiting = waits;
       fits = omega arith;
       turns = goes_to m.view.profile.retire_width m h.live c.loop-waiting.machine c.retire_oldest-after.new.machine t c.context_in_turn-context.result c.loop-waiting.left c.retire_oldest-after.result.left (g.L.Listing.items c.loop-waiting.retired) (g.L.Listing.items c.retire_oldest-after.new.retired)
           (h.turns.in_turn small) c.context_in_turn-context.ensures.small at c.loop-waiting.waiting u (bool_byte (not on)) on refl small
           (h.waiting.here within) from between h.waiting.none
-          (λ low d ld is. left_done m c.after_first-waiting.result u d waits (omega (arith, low)) ld is) c.retire_oldest-after.ensures.more
-          (λ b k room old live so_far. c.retire_oldest-after.ensures.turn (start m.origin c.context_in_turn-context.result) m.view.stamp b k room old live so_far);
+          (λ low d ld is. left_done m c.after_first-waiting.result u d waits (omega (arith, low)) ld is) c.retire_oldest-after.ensures.step.more
+          (λ b k room old live so_far. c.retire_oldest-after.ensures.step.turn (start m.origin c.context_in_turn-context.result) m.view.stamp b k room old live so_far);
       live = h.live;
       first = h.first;
-      dropped = omega (arith, h.dropped, c.retire_oldest-after.ensures.dropped);
+      dropped = omega (arith, h.dropped, c.retire_oldest-after.ensures.step.counted);
       width = omega (arith, h.width, c.retire_oldest-after.ensures.fewer);
-      bound = turn_bound on c.loop-waiting.dropped c.retire_oldest-after.result.dropped c.loop-waiting.left c.retire_oldest-after.result.left t (bool_byte (not on)) u h.bound c.retire_oldest-after.ensures.bound
+      bound = turn_bound on c.loop-waiting.dropped c.retire_oldest-after.result.dropped c.loop-waiting.left c.retire_oldest-after.result.left t (bool_byte (not on)) u h.bound c.retire_oldest-after.ensures.step.bound
           c.retire_oldest-after.ensures.fewer c.retire_oldest-after.ensures.one_fewer refl from;
       keeps = c.retire_oldest-after.ensures.keeps ∙ h.keeps;
     }

@@ -15,13 +15,6 @@ use Rattle.core_back.proofs.retiring.retire_going.Goals.{then-next, else-next}
 abbrev id_at : ℕ → ℕ → EntryId
 id_at c k = record { context = c; stamp = k }
 
-pub returns-clause-alike : goal.returns-clause-alike
-returns-clause-alike g c =
-    alike_with c.args.machine.now c.retire-gone.new.self c.args.context (retire_event (context_at c.args.machine.now c.args.context) (step_on (first_done (context_at c.args.machine.now c.args.context).flight))) c.retire-gone.ensures.retired refl
-
-pub returns-clause-idle : goal.returns-clause-idle
-returns-clause-idle g c = ap (λ (m : Machine). m.names) c.retire-gone.ensures.retired ∙ c.requires.idle
-
 -- whether the context goes on is whether its oldest entry is done then
 goes_on : (g : Over) (c : goal.After-push g) → c.if-next.goes_on ≡ is_some (first_done (context_at c.retire-gone.new.self c.args.context).flight)
 goes_on g c =
@@ -32,13 +25,18 @@ goes_on g c =
     ]) ∙ next_stays c.args.machine.now c.retire-gone.new.self c.args.context (step_on (first_done (context_at c.args.machine.now c.args.context).flight)) c.is_next_done-next.result c.retire-gone.result.dropped
     c.requires.going c.retire-gone.ensures.retired c.retire-gone.ensures.dropped c.is_next_done-next.ensures
 
-pub returns-clause-more : goal.returns-clause-more
-returns-clause-more g c on = sym (goes_on g c) ∙ on
-
-pub returns-clause-turn : goal.returns-clause-turn
-returns-clause-turn g c s stamp b k room old live so_far =
+pub returns-clause-step : goal.returns-clause-step
+returns-clause-step g c =
     let step : Step = step_on (first_done (context_at c.args.machine.now c.args.context).flight) in
     let fewer : c.args.left - 1 + 1 ≡ c.args.left = omega (arith, c.requires.some) in
-    turn_goes_on s stamp b c.retire-gone.new.self c.args.context (k + 1) room (c.args.left - 1) old (g.L.Listing.items c.push.new.self) c.if-next.goes_on live
-    (turn_retires s stamp b c.args.machine.now c.retire-gone.new.self c.args.context k room c.args.left old (g.L.Listing.items c.args.retired.now) live so_far step (c.args.left - 1) (g.L.Listing.items c.push.new.self)
-    (id_at c.args.context c.retire-gone.result.stamp) c.requires.going c.retire-gone.ensures.retired fewer (ap (id_at c.args.context) c.retire-gone.ensures.stamp) c.push.ensures.items) (goes_on g c)
+    record {
+      alike = alike_with c.args.machine.now c.retire-gone.new.self c.args.context (retire_event (context_at c.args.machine.now c.args.context) step) c.retire-gone.ensures.retired refl;
+      idle = ap (λ (m : Machine). m.names) c.retire-gone.ensures.retired ∙ c.requires.idle;
+      turn = λ s stamp b k room names live so_far.
+          turn_goes_on s stamp b c.retire-gone.new.self c.args.context (k + 1) room (c.args.left - 1) names (g.L.Listing.items c.push.new.self) c.if-next.goes_on live
+          (turn_retires s stamp b c.args.machine.now c.retire-gone.new.self c.args.context k room c.args.left names (g.L.Listing.items c.args.retired.now) live so_far step (c.args.left - 1) (g.L.Listing.items c.push.new.self)
+          (id_at c.args.context c.retire-gone.result.stamp) c.requires.going c.retire-gone.ensures.retired fewer (ap (id_at c.args.context) c.retire-gone.ensures.stamp) c.push.ensures.items) (goes_on g c);
+      more = λ on. sym (goes_on g c) ∙ on;
+      counted = omega (arith, c.retire-gone.ensures.dropped);
+      bound = omega arith;
+    }

@@ -3,26 +3,32 @@ use Rattle.core_view.specs.View.{Context, entry_at}
 use Rattle.flight.specs.Flights.{execution_of}
 use Rattle.core_view.specs.Events.{complete_event}
 use Rattle.core_context.specs.Track.{Track}
-use Rattle.core_back.proofs.Machines.{at_context, is_idle, machine_after_event, shown_after, shown_length}
+use Rattle.core_back.proofs.Machines.{At, at_context, is_idle, machine_after_event, shown_after, shown_length}
+use Rattle.core_back.proofs.machine.Machine.complete.Given.{Over}
 use Rattle.core_back.proofs.machine.Machine.complete.Goals as goal
+use Rattle.core_back.proofs.machine.Machine.complete.Goals.{After-index_mut-track}
+
+-- the track and the lane of the context
+here : (g : Over) (c : After-index_mut-track g) → At c.self.inside c.args.self.now c.args.context c.index_mut-track.result.now
+here g c = at_context c.self.inside c.args.self.now c.args.context c.index.result c.index_mut-track.result.now c.self.view_is c.self.invariant (omega (arith, c.index.ensures)) c.index.ensures.value c.index_mut-track.ensures.value
 
 pub complete-requires-clause-core : goal.complete-requires-clause-core
 complete-requires-clause-core g c =
-    let h = at_context c.self.inside c.args.self.now c.args.context c.index.result c.index_mut-track.result.now c.self.view_is c.self.invariant (omega (arith, c.index.ensures)) c.index.ensures.value c.index_mut-track.ensures.value in
+    let h = here g (goal.at.complete-requires-clause-core g c).After-index_mut-track in
     is_idle c.self.inside c.args.self.now c.args.context c.index_mut-track.result.now c.self.view_is c.requires.idle (omega (arith, c.index.ensures)) h
 
 pub invariant_of-self : goal.invariant_of-self
 invariant_of-self g c =
-    let h = at_context c.self.inside c.args.self.now c.args.context c.index.result c.index_mut-track.result.now c.self.view_is c.self.invariant (omega (arith, c.index.ensures)) c.index.ensures.value c.index_mut-track.ensures.value in
+    let h = here g (goal.at.invariant_of-self g c).After-index_mut-track in
     machine_after_event c.self.inside _ c.args.self.now c.args.context c.index.result c.index_mut-track.result.now c.complete.new.track c.complete.new.flow c.self.view_is c.self.invariant c.requires.idle (omega (arith, c.index.ensures)) h c.complete.ensures.event
     c.index.ensures.value refl refl refl refl refl refl refl refl refl
 
 pub returns-clause-completed : goal.returns-clause-completed
 returns-clause-completed g c =
-    let h = at_context c.self.inside c.args.self.now c.args.context c.index.result c.index_mut-track.result.now c.self.view_is c.self.invariant (omega (arith, c.index.ensures)) c.index.ensures.value c.index_mut-track.ensures.value in
+    let h = here g (goal.at.returns-clause-completed g c).After-index_mut-track in
     shown_after c.self.inside c.args.self.now c.args.context c.index.result c.complete.new.track _ c.self.view_is c.index.ensures.value (ap (λ (t : Track). t.context) c.complete.ensures.track ∙ ap (λ (x : Context). complete_event x c.args.place (execution_of (entry_at x c.args.place).stage)) h.context)
 
 pub returns-clause-cut : goal.returns-clause-cut
 returns-clause-cut g c =
-    let h = at_context c.self.inside c.args.self.now c.args.context c.index.result c.index_mut-track.result.now c.self.view_is c.self.invariant (omega (arith, c.index.ensures)) c.index.ensures.value c.index_mut-track.ensures.value in
+    let h = here g (goal.at.returns-clause-cut g c).After-index_mut-track in
     shown_length c.self.inside c.args.context c.index.result c.complete.new.track h.in_tracks c.index.ensures.value c.complete.result _ (c.complete.ensures.cut ∙ ap (λ (x : Context). length x.flight) h.context)

@@ -4,41 +4,47 @@ use Rattle.core_view.specs.Events.{complete_event}
 use Rattle.flight.specs.Flights.{execution_of, is_due, NoneFrom}
 use Rattle.core_context.specs.Track.{Track}
 use Rattle.core_back.specs.Machine.{context_at}
-use Rattle.core_back.proofs.Machines.{at_context, is_idle, machine_after_event, shown_after, shown_same, shown_there, shown_length}
+use Rattle.core_back.proofs.Machines.{At, at_context, is_idle, machine_after_event, shown_after, shown_same, shown_there, shown_length}
 use Rattle.core_back.proofs.Options.{some_of}
+use Rattle.core_back.proofs.machine.Machine.complete_plain.Given.{Over}
 use Rattle.core_back.proofs.machine.Machine.complete_plain.Goals as goal
+use Rattle.core_back.proofs.machine.Machine.complete_plain.Goals.{After-index_mut-track}
+
+-- the track and the lane of the context
+here : (g : Over) (c : After-index_mut-track g) → At c.self.inside c.args.self.now c.args.context c.index_mut-track.result.now
+here g c = at_context c.self.inside c.args.self.now c.args.context c.index.result c.index_mut-track.result.now c.self.view_is c.self.invariant (omega (arith, c.index.ensures)) c.index.ensures.value c.index_mut-track.ensures.value
 
 pub complete_plain-requires-clause-core : goal.complete_plain-requires-clause-core
 complete_plain-requires-clause-core g c =
-    let h = at_context c.self.inside c.args.self.now c.args.context c.index.result c.index_mut-track.result.now c.self.view_is c.self.invariant (omega (arith, c.index.ensures)) c.index.ensures.value c.index_mut-track.ensures.value in
+    let h = here g (goal.at.complete_plain-requires-clause-core g c).After-index_mut-track in
     is_idle c.self.inside c.args.self.now c.args.context c.index_mut-track.result.now c.self.view_is c.requires.idle (omega (arith, c.index.ensures)) h
 
 pub invariant_of-self : goal.invariant_of-self
 invariant_of-self g c =
-    let h = at_context c.self.inside c.args.self.now c.args.context c.index.result c.index_mut-track.result.now c.self.view_is c.self.invariant (omega (arith, c.index.ensures)) c.index.ensures.value c.index_mut-track.ensures.value in
+    let h = here g (goal.at.invariant_of-self g c).After-index_mut-track in
     machine_after_event c.self.inside _ c.args.self.now c.args.context c.index.result c.index_mut-track.result.now c.complete_plain.new.track c.complete_plain.new.flow c.self.view_is c.self.invariant c.requires.idle (omega (arith, c.index.ensures)) h c.complete_plain.ensures.event
     c.index.ensures.value refl refl refl refl refl refl refl refl refl
 
 pub returns-clause-none : goal.returns-clause-none
 returns-clause-none g c none =
-    let h = at_context c.self.inside c.args.self.now c.args.context c.index.result c.index_mut-track.result.now c.self.view_is c.self.invariant (omega (arith, c.index.ensures)) c.index.ensures.value c.index_mut-track.ensures.value in
+    let h = here g (goal.at.returns-clause-none g c).After-index_mut-track in
     shown_same c.self.inside c.args.self.now c.args.context c.index.result c.complete_plain.new.track c.self.view_is c.index.ensures.value (ap (λ (u : Track). u.context) (c.complete_plain.ensures.none none).1 ∙ h.context)
 
 pub returns-clause-completed : goal.returns-clause-completed
 returns-clause-completed g c =
-    let h = at_context c.self.inside c.args.self.now c.args.context c.index.result c.index_mut-track.result.now c.self.view_is c.self.invariant (omega (arith, c.index.ensures)) c.index.ensures.value c.index_mut-track.ensures.value in
+    let h = here g (goal.at.returns-clause-completed g c).After-index_mut-track in
     some_of c.complete_plain.result c.complete_plain.ensures.track (λ f is. shown_after c.self.inside c.args.self.now c.args.context c.index.result c.complete_plain.new.track _ c.self.view_is c.index.ensures.value
     (ap (λ (t : Track). t.context) is ∙ ap (λ (x : Context). complete_event x c.args.place (execution_of (entry_at x c.args.place).stage)) h.context))
 
 pub returns-clause-kept : goal.returns-clause-kept
 returns-clause-kept g c =
-    let h = at_context c.self.inside c.args.self.now c.args.context c.index.result c.index_mut-track.result.now c.self.view_is c.self.invariant (omega (arith, c.index.ensures)) c.index.ensures.value c.index_mut-track.ensures.value in
+    let h = here g (goal.at.returns-clause-kept g c).After-index_mut-track in
     let as_shown = ap (λ (x : Context). length x.flight) h.context in
     some_of c.complete_plain.result c.complete_plain.ensures.kept (λ _ kept.
     let same = shown_length c.self.inside c.args.context c.index.result c.complete_plain.new.track h.in_tracks c.index.ensures.value 0 (length (context_at c.args.self.now c.args.context).flight) (omega (arith, kept, as_shown)) in omega (arith, same))
 
 pub returns-clause-more : goal.returns-clause-more
 returns-clause-more g c =
-    let h = at_context c.self.inside c.args.self.now c.args.context c.index.result c.index_mut-track.result.now c.self.view_is c.self.invariant (omega (arith, c.index.ensures)) c.index.ensures.value c.index_mut-track.ensures.value in
+    let h = here g (goal.at.returns-clause-more g c).After-index_mut-track in
     let there = shown_there c.self.inside c.args.context c.index.result c.complete_plain.new.track h.in_tracks c.index.ensures.value in
     some_of c.complete_plain.result c.complete_plain.ensures.more (λ f said none. subst (λ (x : Context). NoneFrom (is_due c.self.inside.cycle) x.flight 0) there (λ i from. said none i))

@@ -9,12 +9,18 @@ use Rattle.core_context.proofs.Laws.{fetched_count}
 use Rattle.core_back.specs.Machine.{Machine}
 use Rattle.core_back.proofs.BlockTurns.{ids_length, pick_turn, takes_turn}
 use Rattle.core_back.proofs.InFlight.{in_flight_turn}
-use Rattle.core_back.proofs.Machines.{at_context, idle_core, machine_fetched, shown_fetched}
+use Rattle.core_back.proofs.Machines.{At, at_context, idle_core, machine_fetched, shown_fetched}
+use Rattle.core_back.proofs.machine.Machine.fetch_block.Given.{Over}
 use Rattle.core_back.proofs.machine.Machine.fetch_block.Goals as goal
+use Rattle.core_back.proofs.machine.Machine.fetch_block.Goals.{After-index_mut-track}
+
+-- the track and the lane of the context
+here : (g : Over) (c : After-index_mut-track g) → At c.self.inside c.args.self.now c.args.context c.index_mut-track.result.now
+here g c = at_context c.self.inside c.args.self.now c.args.context c.index.result c.index_mut-track.result.now c.self.view_is c.self.invariant (omega (arith, c.index.ensures)) c.index.ensures.value c.index_mut-track.ensures.value
 
 pub fetch_block-number-requires-clause-before : goal.fetch_block-number-requires-clause-before
 fetch_block-number-requires-clause-before g c =
-    let h = at_context c.self.inside c.args.self.now c.args.context c.index.result c.index_mut-track.result.now c.self.view_is c.self.invariant (omega (arith, c.index.ensures)) c.index.ensures.value c.index_mut-track.ensures.value in
+    let h = here g (goal.at.fetch_block-number-requires-clause-before g c).After-index_mut-track in
     record {
       start = start (arc_value c.self.inside.origins.c0) c.args.context;
       reorder = c.self.inside.profile.reorder_buffer;
@@ -24,19 +30,19 @@ fetch_block-number-requires-clause-before g c =
 
 pub fetch_block-number-requires-clause-eligible : goal.fetch_block-number-requires-clause-eligible
 fetch_block-number-requires-clause-eligible g c =
-    let h = at_context c.self.inside c.args.self.now c.args.context c.index.result c.index_mut-track.result.now c.self.view_is c.self.invariant (omega (arith, c.index.ensures)) c.index.ensures.value c.index_mut-track.ensures.value in
+    let h = here g (goal.at.fetch_block-number-requires-clause-eligible g c).After-index_mut-track in
     ap (λ (x : Context). is_eligible x) h.context ∙ c.requires.eligible
 
 pub fetch_block-number-requires-clause-front : goal.fetch_block-number-requires-clause-front
 fetch_block-number-requires-clause-front g c =
-    let h = at_context c.self.inside c.args.self.now c.args.context c.index.result c.index_mut-track.result.now c.self.view_is c.self.invariant (omega (arith, c.index.ensures)) c.index.ensures.value c.index_mut-track.ensures.value in
+    let h = here g (goal.at.fetch_block-number-requires-clause-front g c).After-index_mut-track in
     let t = c.index_mut-track.result.now in
     let front = c.front_room.ensures ∙ ap (λ n. 16 - n) (sym (fetched_count t.renamed t.context.flight h.core.are_renamed h.core.are_fetched)) in
     omega (arith, front, c.min-most.ensures)
 
 pub invariant_of-self : goal.invariant_of-self
 invariant_of-self g c =
-    let h = at_context c.self.inside c.args.self.now c.args.context c.index.result c.index_mut-track.result.now c.self.view_is c.self.invariant (omega (arith, c.index.ensures)) c.index.ensures.value c.index_mut-track.ensures.value in
+    let h = here g (goal.at.invariant_of-self g c).After-index_mut-track in
     let core = idle_core c.self.inside c.args.self.now c.args.context c.index_mut-track.result.now c.self.view_is c.requires.idle h in
     let e = c.fetch_block-number.ensures.block in
     machine_fetched c.self.inside _ c.args.self.now c.args.context c.index.result c.fetch_block-number.result c.fetch_block-number.new.track c.self.view_is c.self.invariant c.requires.idle (omega (arith, c.index.ensures))
@@ -46,7 +52,7 @@ invariant_of-self g c =
 
 pub returns-clause-turn : goal.returns-clause-turn
 returns-clause-turn g c =
-    let h = at_context c.self.inside c.args.self.now c.args.context c.index.result c.index_mut-track.result.now c.self.view_is c.self.invariant (omega (arith, c.index.ensures)) c.index.ensures.value c.index_mut-track.ensures.value in
+    let h = here g (goal.at.returns-clause-turn g c).After-index_mut-track in
     let t = c.index_mut-track.result.now in
     let front : c.front_room.result ≡ front_room t.context = c.front_room.ensures ∙ ap (λ n. 16 - n) (sym (fetched_count t.renamed t.context.flight h.core.are_renamed h.core.are_fetched)) in
     let room = ap (λ (v : Machine). v.fetch_room) c.self.view_is in
@@ -67,7 +73,7 @@ returns-clause-room g c =
 
 pub returns-clause-flights : goal.returns-clause-flights
 returns-clause-flights g c =
-    let h = at_context c.self.inside c.args.self.now c.args.context c.index.result c.index_mut-track.result.now c.self.view_is c.self.invariant (omega (arith, c.index.ensures)) c.index.ensures.value c.index_mut-track.ensures.value in
+    let h = here g (goal.at.returns-clause-flights g c).After-index_mut-track in
     let contexts = ap (λ (v : Machine). length v.view.contexts) c.self.view_is in
     in_flight_turn c.args.self.now _ c.args.context c.args.num2 (g.L.Listing.items c.args.fetched.now) (g.L.Listing.items c.fetch_block-number.new.fetched) (returns-clause-turn g c)
     (omega (arith, h.in_tracks, contexts, length-map c.self.inside.tracks.items (λ (t : Track). t.context)))

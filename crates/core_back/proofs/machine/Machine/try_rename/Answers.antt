@@ -6,39 +6,45 @@ use Rattle.core_back.specs.Machine.{Machine, context_at, in_flight, IsAlike}
 use Rattle.core_back.proofs.Renamable.{is_counted, can_rename, may_not_rename}
 use Rattle.core_back.proofs.AlikeMachines.{alike_none, alike_with}
 use Rattle.core_back.proofs.InFlight.{in_flight_renamed}
-use Rattle.core_back.proofs.Machines.{at_context, is_idle, machine_after_event, shown_after, shown_same}
+use Rattle.core_back.proofs.Machines.{At, at_context, is_idle, machine_after_event, shown_after, shown_same}
 use Rattle.core_back.proofs.Options.{some_of_three, none_or_some}
+use Rattle.core_back.proofs.machine.Machine.try_rename.Given.{Over}
 use Rattle.core_back.proofs.machine.Machine.try_rename.Goals as goal
+use Rattle.core_back.proofs.machine.Machine.try_rename.Goals.{After-index_mut-track}
+
+-- the track and the lane of the context
+here : (g : Over) (c : After-index_mut-track g) → At c.self.inside c.args.self.now c.args.context c.index_mut-track.result.now
+here g c = at_context c.self.inside c.args.self.now c.args.context c.index.result c.index_mut-track.result.now c.self.view_is c.self.invariant (omega (arith, c.index.ensures)) c.index.ensures.value c.index_mut-track.ensures.value
 
 pub rename-requires-clause-core : goal.rename-requires-clause-core
 rename-requires-clause-core g c =
-    let h = at_context c.self.inside c.args.self.now c.args.context c.index.result c.index_mut-track.result.now c.self.view_is c.self.invariant (omega (arith, c.index.ensures)) c.index.ensures.value c.index_mut-track.ensures.value in
+    let h = here g (goal.at.rename-requires-clause-core g c).After-index_mut-track in
     is_idle c.self.inside c.args.self.now c.args.context c.index_mut-track.result.now c.self.view_is c.requires (omega (arith, c.index.ensures)) h
 
 pub rename-requires-clause-room : goal.rename-requires-clause-room
 rename-requires-clause-room g c =
-    let h = at_context c.self.inside c.args.self.now c.args.context c.index.result c.index_mut-track.result.now c.self.view_is c.self.invariant (omega (arith, c.index.ensures)) c.index.ensures.value c.index_mut-track.ensures.value in
+    let h = here g (goal.at.rename-requires-clause-room g c).After-index_mut-track in
     h.core.room
 
 pub invariant_of-self : goal.invariant_of-self
 invariant_of-self g c =
-    let h = at_context c.self.inside c.args.self.now c.args.context c.index.result c.index_mut-track.result.now c.self.view_is c.self.invariant (omega (arith, c.index.ensures)) c.index.ensures.value c.index_mut-track.ensures.value in
+    let h = here g (goal.at.invariant_of-self g c).After-index_mut-track in
     machine_after_event c.self.inside _ c.args.self.now c.args.context c.index.result c.index_mut-track.result.now c.rename.new.track c.rename.new.flow c.self.view_is c.self.invariant c.requires (omega (arith, c.index.ensures)) h c.rename.ensures.event
     c.index.ensures.value refl refl refl refl refl refl refl refl refl
 
 pub returns-clause-none : goal.returns-clause-none
 returns-clause-none g c none =
-    let h = at_context c.self.inside c.args.self.now c.args.context c.index.result c.index_mut-track.result.now c.self.view_is c.self.invariant (omega (arith, c.index.ensures)) c.index.ensures.value c.index_mut-track.ensures.value in
+    let h = here g (goal.at.returns-clause-none g c).After-index_mut-track in
     shown_same c.self.inside c.args.self.now c.args.context c.index.result c.rename.new.track c.self.view_is c.index.ensures.value (ap (λ (u : Track). u.context) (c.rename.ensures.none none).1 ∙ h.context)
 
 pub returns-clause-cannot : goal.returns-clause-cannot
 returns-clause-cannot g c none =
-    let h = at_context c.self.inside c.args.self.now c.args.context c.index.result c.index_mut-track.result.now c.self.view_is c.self.invariant (omega (arith, c.index.ensures)) c.index.ensures.value c.index_mut-track.ensures.value in
+    let h = here g (goal.at.returns-clause-cannot g c).After-index_mut-track in
     may_not_rename c.self.inside c.args.self.now c.args.context c.index_mut-track.result.now (is_counted c.self.inside c.args.self.now c.args.context c.index_mut-track.result.now c.self.view_is c.self.invariant c.requires (omega (arith, c.index.ensures)) h) c.args.limit (c.rename.ensures.cannot none)
 
 pub returns-clause-renamed : goal.returns-clause-renamed
 returns-clause-renamed g c =
-    let h = at_context c.self.inside c.args.self.now c.args.context c.index.result c.index_mut-track.result.now c.self.view_is c.self.invariant (omega (arith, c.index.ensures)) c.index.ensures.value c.index_mut-track.ensures.value in
+    let h = here g (goal.at.returns-clause-renamed g c).After-index_mut-track in
     let t = c.index_mut-track.result.now in
     some_of_three c.rename.result c.rename.ensures.can c.rename.ensures.fetched c.rename.ensures.track (λ stamp r fetched track. record {
       place = t.renamed;

@@ -1,19 +1,25 @@
-use Rattle.std.proofs.Common.{rules, List, ◌≡◌, true, false, ap, sym, subst, ◌∙◌, ◌+◌, slice_get, get_or, Some, None}
+use Rattle.std.proofs.Common.{rules, List, ◌≡◌, false, ap, sym, subst, ◌∙◌, ◌+◌, slice_get, get_or, Some, None}
 use Rattle.std.specs.Prelude.{set}
 use Rattle.std.proofs.lemmas.Option.{get_or_from_slice_get, slice_get_within}
 use Rattle.flight.specs.Flights.{Flight, execution_of, IsIssued}
 use Rattle.core_view.specs.declared.entry.Stage.TheVariants.{Issued}
 use Rattle.core_view.specs.declared.entry.Entry.{Entry}
+use Rattle.core_view.specs.declared.entry.Execution.{Execution}
+use Rattle.core_view.specs.Operations.{is_store}
 use Rattle.core_view.specs.Outcomes.{image_of}
 use Rattle.core_view.specs.Flight.{seen_of, IsSound}
 use Rattle.core_view.specs.Events.{completed_entry}
 use Rattle.core_view.specs.View.{no_entry, entry_at}
 use Rattle.entry_stages.specs.Mispredicted.{is_mispredicted_by}
 use Rattle.core_context.specs.Track.{Track, cut_stamp}
+use Rattle.core_context.specs.Ends.{IsEnd}
+use Rattle.entry_stages.specs.Placed.{Holds}
 use Rattle.entry_stages.proofs.Laws.{other_holds}
 use Rattle.core_context.proofs.Tracks.{set_read, cut_kept, cut_wrong_none, cut_wrong_some, writes_none}
 use Rattle.core_context.proofs.Ends.{end_finished}
+use Rattle.core_context.proofs.track.Track.finish.Given.{Over}
 use Rattle.core_context.proofs.track.Track.finish.Goals as goal
+use Rattle.core_context.proofs.track.Track.finish.Goals.{After-fetch_pc_after-self-inside}
 
 pub is_mispredicted-mispredicted-requires : goal.is_mispredicted-mispredicted-requires
 is_mispredicted-mispredicted-requires g c =
@@ -22,88 +28,78 @@ is_mispredicted-mispredicted-requires g c =
     let issued : IsIssued (get_or es c.args.place no_entry).stage = rw (← c.self.view_is) at c.requires.issued in
     subst (λ (f : Entry). IsIssued f.stage) (get_or_from_slice_get es c.args.place c.unwrap-entry.result.now no_entry read) issued
 
+-- ---- the entry is written back
+
+abbrev entries : (g : Over) (c : After-fetch_pc_after-self-inside g) → List Entry
+entries g c = c.self.inside.flight.entries
+
+abbrev execution : (g : Over) (c : After-fetch_pc_after-self-inside g) → Execution
+execution g c = execution_of (get_or c.self.inside.flight.entries c.args.place no_entry).stage
+
+read : (g : Over) (c : After-fetch_pc_after-self-inside g) → slice_get (entries g c) c.args.place ≡ Some c.unwrap-entry.result.now
+read g c = search rules
+
+stage : (g : Over) (c : After-fetch_pc_after-self-inside g) → c.unwrap-entry.result.now.stage ≡ Issued (execution g c)
+stage g c =
+    let issued : (get_or (entries g c) c.args.place no_entry).stage ≡ Issued (execution g c) = rw (← c.self.view_is) at c.requires.issued in
+    sym (ap (λ (f : Entry). f.stage) (get_or_from_slice_get (entries g c) c.args.place c.unwrap-entry.result.now no_entry (read g c))) ∙ issued
+
+written : (g : Over) (c : After-fetch_pc_after-self-inside g) → c.finish.new.self.entries ≡ set (entries g c) c.args.place (completed_entry c.unwrap-entry.result.now (execution g c))
+written g c = set_read (entries g c) _ c.args.place c.unwrap-entry.result.now (λ f. completed_entry f (execution g c)) (read g c) (ap (λ (f : Flight). f.entries) c.finish.ensures)
+
+other : (g : Over) (c : After-fetch_pc_after-self-inside g) → is_store c.unwrap-entry.result.now.operation ≡ false
+other g c = sym c.is_store.ensures ∙ c.if-is_store.false
+
+mispredicted : (g : Over) (c : After-fetch_pc_after-self-inside g) → is_mispredicted_by c.unwrap-entry.result.now (execution g c).outcome ≡ c.is_mispredicted-mispredicted.result
+mispredicted g c = sym (c.is_mispredicted-mispredicted.ensures ∙ ap (λ s. is_mispredicted_by c.unwrap-entry.result.now (execution_of s).outcome) (stage g c))
+
+held : (g : Over) (c : After-fetch_pc_after-self-inside g) → Holds c.self.inside.queue c.finish.new.self.entries
+held g c = other_holds (entries g c) c.args.place c.unwrap-entry.result.now (read g c) (execution g c) c.finish.new.self.entries (stage g c) (written g c) c.self.inside.queue (other g c) c.self.invariant.1 c.self.invariant.2
+
+end : (g : Over) (c : After-fetch_pc_after-self-inside g) → IsEnd c.self.inside.pc c.fetch_pc_after-self-inside.result c.self.inside.goes_on c.finish.new.self.entries
+end g c =
+    let here = get_or_from_slice_get (entries g c) c.args.place c.unwrap-entry.result.now no_entry (read g c) in
+    end_finished c.self.inside.pc _ _ _ (entries g c) c.finish.new.self.entries c.args.place (completed_entry c.unwrap-entry.result.now (execution g c)) c.self.invariant.3 (slice_get_within (entries g c) c.args.place c.unwrap-entry.result.now (read g c)) (written g c)
+    (ap (λ (f : Entry). f.operation) (sym here)) c.fetch_pc_after-self-inside.ensures.last c.fetch_pc_after-self-inside.ensures.before
+
 -- ---- nothing was guessed wrongly
 
 pub invariant_of-self : goal.invariant_of-self
 invariant_of-self g c =
-    let es = c.self.inside.flight.entries in
-    let e = c.unwrap-entry.result.now in
-    let x = execution_of (get_or es c.args.place no_entry).stage in
-    let read : slice_get es c.args.place ≡ Some e = search rules in
-    let issued : (get_or es c.args.place no_entry).stage ≡ Issued x = rw (← c.self.view_is) at c.requires.issued in
-    let stage : e.stage ≡ Issued x = sym (ap (λ (f : Entry). f.stage) (get_or_from_slice_get es c.args.place e no_entry read)) ∙ issued in
-    let written : c.finish.new.self.entries ≡ set es c.args.place (completed_entry e x) = set_read es _ c.args.place e (λ f. completed_entry f x) read (ap (λ (f : Flight). f.entries) c.finish.ensures) in
-    let held = other_holds es c.args.place e read x c.finish.new.self.entries stage written c.self.inside.queue (sym c.is_store.ensures ∙ c.if-is_store.false) c.self.invariant.1 c.self.invariant.2 in
-    let here = get_or_from_slice_get es c.args.place e no_entry read in
-    let end = end_finished c.self.inside.pc _ _ _ es c.finish.new.self.entries c.args.place (completed_entry e x) c.self.invariant.3 (slice_get_within es c.args.place e read) written (ap (λ (f : Entry). f.operation) (sym here)) c.fetch_pc_after-self-inside.ensures.last c.fetch_pc_after-self-inside.ensures.before in
-    (c.self.invariant.0, held.loads, held.stores, end)
+    let at = (goal.at.invariant_of-self g c).After-fetch_pc_after-self-inside in
+    (c.self.invariant.0, (held g at).loads, (held g at).stores, end g at)
 
 pub returns-then-not-mispredicted-clause-cut : goal.returns-then-not-mispredicted-clause-cut
 returns-then-not-mispredicted-clause-cut g c =
-    let es = c.self.inside.flight.entries in
-    let e = c.unwrap-entry.result.now in
-    let x = execution_of (get_or es c.args.place no_entry).stage in
-    let read : slice_get es c.args.place ≡ Some e = search rules in
-    let issued : (get_or es c.args.place no_entry).stage ≡ Issued x = rw (← c.self.view_is) at c.requires.issued in
-    let stage : e.stage ≡ Issued x = sym (ap (λ (f : Entry). f.stage) (get_or_from_slice_get es c.args.place e no_entry read)) ∙ issued in
-    let written : c.finish.new.self.entries ≡ set es c.args.place (completed_entry e x) = set_read es _ c.args.place e (λ f. completed_entry f x) read (ap (λ (f : Flight). f.entries) c.finish.ensures) in
+    let at = (goal.at.returns-then-not-mispredicted-clause-cut g c).After-fetch_pc_after-self-inside in
     let sound = subst (λ (fs : List Entry). IsSound (image_of c.args.self.now.context.state) (seen_of c.args.self.now.context.state) c.args.self.now.context.state.pc fs) (sym (ap (λ (t : Track). t.context.flight) c.self.view_is)) c.requires.sound in
-    let right : is_mispredicted_by e x.outcome ≡ false = sym (c.is_mispredicted-mispredicted.ensures ∙ ap (λ s. is_mispredicted_by e (execution_of s).outcome) stage) ∙ c.if-not-mispredicted.true in
-    let none = writes_none es c.args.place e x read (image_of c.args.self.now.context.state) (seen_of c.args.self.now.context.state) c.args.self.now.context.state.pc stage sound (sym c.is_store.ensures ∙ c.if-is_store.false) in
-    cut_kept es c.args.place e x read right none ∙ ap (λ (t : Track). cut_stamp t.context c.args.place (execution_of (entry_at t.context c.args.place).stage)) c.self.view_is
+    let none = writes_none (entries g at) c.args.place c.unwrap-entry.result.now (execution g at) (read g at) (image_of c.args.self.now.context.state) (seen_of c.args.self.now.context.state) c.args.self.now.context.state.pc (stage g at) sound (other g at) in
+    cut_kept (entries g at) c.args.place c.unwrap-entry.result.now (execution g at) (read g at) (mispredicted g at ∙ c.if-not-mispredicted.true) none
+    ∙ ap (λ (t : Track). cut_stamp t.context c.args.place (execution_of (entry_at t.context c.args.place).stage)) c.self.view_is
 
 -- ---- its next pc was
 
 pub invariant_of-self-in_err-next : goal.invariant_of-self-in_err-next
 invariant_of-self-in_err-next g c =
-    let es = c.self.inside.flight.entries in
-    let e = c.unwrap-entry.result.now in
-    let x = execution_of (get_or es c.args.place no_entry).stage in
-    let read : slice_get es c.args.place ≡ Some e = search rules in
-    let issued : (get_or es c.args.place no_entry).stage ≡ Issued x = rw (← c.self.view_is) at c.requires.issued in
-    let stage : e.stage ≡ Issued x = sym (ap (λ (f : Entry). f.stage) (get_or_from_slice_get es c.args.place e no_entry read)) ∙ issued in
-    let written : c.finish.new.self.entries ≡ set es c.args.place (completed_entry e x) = set_read es _ c.args.place e (λ f. completed_entry f x) read (ap (λ (f : Flight). f.entries) c.finish.ensures) in
-    let held = other_holds es c.args.place e read x c.finish.new.self.entries stage written c.self.inside.queue (sym c.is_store.ensures ∙ c.if-is_store.false) c.self.invariant.1 c.self.invariant.2 in
-    let here = get_or_from_slice_get es c.args.place e no_entry read in
-    let end = end_finished c.self.inside.pc _ _ _ es c.finish.new.self.entries c.args.place (completed_entry e x) c.self.invariant.3 (slice_get_within es c.args.place e read) written (ap (λ (f : Entry). f.operation) (sym here)) c.fetch_pc_after-self-inside.ensures.last c.fetch_pc_after-self-inside.ensures.before in
-    (c.self.invariant.0, held.loads, held.stores, end)
+    let at = (goal.at.invariant_of-self-in_err-next g c).After-fetch_pc_after-self-inside in
+    (c.self.invariant.0, (held g at).loads, (held g at).stores, end g at)
 
 pub returns-in_err-next-clause-cut : goal.returns-in_err-next-clause-cut
 returns-in_err-next-clause-cut g c =
-    let es = c.self.inside.flight.entries in
-    let e = c.unwrap-entry.result.now in
-    let x = execution_of (get_or es c.args.place no_entry).stage in
-    let read : slice_get es c.args.place ≡ Some e = search rules in
-    let issued : (get_or es c.args.place no_entry).stage ≡ Issued x = rw (← c.self.view_is) at c.requires.issued in
-    let stage : e.stage ≡ Issued x = sym (ap (λ (f : Entry). f.stage) (get_or_from_slice_get es c.args.place e no_entry read)) ∙ issued in
-    let written : c.finish.new.self.entries ≡ set es c.args.place (completed_entry e x) = set_read es _ c.args.place e (λ f. completed_entry f x) read (ap (λ (f : Flight). f.entries) c.finish.ensures) in
-    let wrong : is_mispredicted_by e x.outcome ≡ true = sym (c.is_mispredicted-mispredicted.ensures ∙ ap (λ s. is_mispredicted_by e (execution_of s).outcome) stage) ∙ c.if-not-mispredicted.false in
+    let at = (goal.at.returns-in_err-next-clause-cut g c).After-fetch_pc_after-self-inside in
     let none : slice_get c.finish.new.self.entries (c.args.place + 1) ≡ None = search rules in
-    c.from_residual.ensures ∙ cut_wrong_none es c.args.place e x read c.finish.new.self.entries written wrong none ∙ ap (λ (t : Track). cut_stamp t.context c.args.place (execution_of (entry_at t.context c.args.place).stage)) c.self.view_is
+    c.from_residual.ensures
+    ∙ cut_wrong_none (entries g at) c.args.place c.unwrap-entry.result.now (execution g at) (read g at) c.finish.new.self.entries (written g at) (mispredicted g at ∙ c.if-not-mispredicted.false) none
+    ∙ ap (λ (t : Track). cut_stamp t.context c.args.place (execution_of (entry_at t.context c.args.place).stage)) c.self.view_is
 
 pub invariant_of-self-2 : goal.invariant_of-self-2
 invariant_of-self-2 g c =
-    let es = c.self.inside.flight.entries in
-    let e = c.unwrap-entry.result.now in
-    let x = execution_of (get_or es c.args.place no_entry).stage in
-    let read : slice_get es c.args.place ≡ Some e = search rules in
-    let issued : (get_or es c.args.place no_entry).stage ≡ Issued x = rw (← c.self.view_is) at c.requires.issued in
-    let stage : e.stage ≡ Issued x = sym (ap (λ (f : Entry). f.stage) (get_or_from_slice_get es c.args.place e no_entry read)) ∙ issued in
-    let written : c.finish.new.self.entries ≡ set es c.args.place (completed_entry e x) = set_read es _ c.args.place e (λ f. completed_entry f x) read (ap (λ (f : Flight). f.entries) c.finish.ensures) in
-    let held = other_holds es c.args.place e read x c.finish.new.self.entries stage written c.self.inside.queue (sym c.is_store.ensures ∙ c.if-is_store.false) c.self.invariant.1 c.self.invariant.2 in
-    let here = get_or_from_slice_get es c.args.place e no_entry read in
-    let end = end_finished c.self.inside.pc _ _ _ es c.finish.new.self.entries c.args.place (completed_entry e x) c.self.invariant.3 (slice_get_within es c.args.place e read) written (ap (λ (f : Entry). f.operation) (sym here)) c.fetch_pc_after-self-inside.ensures.last c.fetch_pc_after-self-inside.ensures.before in
-    (c.self.invariant.0, held.loads, held.stores, end)
+    let at = (goal.at.invariant_of-self-2 g c).After-fetch_pc_after-self-inside in
+    (c.self.invariant.0, (held g at).loads, (held g at).stores, end g at)
 
 pub returns-clause-cut : goal.returns-clause-cut
 returns-clause-cut g c =
-    let es = c.self.inside.flight.entries in
-    let e = c.unwrap-entry.result.now in
-    let x = execution_of (get_or es c.args.place no_entry).stage in
-    let read : slice_get es c.args.place ≡ Some e = search rules in
-    let issued : (get_or es c.args.place no_entry).stage ≡ Issued x = rw (← c.self.view_is) at c.requires.issued in
-    let stage : e.stage ≡ Issued x = sym (ap (λ (f : Entry). f.stage) (get_or_from_slice_get es c.args.place e no_entry read)) ∙ issued in
-    let written : c.finish.new.self.entries ≡ set es c.args.place (completed_entry e x) = set_read es _ c.args.place e (λ f. completed_entry f x) read (ap (λ (f : Flight). f.entries) c.finish.ensures) in
-    let wrong : is_mispredicted_by e x.outcome ≡ true = sym (c.is_mispredicted-mispredicted.ensures ∙ ap (λ s. is_mispredicted_by e (execution_of s).outcome) stage) ∙ c.if-not-mispredicted.false in
+    let at = (goal.at.returns-clause-cut g c).After-fetch_pc_after-self-inside in
     let some : slice_get c.finish.new.self.entries (c.args.place + 1) ≡ Some c.in_ok-next.next.now = search rules in
-    cut_wrong_some es c.args.place e x read c.finish.new.self.entries written c.in_ok-next.next.now wrong some ∙ ap (λ (t : Track). cut_stamp t.context c.args.place (execution_of (entry_at t.context c.args.place).stage)) c.self.view_is
+    cut_wrong_some (entries g at) c.args.place c.unwrap-entry.result.now (execution g at) (read g at) c.finish.new.self.entries (written g at) c.in_ok-next.next.now (mispredicted g at ∙ c.if-not-mispredicted.false) some
+    ∙ ap (λ (t : Track). cut_stamp t.context c.args.place (execution_of (entry_at t.context c.args.place).stage)) c.self.view_is
