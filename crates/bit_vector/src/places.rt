@@ -1,8 +1,10 @@
 //! A word as the bits of a list, the first of which is bit 0. Its other bits are clear.
 
-ghost use Rattle.std.specs.Prelude.{◌≡◌, ℕ, ◌<◌, ◌≤◌, Bool, true, false, List, [], ◌∷◌, ◌++◌, length, take, drop, slice_set, count_by};
+ghost use Rattle.std.specs.Prelude.{◌≡◌, ℕ, ◌<◌, ◌≤◌, Bool, true, false, List, [], ◌∷◌, ◌++◌, length, take, drop, slice_set, slice_index, count_by};
 ghost use Rattle.std.specs.Int.{bit_at};
 ghost use Rattle.std.specs.Simd.Lanes.{mask_l};
+
+use std::simd::prelude::*;
 
 /// The word with a bit more, at its end.
 #[inline(always)]
@@ -50,6 +52,15 @@ pub fn without_first(word: u64) -> u64
     ensures { (bits : List Bool) → word ≡ mask_l bits → result ≡ mask_l (drop 1 bits) }
 {
     word >> 1
+}
+
+/// Four words without their first bits.
+#[inline(always)]
+pub fn without_first_of_each(words: [u64; 4]) -> [u64; 4]
+    ensures { (i : ℕ) (bits : List Bool) → i < 4 → slice_index words i ≡ mask_l bits → slice_index result i ≡ mask_l (drop 1 bits) }
+{
+    let shifted = u64x4::from_array(words) >> u64x4::splat(1);
+    shifted.to_array()
 }
 
 /// The first so many bits of the word.

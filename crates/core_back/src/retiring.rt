@@ -1,12 +1,12 @@
 //! The part of a cycle in which entries retire.
 
-ghost use Rattle.std.specs.Prelude.{◌≡◌, ℕ, ◌+◌, ◌<◌, ◌≤◌, List, [], IsSome, IsTrue, None, length};
+ghost use Rattle.std.specs.Prelude.{◌≡◌, ℕ, ◌+◌, ◌<◌, ◌≤◌, [], IsSome, IsTrue, None, length};
 ghost use Rattle.std.specs.Int.{bit_at};
 ghost use Rattle.core_view.specs.declared.note.EntryId.{EntryId};
 ghost use Rattle.core_context.specs.Heads.{first_done, IsGoing};
 ghost use Rattle.fetch_policy.specs.Lawful.{turn as turn_of};
 ghost use Rattle.lawful_cycle.specs.Retire.{IsRetire};
-ghost use Rattle.core_back.specs.Machine.{Machine as MachineView, IsAlike, in_flight, context_at, with_context};
+ghost use Rattle.core_back.specs.Machine.{IsAlike, in_flight, context_at, with_context};
 ghost use Rattle.core_back.specs.Turn.{IsStepOfTurn, ended};
 
 use crate::machine::Machine;

@@ -1,3 +1,4 @@
+pub mod Lanes
 pub mod Before
 pub mod EachContext
 pub mod Leasts

@@ -9,7 +9,7 @@ ghost use Rattle.core_view.specs.Flight.{is_open_guess, is_missed_load};
 ghost use Rattle.flight.specs.Marked.{marks_of, is_waiting, is_waiting_load, is_load_that_missed, missed_at_issue};
 ghost use Rattle.flight.specs.Flights.{entry_in};
 
-use bit_vector::{assign, count, first, push, without_first};
+use bit_vector::{assign, count, first, push, without_first, without_first_of_each};
 use core_view::{Entry, Stage};
 
 /// A bit a renamed entry, bit 0 for the oldest.
@@ -125,10 +125,16 @@ impl Marks {
     pub(crate) fn retire(&mut self)
         ensures { (es : List Entry) → self.old ≡ marks_of es → self.new ≡ marks_of (drop 1 es) }
     {
-        self.waiting = without_first(self.waiting);
-        self.waiting_loads = without_first(self.waiting_loads);
-        self.open_guesses = without_first(self.open_guesses);
-        self.missed_loads = without_first(self.missed_loads);
+        let [waiting, waiting_loads, open_guesses, missed_loads] = without_first_of_each([
+            self.waiting,
+            self.waiting_loads,
+            self.open_guesses,
+            self.missed_loads,
+        ]);
+        self.waiting = waiting;
+        self.waiting_loads = waiting_loads;
+        self.open_guesses = open_guesses;
+        self.missed_loads = missed_loads;
         self.done = without_first(self.done);
     }
 

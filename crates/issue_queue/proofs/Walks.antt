@@ -31,11 +31,6 @@ pub record IsTaken (slots : Slots) (best : List Candidate) (i chosen : ℕ) (nam
   pub names_are : names ≡ map (λ c. name_of (slot slots c.place)) (take i best)
   pub count : length names ≡ i
 
--- the words below i have lost the bits of another
-pub record IsUnmarked (old words : List ℕ) (word i : ℕ) : Type 0 where
-  pub done : (k p : ℕ) → k < i → has (slice_index words k) p ≡ (has (slice_index old k) p && not (has word p))
-  pub left : (k : ℕ) → i ≤ k → slice_index words k ≡ slice_index old k
-
 -- the least stamp of the places of the word that are not left
 pub record IsLeast (slots : Slots) (word left least : ℕ) : Type 0 where
   pub found : (p : ℕ) × (has word p ≡ true) × (stamp_at slots p ≡ least)

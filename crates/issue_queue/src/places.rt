@@ -2,7 +2,7 @@
 
 ghost use Rattle.std.specs.Prelude.{◌≡◌, ℕ, ◌<◌, ◌≤◌, true, false, [], not, ◌&&◌, ◌||◌, ◌==◌, ◌^◌, slice_index, length, map, All, count_ones, if◌then◌else◌, IfSome, IfNone};
 ghost use Rattle.word_mask.specs.Mask.{has};
-ghost use Rattle.issue_queue.specs.Board.{InStep, IsMask, is_of, slot, waits_for};
+ghost use Rattle.issue_queue.specs.Board.{InStep, IsMask, is_of, slot};
 ghost use Rattle.issue_queue.specs.Candidates.{is_at};
 ghost use Rattle.issue_queue.specs.Entry.{is_named, is_ready, is_supplied, waits_for_two};
 ghost use Rattle.issue_queue.specs.IssueQueue.{awake, is_from, released};
@@ -64,15 +64,6 @@ fn two_bit(place: usize, reading: &Reading) -> u64
         0
     } else {
         word_mask::both(first, second)
-    }
-}
-
-/// Clears the bits of a word in each of eight others.
-fn unmark(words: &mut [u64; 8], word: u64)
-    ensures { (i p : ℕ) → i < 8 → has (slice_index words.new i) p ≡ (has (slice_index words.old i) p && not (has word p)) }
-{
-    for index in 0..8usize {
-        words[index] = word_mask::without(words[index], word);
     }
 }
 
@@ -293,7 +284,7 @@ impl Places {
         self.valid = word_mask::without(self.valid, word);
         self.supplied = word_mask::without(self.supplied, word);
         self.two = word_mask::without(self.two, word);
-        unmark(&mut self.contexts, word);
+        word_mask::without_each(&mut self.contexts, word);
         self.slots.unguess(word);
     }
 }

@@ -5,10 +5,11 @@ ghost use Rattle.fetch_policy.specs.Least.{AreRanks};
 
 use core_profile::FetchPolicy;
 use fetch_policy::{
-    Brcount, FetchContext, FetchView, Icount, Iqposn, Misscount, NO_KEY, NamedPick, Pick,
-    RoundRobin, choose, first_by_rank, rank,
+    Brcount, FetchContext, FetchView, Icount, Iqposn, Misscount, NO_COUNT, NO_KEY, NamedPick, Pick,
+    RoundRobin, choose, first_by_rank, ranks, without,
 };
 use join_law::{Ctx, Eight};
+use std::simd::prelude::*;
 
 /// An eligible context with nothing in flight.
 const IDLE: FetchContext = FetchContext {
@@ -91,10 +92,10 @@ fn round_robin_takes_turns(rt: HostRuntime) {
 }
 
 /// The number of the context that goes first by ranks, 8 where none is looked for.
-fn first(ranks: &[u64; 8], cycle: u64) -> usize
+fn first(ranks: &[u16; 8], cycle: u64) -> usize
     requires { AreRanks cycle ranks.now }
 {
-    match first_by_rank(ranks, cycle) {
+    match first_by_rank(u16x8::from_array(*ranks), cycle) {
         Some(context) => context.index(),
         None => 8,
     }
@@ -102,10 +103,14 @@ fn first(ranks: &[u64; 8], cycle: u64) -> usize
 
 #[test]
 fn the_least_key_goes_first_and_of_equal_ones_the_earlier_turn(rt: HostRuntime) {
-    let [_, second, third, _, fifth, ..] = Ctx::all();
+    let [_, _, third, ..] = Ctx::all();
+    let all = ranks(&[9, 7, 7, NO_COUNT, 9, 0, 1, 160], 2);
     assert_eq!(rt;
-        [rank(7, 2, second), rank(7, 2, third), rank(9, 2, fifth)],
-        [63, 56, 74]
+        [all.to_array(), without(all, third).to_array()],
+        [
+            [78, 63, 56, 65529, 74, 3, 12, 1285],
+            [78, 63, 65528, 65529, 74, 3, 12, 1285]
+        ]
     );
     let none = NO_KEY;
     assert_eq!(rt;

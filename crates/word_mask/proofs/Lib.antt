@@ -1,3 +1,4 @@
+pub mod Each
 pub mod Lists
 pub mod Words
 pub mod Laws

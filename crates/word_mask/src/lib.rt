@@ -3,4 +3,6 @@
 
 mod mask;
 
-pub use mask::{added, assigned, both, cleared, has, lowest, lowest_clear, removed, without};
+pub use mask::{
+    added, assigned, both, cleared, has, lowest, lowest_clear, removed, without, without_each,
+};

@@ -1,7 +1,9 @@
 //! The bits of a word.
 
-ghost use Rattle.std.specs.Prelude.{◌≡◌, ℕ, ◌+◌, ◌<◌, true, false, not, ◌&&◌, ◌==◌, count_ones, if◌then◌else◌};
+ghost use Rattle.std.specs.Prelude.{◌≡◌, ℕ, ◌+◌, ◌<◌, true, false, not, ◌&&◌, ◌==◌, count_ones, if◌then◌else◌, slice_index};
 ghost use Rattle.word_mask.specs.Mask.{has};
+
+use std::simd::prelude::*;
 
 /// Whether a word has the bit of a place.
 pub fn has(word: u64, place: usize) -> bool
@@ -59,6 +61,15 @@ pub fn without(word: u64, other: u64) -> u64
     ensures { (p : ℕ) → has result p ≡ (has word p && not (has other p)) }
 {
     word & !other
+}
+
+/// The bits of each of eight words that another lacks.
+pub fn without_each(words: &mut [u64; 8], other: u64)
+    ensures { (i p : ℕ) → i < 8 → has (slice_index words.new i) p ≡ (has (slice_index words.old i) p && not (has other p)) }
+{
+    let [w0, w1, w2, w3, w4, w5, w6, w7] = *words;
+    let kept = u64x8::from_array([w0, w1, w2, w3, w4, w5, w6, w7]) & u64x8::splat(!other);
+    *words = kept.to_array();
 }
 
 /// The lowest place of a word that isn't 0.
