@@ -15,3 +15,4 @@ pub mod Queues
 pub mod StoreSlots
 pub mod RingForm
 pub mod Computed
+pub mod TurnBits
