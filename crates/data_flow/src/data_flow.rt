@@ -270,13 +270,7 @@ fn rename_in<A: Allocator>(
     ensures narrow { destination < 32 }
     ensures file { IsFile registers.old → IsFile registers.new }
 {
-    if destination.index() == 0 {
-        return registers.source(context, 0);
-    }
-    let Ok(register) = registers.rename(context, destination.index()) else {
-        unreachable!();
-    };
-    register
+    registers.rename_destination(context, destination.index())
 }
 
 /// The physical registers of one more instruction.

@@ -1,9 +1,12 @@
 pub mod Valued
+pub mod Stacks
+pub mod Masks
 pub mod Uses
 pub mod Maps
 pub mod Banks
 pub mod Files
 pub mod Sources
 pub mod FoundContext
+pub mod Destinations
 pub mod Starts
 pub mod Laws

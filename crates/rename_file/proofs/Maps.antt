@@ -89,3 +89,7 @@ tracked_committed m n ok some is = ok ∙ split m.committed m.renames n some is
 pub tracked_undone : (m : Inside) (rd p : ℕ) → IsTracked m → 0 < length m.renames → rd ≡ (last (shown_bank m)).rd → p ≡ mapped (undone_bank (shown_bank m)) rd
     → set m.current rd p ≡ map_past m.committed (take (length m.renames - 1) m.renames)
 tracked_undone m rd p ok some is p-is = rw (p-is, is, ok) (map_past-undone m.committed m.renames (length m.renames - 1) no_rename (omega arith))
+
+-- x0 stands for what it stood for
+pub tracked_kept : (m : Inside) (n : Rename) → IsTracked m → n.rd ≡ 0 → n.register ≡ mapped (shown_bank m) 0 → set m.current n.rd n.register ≡ map_past m.committed m.renames
+tracked_kept m n ok zero-is is = rw (zero-is, is, ok) (set-get_or (map_past m.committed m.renames) 0 0)

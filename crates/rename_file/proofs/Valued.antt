@@ -1,6 +1,7 @@
 -- Values of registers, and which of them are still to come.
 use Rattle.std.proofs.Common.{◌≡◌, ℕ, zero, suc, ◌<◌, ◌≤◌, List, [], ◌∷◌, length, get_or, Option, Some, None, refl, sym, ap, ◌∙◌, arith, replicate}
 use Rattle.std.specs.Prelude.{Bool, true, false, not, set, if◌then◌else◌, IsTrue, IsSome}
+use Rattle.std.proofs.lemmas.List.{set-get_or}
 use Rattle.rename_file.specs.Valued.{cells_of}
 
 length-cells : (vs : List ℕ) (bs : List Bool) → length vs ≤ length bs → length (cells_of vs bs) ≡ length vs
@@ -36,6 +37,10 @@ valued_some : (b : Bool) (v : ℕ) → (IsTrue (not b) → IsSome (if b then Non
 valued_some true v = (λ e. e, λ e. e)
 valued_some false v = (λ _. refl, λ _. refl)
 
+not_busy : (b : Bool) → IsTrue (not b) → b ≡ false
+not_busy true busy = sym busy
+not_busy false e = refl
+
 -- ---- what the cells in now are, and after each change
 
 module _ (vs : List ℕ) (bs : List Bool) (now : List (Option ℕ)) (is : cells_of vs bs ≡ now) (few : length vs ≤ 480) (wide : length bs ≡ 480) where
@@ -53,3 +58,7 @@ module _ (vs : List ℕ) (bs : List Bool) (now : List (Option ℕ)) (is : cells_
 
   pub cleared : (i : ℕ) → cells_of vs (set bs i true) ≡ set now i None
   cleared i = cell-cleared vs bs i (omega (arith, few, wide)) ∙ ap (λ (cs : List (Option ℕ)). set cs i None) is
+
+  -- a register that has its value keeps it
+  pub kept : (i : ℕ) → i < length now → IsSome (get_or now i None) → cells_of vs (set bs i false) ≡ now
+  kept i lt some = ap (λ (b : Bool). cells_of vs (set bs i b)) (sym (not_busy (get_or bs i false) ((is_valued i lt).1 some))) ∙ ap (cells_of vs) (set-get_or bs i false) ∙ is

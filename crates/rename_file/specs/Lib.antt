@@ -5,5 +5,6 @@ pub mod Past
 pub mod Fresh
 pub mod Newest
 pub mod ShownMap
+pub mod Stacked
 pub mod Previous
 pub mod Shown

@@ -5,9 +5,9 @@ use Rattle.rename_file.specs.File.{File, IsFile, bank}
 use Rattle.rename_file.specs.Previous.{IsUndoable}
 
 abbrev pub shown : {A : Type 0} → Inside A → File
-shown r = record { banks = r.maps; free = r.free.items; cells = r.cells }
+shown r = record { banks = r.maps; free = r.free; cells = r.cells }
 
--- there are at most as many extra registers as the stack of the free has room for
+-- there are at most 224 extra registers
 pub record IsShown {A : Type 0} (r : Inside A) : Type 0 where
   pub file : IsFile (shown r)
   pub room : length r.cells ≤ 480

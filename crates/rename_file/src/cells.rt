@@ -1,6 +1,6 @@
 //! The values of the registers.
 
-ghost use Rattle.std.specs.Prelude.{◌≡◌, ◌↔◌, ◌<◌, ◌≤◌, length, replicate, slice_set, slice_index_or, IfOk, IsSome, IsTrue, Some, None};
+ghost use Rattle.std.specs.Prelude.{true, false, ◌≡◌, ◌↔◌, ◌<◌, ◌≤◌, length, replicate, slice_set, slice_index_or, IfOk, IsSome, IsTrue, Some, None};
 
 use std::alloc::{AllocError, Allocator, Global};
 use std::marker::Model;
@@ -68,12 +68,14 @@ impl<A: Allocator> Cells<A> {
         self.busy[number] = false;
     }
 
-    // Takes the value of a register away.
+    // Takes the value of a register away, or leaves it there.
     #[inline(always)]
-    pub(crate) fn clear(&mut self, number: usize)
-        requires { number < length self.old }
-        ensures { self.new ≡ slice_set self.old number None }
+    pub(crate) fn mark(&mut self, number: usize, busy: bool)
+        requires known { number < length self.old }
+        requires valued { busy ≡ false → IsSome (slice_index_or self.old number None) }
+        ensures busy { busy ≡ true → self.new ≡ slice_set self.old number None }
+        ensures valued { busy ≡ false → self.new ≡ self.old }
     {
-        self.busy[number] = true;
+        self.busy[number] = busy;
     }
 }

@@ -7,6 +7,7 @@
 
 mod cells;
 mod fault;
+mod free_list;
 mod physical_register;
 mod registers;
 mod rename_map;

@@ -6,9 +6,9 @@ ghost use Rattle.rename_file.specs.Fresh.{IsFresh};
 ghost use Rattle.rename_file.specs.Newest.{IsNewest};
 
 use crate::cells::Cells;
+use crate::free_list::FreeList;
 use crate::rename_map::{Rename, RenameMap, first_maps};
 use crate::{PhysicalRegister, RenameFault};
-use arrayvec::ArrayVec;
 use join_law::Ctx;
 use std::alloc::{AllocError, Allocator, Global};
 use std::marker::Model;
@@ -18,7 +18,7 @@ use std::marker::Model;
 #[derive(Drop)]
 pub struct Registers<A: Allocator = Global> {
     cells: Cells<A>,
-    free: ArrayVec<PhysicalRegister, 224>,
+    free: FreeList,
     // For each register that is a rename, what its rd stood for before. A register is one rename at most, so one array
     // serves all contexts, and no order of the renames is kept.
     previous: [PhysicalRegister; 480],
@@ -51,7 +51,7 @@ impl<A: Allocator + Copy> Registers<A> {
         ensures { IfOk result (λ r. IsFresh r extra) }
     {
         let maps = first_maps();
-        let mut free = ArrayVec::new();
+        let mut free = FreeList::new();
         for number in 256..256 + extra {
             free.push(PhysicalRegister::at(number));
         }
@@ -162,17 +162,32 @@ impl<A: Allocator> Registers<A> {
         ensures err { OnErr result ((result ≡ Err RenameFault.NoneFree) × (self.new ≡ self.old)) }
         ensures file { IsFile self.new }
     {
-        let Some(taken) = self.free.pop() else {
+        if self.free.len() == 0 {
             return Err(RenameFault::NoneFree);
-        };
-        self.cells.clear(taken.index());
+        }
+        Ok(self.rename_destination(context, rd))
+    }
+
+    /// The physical register for a destination. For one of x1 to x31 it was free and has no value yet; for x0 it is the
+    /// context's own, and nothing changes.
+    // It takes no jump on rd, which would be guessed wrongly too often.
+    #[inline(always)]
+    pub fn rename_destination(&mut self, context: Ctx, rd: u8) -> PhysicalRegister
+        requires narrow { rd < 32 }
+        requires some { 0 < rd → 0 < length self.old.free }
+        ensures same { rd ≡ 0 → self.new ≡ self.old }
+        ensures zero { rd ≡ 0 → result ≡ mapped (bank self.old context) 0 }
+        ensures renamed { 0 < rd → self.new ≡ renamed self.old context rd result }
+        ensures taken { 0 < rd → IsNewestFree self.old result }
+        ensures bound { 0 < rd → (8 ≤ result) × (result < length self.old.cells) }
+        ensures file { IsFile self.new }
+    {
+        let register = self.free.take_for(context, rd);
+        self.cells.mark(register.index(), rd != 0);
         let map = &mut self.maps[context.index()];
-        let previous = map.push(Rename {
-            rd,
-            register: taken,
-        });
-        self.previous[taken.index()] = previous;
-        Ok(taken)
+        let previous = map.push(Rename { rd, register });
+        self.previous[register.index()] = previous;
+        register
     }
 
     /// Makes the oldest rename of the context, which is lent and has its value, the committed register. The one that it

@@ -70,11 +70,13 @@ impl RenameMap {
         self.committed[rs as usize]
     }
 
-    // One more rename, the newest. The register that it replaces is returned.
+    // From here on the register stands for rd: a rename, the newest, where rd isn't x0. What stood there is returned.
     #[inline(always)]
     pub(crate) fn push(&mut self, rename: Rename) -> PhysicalRegister
-        requires { rename.rd < 32 }
-        ensures map { self.new ≡ renamed_bank self.old rename.rd rename.register }
+        requires name { rename.rd < 32 }
+        requires zero { rename.rd ≡ 0 → rename.register ≡ mapped self.old 0 }
+        ensures named { 0 < rename.rd → self.new ≡ renamed_bank self.old rename.rd rename.register }
+        ensures zero { rename.rd ≡ 0 → self.new ≡ self.old }
         ensures previous { result ≡ mapped self.old rename.rd }
     {
         let previous = self.current[rename.rd as usize];

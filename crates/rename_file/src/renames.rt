@@ -1,6 +1,6 @@
 //! The renames of a context, oldest first.
 
-ghost use Rattle.std.specs.Prelude.{◌≡◌, ◌-◌, [], ◌∷◌, ◌++◌, length, take, drop};
+ghost use Rattle.std.specs.Prelude.{◌≡◌, ◌-◌, ◌<◌, [], ◌∷◌, ◌++◌, length, take, drop};
 
 use crate::rename_map::Rename;
 use std::marker::Model;
@@ -42,13 +42,16 @@ impl Renames {
         }
     }
 
-    // One more rename, the newest.
+    // One more rename, the newest, where it is of x1 to x31.
     #[inline(always)]
     pub(crate) fn push(&mut self, rename: Rename)
-        ensures { self.new ≡ self.old ++ rename ∷ [] }
+        ensures named { 0 < rename.rd → self.new ≡ self.old ++ rename ∷ [] }
+        ensures zero { rename.rd ≡ 0 → self.new ≡ self.old }
     {
-        let before = mem::replace(&mut self.past, Snapshot::of(&Past::Nothing));
-        self.past = Snapshot::of(&Past::Renamed(before, rename));
+        if rename.rd != 0 {
+            let before = mem::replace(&mut self.past, Snapshot::of(&Past::Nothing));
+            self.past = Snapshot::of(&Past::Renamed(before, rename));
+        }
     }
 
     // The oldest rename is taken off.

@@ -17,7 +17,7 @@ invariant_of-self g c =
     let at = found f c.args.context c.index.result (get_or c.self.inside.maps c.index.result c.index-self-index.result) c.index.ensures.value below (ap (get_or c.self.inside.maps c.index.result) c.index-self-index.is) in
     let some = rw (← c.self.view_is) at c.requires.some in
     let ready = rw (← c.self.view_is) at c.requires.ready in
-    rw c.push.ensures.items (record { file = committed_file f c.args.context c.index.result (get_or c.self.inside.maps c.index.result c.index-self-index.result) c.commit-freed.new.self c.commit-freed.result c.self.invariant.file at some ready c.commit-freed.ensures.map c.commit-freed.ensures.freed; room = c.self.invariant.room; undoable = committed_undoable c.self.inside.previous f c.args.context c.index.result (get_or c.self.inside.maps c.index.result c.index-self-index.result) c.commit-freed.new.self c.self.invariant.file at some c.commit-freed.ensures.map c.self.invariant.undoable })
+    rw c.push.ensures (record { file = committed_file f c.args.context c.index.result (get_or c.self.inside.maps c.index.result c.index-self-index.result) c.commit-freed.new.self c.commit-freed.result c.self.invariant.file at some ready c.commit-freed.ensures.map c.commit-freed.ensures.freed; room = c.self.invariant.room; undoable = committed_undoable c.self.inside.previous f c.args.context c.index.result (get_or c.self.inside.maps c.index.result c.index-self-index.result) c.commit-freed.new.self c.self.invariant.file at some c.commit-freed.ensures.map c.self.invariant.undoable })
 
 pub returns-clause-file : goal.returns-clause-file
 returns-clause-file g c = (invariant_of-self g c).file

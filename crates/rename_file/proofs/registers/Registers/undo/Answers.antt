@@ -20,7 +20,7 @@ invariant_of-self g c =
     let at = found f c.args.context c.index-2.result (get_or c.self.inside.maps c.index-2.result c.index-self-index-2.result) c.index-2.ensures.value (omega arith) (ap (get_or c.self.inside.maps c.index-2.result) c.index-self-index-2.is) in
     let some = rw (← c.self.view_is) at c.requires.some in
     let newest = rw (← c.self.view_is) at c.requires.newest in
-    rw c.push.ensures.items (record {
+    rw c.push.ensures (record {
       file = undone_file f c.args.context c.index-2.result (get_or c.self.inside.maps c.index-2.result c.index-self-index-2.result) c.undo.new.self c.args.rename c.self.invariant.file at some c.undo.ensures newest;
       room = c.self.invariant.room;
       undoable = undone_undoable c.self.inside.previous f c.args.context c.index-2.result (get_or c.self.inside.maps c.index-2.result c.index-self-index-2.result) c.undo.new.self c.self.invariant.file at c.undo.ensures c.self.invariant.undoable;

@@ -1,9 +1,0 @@
-use Rattle.std.proofs.Common.{arith}
-use Rattle.rename_file.proofs.Valued.{in_values, cleared}
-use Rattle.rename_file.proofs.cells.Cells.clear.Goals as goal
-
-pub bounds-self-inside-number : goal.bounds-self-inside-number
-bounds-self-inside-number g c = omega (arith, in_values c.self.inside.values.items c.self.inside.busy c.args.self.now c.self.view_is c.self.invariant.0 c.self.invariant.1 c.args.number c.requires, c.self.invariant.0)
-
-pub returns : goal.returns
-returns g c = cleared c.self.inside.values.items c.self.inside.busy c.args.self.now c.self.view_is c.self.invariant.0 c.self.invariant.1 c.args.number
