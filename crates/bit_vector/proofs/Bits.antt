@@ -1,11 +1,14 @@
 -- Bits of words.
 use mir.Val.{bool_byte}
 use Rattle.std.proofs.Common.{◌≡◌, ◌≢◌, ℕ, suc, ◌+◌, ◌-◌, ◌*◌, ◌/◌, ◌%◌, ◌^◌, ◌<◌, ◌≤◌, Bool, true, max, min, false, not, nat_eq, bit_and, bit_or, sym, ◌∙◌, ap, arith, inl, inr, ◌⊎◌}
-use Rattle.std.specs.Int.{bit_at, w64, rotate_right, trailing_zeros, bit_not}
+use Rattle.std.specs.Int.{bit_at, w64, rotate_right, leading_zeros, trailing_zeros, bit_not}
 use Rattle.std.specs.Int.Bits.{bit_xor}
+use Rattle.std.specs.Prelude.{nat_lt}
+use Rattle.std.proofs.Math.Nat.{div-eq_of_lt, lt-div-mul-add}
+use Rattle.std.proofs.lemmas.Bool.{ltb-true, ltb-false, le-ltb}
 use Rattle.std.proofs.lemmas.Bool.Decides.{nat_tests}
-use Rattle.std.proofs.lemmas.Nat.{shr-shr, shr_split, shr_le, pow_pos, and_mask, mod_low}
-use Rattle.std.proofs.lemmas.Nat.Bits.{bit_at_and, bit_at_not, bit_at_or, bit_at_xor, bit_at-lt, bit_at_above, bit_at-zero, bit_at-suc, bit_at_lowest, bit_at_ones, bit_at_clear_same, bit_at_clear_other, bit_at_cat_low, bit_at_cat_high, bit_at-trailing_zeros, same_from_bits, same_from_bits_below}
+use Rattle.std.proofs.lemmas.Nat.{pow_below, shr-shr, shr_split, shr_le, pow_pos, pow-add, and_mask, mod_low, leading_top}
+use Rattle.std.proofs.lemmas.Nat.Bits.{and_pow, bit_at_and, bit_at_not, bit_at_or, bit_at_xor, bit_at-lt, bit_at_above, bit_at-zero, bit_at-suc, bit_at_lowest, bit_at_ones, bit_at_clear_same, bit_at_clear_other, bit_at_cat_low, bit_at_cat_high, bit_at-trailing_zeros, same_from_bits, same_from_bits_below}
 
 pub bit-kept : (a b j : ℕ) → bit_at a j ≡ 1 → bit_at (bit_or a b) j ≡ 1
 bit-kept a b j h = let m : bit_at (bit_or a b) j ≡ max (bit_at a j) (bit_at b j) = bit_at_or a b j in let lt : bit_at b j < 2 = bit_at-lt b j in omega arith
@@ -195,6 +198,59 @@ lowest-set x fits within = elim (lt-or 0 x) [
   | inl some ↦ (bit_at-trailing_zeros w64 x some (omega (arith, fits))).1
 ]
 
+-- ---- the last bit below a place
+
+-- the word shifted up, so that the place right below one is the top bit
+abbrev up : ℕ → ℕ → ℕ
+up word end = word * 2 ^ (64 - end) % 18446744073709551616
+
+up-bit : (word end i : ℕ) → end ≤ 64 → i < end → bit_at (up word end) (64 - end + i) ≡ bit_at word i
+up-bit word end i few below =
+    let at : 64 - end + i - (64 - end) ≡ i = omega arith in
+    bit-low (word * 2 ^ (64 - end)) (64 - end + i) (omega arith) ∙ bit-up-high word (64 - end) (64 - end + i) (omega arith) ∙ ap (bit_at word) at
+
+up-none : (word end i : ℕ) → end ≤ 64 → 0 < end → i < 64 - end → bit_at (up word end) i ≡ 0
+up-none word end i few room low = bit-low (word * 2 ^ (64 - end)) i (omega arith) ∙ bit-up-low word (64 - end) i low
+
+-- the bit of a number between two powers
+top-bit : (a j : ℕ) → 2 ^ j ≤ a → a < 2 ^ suc j → bit_at a j ≡ 1
+top-bit a j least most =
+    let next : suc j ≡ 1 + j = omega arith in
+    let twice : 2 ^ suc j ≡ 2 * 2 ^ j = ap (λ n. 2 ^ n) next ∙ pow-add 2 1 j in
+    let cut : 1 * 2 ^ j + (a - 2 ^ j) ≡ a = omega (arith, least) in
+    let here : j - j ≡ 0 = omega arith in
+    ap (λ n. bit_at n j) (sym cut) ∙ bit_at_cat_high 1 j (a - 2 ^ j) j (omega (arith, least, most, twice)) (omega arith) ∙ ap (bit_at 1) here
+
+pub last-none : (word end i : ℕ) → end ≤ 64 → up word end ≡ 0 → i < end → bit_at word i ≡ 0
+last-none word end i few none below = sym (up-bit word end i few below) ∙ ap (λ n. bit_at n (64 - end + i)) none ∙ bit_at-zero (64 - end + i)
+
+module _ (word end : ℕ) (few : end ≤ 64) (room : 0 < end) (some : 0 < up word end) where
+  top : (j : ℕ) × (leading_zeros w64 (up word end) + suc j ≡ 64) × (2 ^ j ≤ up word end) × (up word end < 2 ^ suc j)
+  top = leading_top 64 (up word end) some (omega arith)
+
+  abbrev skipped : ℕ
+  skipped = leading_zeros w64 (up word end)
+
+  top-one : bit_at (up word end) top.0 ≡ 1
+  top-one = top-bit (up word end) top.0 top.2 top.3
+
+  top-high : 64 - end ≤ top.0
+  top-high = elim (lt-or top.0 (64 - end)) [
+    | inl low ↦ absurd (no-bit (sym (up-none word end top.0 few room low) ∙ top-one))
+    | inr ge ↦ ge
+  ]
+
+  pub last-within : skipped + 1 ≤ end
+  last-within = omega (arith, top.1, top-high, few)
+
+  pub last-set : bit_at word (end - 1 - skipped) ≡ 1
+  last-set =
+      let at : 64 - end + (end - 1 - skipped) ≡ top.0 = omega (arith, top.1, top-high, few) in
+      sym (up-bit word end (end - 1 - skipped) few (omega (arith, room))) ∙ ap (bit_at (up word end)) at ∙ top-one
+
+  pub last-clear : (i : ℕ) → end - 1 - skipped < i → i < end → bit_at word i ≡ 0
+  last-clear i after below = sym (up-bit word end i few below) ∙ bit_at_above (up word end) (suc top.0) (64 - end + i) top.3 (omega (arith, top.1, top-high, few, after))
+
 -- ---- bits of two words
 
 pub both-set : (a b i : ℕ) → bit_at a i ≡ 1 → bit_at b i ≡ 1 → bit_at (bit_and a b) i ≡ 1
@@ -260,24 +316,47 @@ eight-turned word base i low within = bit-of-eight (word % 256 * 257 / 2 ^ base)
 pub eight-above : (m i : ℕ) → 8 ≤ i → bit_at (m % 256) i ≡ 0
 eight-above m i high = bit_at_above (m % 256) 8 i (omega arith) high
 
--- ---- a bit that goes or stays
+-- ---- a word from a place on, under another's bit
 
--- a word without the bits of none
-without-none : (word slot : ℕ) → word < 18446744073709551616 → bit_and word (bit_not w64 (0 * 2 ^ slot % 2 ^ 64)) ≡ word
-without-none word slot fits =
-    let none : 0 * 2 ^ slot ≡ 0 = omega arith in
-    let e : 0 * 2 ^ 64 + word ≡ word = omega arith in
-    ap (λ n. bit_and word (bit_not w64 (n % 2 ^ 64))) none ∙ and_mask word 64 ∙ ap (λ n. n % 2 ^ 64) (sym e) ∙ mod_low 0 64 word fits
+module _ (word place other : ℕ) (fits : word < 18446744073709551616) (low : place < 64) where
+  -- the number right below the bit, or the greatest where it is clear
+  abbrev below : ℕ
+  below = (bit_and other (1 * 2 ^ place % 18446744073709551616) + 18446744073709551615) % 18446744073709551616
 
-pub cleared-kept : (word slot : ℕ) (goes : Bool) (bit : ℕ) → word < 18446744073709551616 → bit ≡ bool_byte goes → goes ≡ false → bit_and word (bit_not w64 (bit * 2 ^ slot % 2 ^ 64)) ≡ word
-cleared-kept word slot true bit fits is stays = absurd cc
-cleared-kept word slot false bit fits is stays = rw is (without-none word slot fits)
+  bit-alone : bit_and other (1 * 2 ^ place % 18446744073709551616) ≡ bit_at other place * 2 ^ place
+  bit-alone =
+      let one : 1 * 2 ^ place % 18446744073709551616 ≡ 2 ^ place = omega (arith, pow_below place 64 low) in
+      ap (bit_and other) one ∙ and_pow other place
 
-pub cleared-same : (word slot : ℕ) (goes : Bool) (bit : ℕ) → slot < 64 → bit ≡ bool_byte goes → goes ≡ true → bit_at (bit_and word (bit_not w64 (bit * 2 ^ slot % 2 ^ 64))) slot ≡ 0
-cleared-same word slot true bit within is goes = rw is (bit_at_clear_same w64 word slot within)
-cleared-same word slot false bit within is goes = absurd cc
+  below-set : bit_at other place ≡ 1 → below + 1 ≡ 2 ^ place
+  below-set set =
+      let one : bit_at other place * 2 ^ place ≡ 2 ^ place = rw set (omega arith) in
+      omega (arith, bit-alone, one, pow_below place 64 low, pow_pos place)
 
-pub cleared-other : (word slot : ℕ) (goes : Bool) (bit : ℕ) → word < 18446744073709551616 → slot < 64 → bit ≡ bool_byte goes → (i : ℕ) → i < 64 → i ≢ slot →
-    bit_at (bit_and word (bit_not w64 (bit * 2 ^ slot % 2 ^ 64))) i ≡ bit_at word i
-cleared-other word slot true bit fits within is i low apart = rw is (bit_at_clear_other w64 word slot within i low apart)
-cleared-other word slot false bit fits within is i low apart = rw is (ap (λ n. bit_at n i) (without-none word slot fits))
+  below-clear : bit_at other place ≡ 0 → below ≡ 18446744073709551615
+  below-clear clear =
+      let none : bit_at other place * 2 ^ place ≡ 0 = rw clear (omega arith) in
+      omega (arith, bit-alone, none)
+
+  pub from-none : nat_lt below word ≡ false → bit_at other place ≡ 1 → (i : ℕ) → place ≤ i → bit_at word i ≡ 0
+  from-none none set i after =
+      let short : word ≤ below = ltb-false below word none in
+      let zero : word / 2 ^ place ≡ 0 = div-eq_of_lt (omega (arith, short, below-set set)) in
+      none-from word place i zero after
+
+  pub from-place : nat_lt below word ≡ true → bit_at other place ≡ 1
+  from-place some = go (lt-or (bit_at other place) 1)
+    where
+      go : (bit_at other place < 1) ⊎ (1 ≤ bit_at other place) → bit_at other place ≡ 1
+      go (inl none) = absurd (omega (arith, below-clear (omega (arith, none)), ltb-true below word some, fits))
+      go (inr set) = omega (arith, set, bit_at-lt other place)
+
+  pub from-some : ((i : ℕ) → place ≤ i → bit_at word i ≡ 0) → nat_lt below word ≡ false
+  from-some clear =
+      let zero : word / 2 ^ place ≡ 0 = same_from_bits (word / 2 ^ place) 0 (λ i. bit-down word place i ∙ clear (place + i) (omega arith) ∙ sym (bit_at-zero i)) in
+      let short : word < 2 ^ place = omega (arith, lt-div-mul-add {a = word} {b = 2 ^ place} (pow_pos place), ap (λ n. n * 2 ^ place) zero) in
+      le-ltb below word (go (lt-or (bit_at other place) 1) short)
+    where
+      go : (bit_at other place < 1) ⊎ (1 ≤ bit_at other place) → word < 2 ^ place → word ≤ below
+      go (inl none) short = omega (arith, below-clear (omega (arith, none)), fits)
+      go (inr set) short = omega (arith, below-set (omega (arith, set, bit_at-lt other place)), short)

@@ -6,7 +6,7 @@ mod slots;
 mod turns;
 
 pub use places::{
-    assign, both, count, first, has_more, lowest, next, push, up_to_first, without_first,
+    assign, both, count, first, has_from, has_more, last, lowest, next, push, up_to_first, without_first,
     without_first_of_each,
 };
 pub use slots::{clear_slot, set_slot, turn, turn_eight};

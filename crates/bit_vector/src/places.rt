@@ -1,6 +1,6 @@
 //! A word as the bits of a list, the first of which is bit 0. Its other bits are clear.
 
-ghost use Rattle.std.specs.Prelude.{◌≡◌, ℕ, ◌<◌, ◌≤◌, Bool, true, false, List, [], ◌∷◌, ◌++◌, length, take, drop, slice_set, slice_index, count_by};
+ghost use Rattle.std.specs.Prelude.{◌≡◌, ℕ, ◌<◌, ◌≤◌, IfSome, None, Bool, true, false, List, [], ◌∷◌, ◌++◌, length, take, drop, slice_set, slice_index, count_by};
 ghost use Rattle.std.specs.Int.{bit_at};
 ghost use Rattle.std.specs.Simd.Lanes.{mask_l};
 
@@ -110,6 +110,20 @@ pub fn has_more(word: u64, other: u64) -> bool
     word & !other != 0
 }
 
+/// Whether a word has a bit at a place or above it, and another word has the bit of that place.
+// Without a jump on the one or the other.
+#[inline(always)]
+pub fn has_from(word: u64, place: usize, other: u64) -> bool
+    requires { place < 64 }
+    ensures none { result ≡ false → bit_at other place ≡ 1 → (i : ℕ) → place ≤ i → bit_at word i ≡ 0 }
+    ensures place { result ≡ true → bit_at other place ≡ 1 }
+    ensures some { ((i : ℕ) → place ≤ i → bit_at word i ≡ 0) → result ≡ false }
+{
+    // Where the bit is clear, that is the greatest number.
+    let below = (other & (1 << place)).wrapping_sub(1);
+    below < word
+}
+
 /// The bits that both words have.
 #[inline(always)]
 pub fn both(word: u64, other: u64) -> u64
@@ -137,4 +151,24 @@ pub fn next(word: u64, from: usize) -> usize
         return 64;
     }
     from + rest.trailing_zeros() as usize
+}
+
+/// The last place below one whose bit is set.
+#[inline(always)]
+pub fn last(word: u64, before: usize) -> Option<usize>
+    requires { before ≤ 64 }
+    ensures below { IfSome result (λ place. place < before) }
+    ensures set { IfSome result (λ place. bit_at word place ≡ 1) }
+    ensures clear { IfSome result (λ place. (i : ℕ) → place < i → i < before → bit_at word i ≡ 0) }
+    ensures none { result ≡ None → (i : ℕ) → i < before → bit_at word i ≡ 0 }
+{
+    if before == 0 {
+        return None;
+    }
+    // The place right below is the top bit.
+    let rest = word << (64 - before);
+    if rest == 0 {
+        return None;
+    }
+    Some(before - 1 - rest.leading_zeros() as usize)
 }

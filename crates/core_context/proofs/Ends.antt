@@ -13,10 +13,7 @@ use Rattle.core_view.specs.Events.{followed_by, with_stage, renamed_stage}
 use Rattle.core_view.specs.Flight.{pc_past, is_open}
 use Rattle.core_view.specs.Queues.{loads_of, stores_of}
 use Rattle.core_view.specs.View.{entry_at, no_entry}
-use Rattle.load_store_queue.specs.Queues.{Queues}
 use Rattle.core_context.specs.Ends.{IsEnd}
-use Rattle.entry_stages.specs.Placed.{AllFetched, CanPlace, Holds}
-use Rattle.entry_stages.proofs.Laws.{can_place}
 use Rattle.core_context.specs.Track.{Track}
 use Rattle.core_context.proofs.Tracks.{set_read, pc_last, pc_some, open_some, none_last}
 
@@ -38,36 +35,6 @@ open_set (f ∷ g ∷ es) (suc (suc i)) e same = open_set (g ∷ es) (suc i) e s
 -- an entry comes further, followed as it was
 pub end_set : (pc q : ℕ) (b : Bool) (es fs : List Entry) (i : ℕ) (e : Entry) → IsEnd pc q b es → fs ≡ set es i e → e.followed ≡ (get_or es i no_entry).followed → e.operation ≡ (get_or es i no_entry).operation → IsEnd pc q b fs
 end_set pc q b es fs i e end is followed operation = rw is (record { pc_is = end.pc_is ∙ sym (pc_set pc es i e followed); open_is = end.open_is ∙ sym (open_set es i e operation) })
-
--- the oldest fetched entry is renamed, and its access has its place
-pub renamed_kept : (cycle pc next : ℕ) (goes : Bool) (es fs : List Entry) (i : ℕ) (e : Entry) (q : Queues) → slice_get es i ≡ Some e → fs ≡ set es i (let f = get_or es i no_entry in with_stage f (renamed_stage cycle f.operation))
-    → Holds q (set es i (with_stage e (renamed_stage cycle e.operation))) → IsEnd pc next goes es → (q.loads ≡ loads_of fs) × (q.stores ≡ stores_of fs) × IsEnd pc next goes fs
-renamed_kept cycle pc next goes es fs i e q read items held end =
-    (held.loads ∙ sym (ap (λ (gs : List Entry). loads_of gs) is), held.stores ∙ sym (ap (λ (gs : List Entry). stores_of gs) is), end_set pc next goes es fs i _ end items refl refl)
-  where
-    is : fs ≡ set es i (with_stage e (renamed_stage cycle e.operation))
-    is = set_read es fs i e (λ f. with_stage f (renamed_stage cycle f.operation)) read items
-
--- what is known of a context as its oldest fetched entry is renamed, of what it keeps: a view, and queues that hold its loads and stores
-module _ (v t : Track) (is : v ≡ t) (fetched : AllFetched (drop t.renamed t.context.flight)) (e : Entry) (read : slice_get v.context.flight v.renamed ≡ Some e) (q : Queues) (loads : q.loads ≡ loads_of v.context.flight) (stores : q.stores ≡ stores_of v.context.flight) where
-  fetched_here : AllFetched (drop v.renamed v.context.flight)
-  fetched_here = subst (λ (u : Track). AllFetched (drop u.renamed u.context.flight)) (sym is) fetched
-
-  -- its access has a place
-  pub can_place_in : IsRising (λ (f : Entry). f.stamp) v.context.flight → q.load_places ≡ v.load_places → q.store_places ≡ v.store_places
-      → (is_load (entry_at t.context t.renamed).operation ≡ true → length (loads_of t.context.flight) < t.load_places) → (is_store (entry_at t.context t.renamed).operation ≡ true → length (stores_of t.context.flight) < t.store_places) → CanPlace q e
-  can_place_in rising load_places store_places load store =
-      let load_here = subst (λ (u : Track). is_load (entry_at u.context u.renamed).operation ≡ true → length (loads_of u.context.flight) < u.load_places) (sym is) load in
-      let store_here = subst (λ (u : Track). is_store (entry_at u.context u.renamed).operation ≡ true → length (stores_of u.context.flight) < u.store_places) (sym is) store in
-      can_place v.context.flight v.renamed e read q rising fetched_here (record { loads = loads; stores = stores }) (λ h. rw load_places (load_here h)) (λ h. rw store_places (store_here h))
-
-  -- and once it has it, all is kept
-  pub renamed_in : (cycle pc next : ℕ) (goes : Bool) (fs : List Entry) (now : Queues) → IsEnd pc next goes v.context.flight
-      → fs ≡ set v.context.flight v.renamed (let f = get_or v.context.flight v.renamed no_entry in with_stage f (renamed_stage cycle f.operation))
-      → ((es : List Entry) (i k : ℕ) → slice_get es i ≡ Some e → AllFetched (drop i es) → Holds q es → Holds now (set es i (with_stage e (renamed_stage k e.operation))))
-      → (now.loads ≡ loads_of fs) × (now.stores ≡ stores_of fs) × IsEnd pc next goes fs
-  renamed_in cycle pc next goes fs now end items holds =
-      renamed_kept cycle pc next goes v.context.flight fs v.renamed e now read items (holds v.context.flight v.renamed cycle read fetched_here (record { loads = loads; stores = stores })) end
 
 at_end : (i n : ℕ) → i < n → (i + 1 ≡ n) ⊎ (i + 1 < n)
 at_end i n lt = grind arith

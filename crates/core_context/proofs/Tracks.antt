@@ -34,7 +34,7 @@ use Rattle.entry_stages.specs.Heads.{IsGoing, done_outcome, first_done}
 use Rattle.core_context.specs.Queued.{queued_at}
 use Rattle.entry_stages.specs.Mispredicted.{is_mispredicted_by}
 use Rattle.core_context.specs.Track.{Track, left_by, cut_stamp, finished, cut_at, completed}
-use Rattle.entry_stages.proofs.Laws.{growing_whole}
+use Rattle.core_view.proofs.Growing.{growing_whole}
 use Rattle.core_context.proofs.Waiting.{and_none}
 
 -- ---- an entry at a place
@@ -58,12 +58,6 @@ pub set_read : (es fs : List Entry) (i : ℕ) (e : Entry) (change : Entry → En
 set_read es fs i e change read is = is ∙ ap (λ (n : Entry). set es i (change n)) (get_or_from_slice_get es i e no_entry read)
 
 -- the oldest entry as it is read
-pub going_renamed : (s : Stage) → IsGoing (done_outcome s) → is_renamed s ≡ true
-going_renamed Fetched h = absurd cc
-going_renamed Queued h = refl
-going_renamed (Issued x) h = refl
-going_renamed (Done x) h = refl
-
 pub first_read : (es : List Entry) (e : Entry) → slice_get es 0 ≡ Some e → first_done es ≡ done_outcome e.stage
 first_read [] e h = absurd cc
 first_read (x ∷ es) e h = let same : x ≡ e = cc in ap (λ (f : Entry). done_outcome f.stage) same
@@ -272,11 +266,6 @@ module _ (es : List Entry) (i : ℕ) (e : Entry) (x : Execution) (is : slice_get
     as_long : length new ≡ length es
     as_long = ap (λ (fs : List Entry). length fs) written ∙ length-set es i (completed_entry e x)
 
-    -- what has completed is found there
-    pub completed_read : (f : Entry) → slice_get new i ≡ Some f → f ≡ completed_entry e x
-    completed_read f at =
-        sym (get_or_from_slice_get new i f no_entry at) ∙ ap (λ (fs : List Entry). get_or fs i no_entry) written ∙ get_or-set_same es i (completed_entry e x) no_entry (slice_get_within es i e is)
-
     pub cut_wrong_none : is_mispredicted_by e x.outcome ≡ true → slice_get new (i + 1) ≡ None → None ≡ stamp_if (left_in es i x) es
     cut_wrong_none wrong none = stamp_none (left_in es i x) es (omega (arith, left_wrong wrong, past new (i + 1) none, as_long))
 
@@ -310,6 +299,14 @@ module _ (es : List Entry) (i : ℕ) (e : Entry) (x : Execution) (is : slice_get
         kept : (o : Outcome) → clean_length (bytes_in o) (drop (i + 1) es) ≡ kept_length e o (drop (i + 1) es)
         kept (Stops why) = clean_none (drop (i + 1) es)
         kept (Goes step) = let right = store_predicted e step store in rw right refl
+
+    -- what was guessed right leaves all, where it is no store that conflicts
+    pub plain_kept : IsRising (λ (f : Entry). f.stamp) es → is_mispredicted_by e x.outcome ≡ false → (is_store e.operation ≡ true → conflict_in (loads_of es) e.stamp (bytes_in x.outcome) ≡ None) → None ≡ stamp_if (left_in es i x) es
+    plain_kept rising right free = go (is_store e.operation) refl
+      where
+        go : (b : Bool) → is_store e.operation ≡ b → None ≡ stamp_if (left_in es i x) es
+        go true store = sym (free store) ∙ cut_store rising store
+        go false other = cut_kept right (writes_none other)
 
 -- ---- what is left after a squash
 

@@ -1,8 +1,9 @@
 -- How the parts of a core stand for its contexts.
-use Rattle.std.specs.Prelude.{◌≡◌, ℕ, ◌+◌, ◌≤◌, Bool, true, not, ◌&&◌, ◌==◌, if◌then◌else◌, List, length, map, filter, take, drop, None}
+use Rattle.std.specs.Prelude.{◌≡◌, ℕ, ◌+◌, ◌≤◌, Bool, true, not, ◌&&◌, ◌==◌, if◌then◌else◌, List, [], ◌∷◌, length, map, filter, take, drop, None}
 use Rattle.std.specs.List.{list_any}
 use Rattle.hart_step.specs.State.{State}
 use Rattle.core_view.specs.declared.entry.Entry.{Entry}
+use Rattle.core_view.specs.declared.entry.Stage.TheVariants.{Fetched}
 use Rattle.core_view.specs.Operations.{destination_of}
 use Rattle.core_view.specs.Flight.{result_of, is_queued}
 use Rattle.core_view.specs.Queues.{AllRenamed}
@@ -12,7 +13,6 @@ use Rattle.data_flow.specs.Flow.{Node, Waiter, Flow, lane}
 use Rattle.core_context.specs.Track.{Track}
 use Rattle.core_context.specs.Queued.{queued_at, waiting_of, waiter_for}
 pub use Rattle.entry_stages.specs.Operands.{operands_of}
-pub use Rattle.entry_stages.specs.Placed.{AllFetched}
 
 -- ---- entries in the data flow
 
@@ -21,6 +21,11 @@ abbrev pub node_of_entry : Entry → Node
 node_of_entry e = record { operands = operands_of e; result = if destination_of e.operation == 0 then None else result_of e.stage }
 
 -- ---- flights
+
+-- all of these are fetched and not yet renamed
+abbrev pub AllFetched : List Entry → Type 0
+AllFetched [] = Unit {0}
+AllFetched (e ∷ es) = (e.stage ≡ Fetched) × AllFetched es
 
 -- the entry of a context and stamp was selected, and has not issued yet
 abbrev pub is_selected : List EntryId → ℕ → ℕ → Bool

@@ -8,6 +8,7 @@ use Rattle.core_view.specs.declared.entry.Execution.{Execution}
 use Rattle.core_view.specs.declared.entry.Entry.{Entry}
 use Rattle.core_view.specs.declared.status.Status.TheVariants.{Parked}
 use Rattle.flight.specs.Flights.{Flight}
+use Rattle.load_store_queue.specs.Queues.{Places}
 use Rattle.core_view.specs.Outcomes.{moved}
 use Rattle.core_view.specs.View.{Context, entry_at, first_context}
 use Rattle.core_view.specs.Events.{completed_entry, retire_event, stop_event, complete_event, kept_length, issue_event, rename_event, fetch_event, with_flight}
@@ -23,6 +24,10 @@ pub record Track : Type 0 where
 -- its flight
 abbrev pub flight_of : Track → Flight
 flight_of t = record { entries = t.context.flight; renamed = t.renamed; capacity = t.capacity }
+
+-- how many loads and stores of it may be renamed
+abbrev pub places_of : Track → Places
+places_of t = record { load_places = t.load_places; store_places = t.store_places }
 
 abbrev pub first_track : ℕ → ℕ → State → ℕ → ℕ → ℕ → Track
 first_track count target s capacity load_places store_places = record { context = first_context count target s; renamed = 0; capacity = capacity; load_places = load_places; store_places = store_places }

@@ -8,12 +8,11 @@ ghost use Rattle.core_view.specs.declared.entry.Entry.{Entry};
 ghost use Rattle.core_view.specs.declared.entry.Stage.TheVariants.{Fetched, Queued};
 ghost use Rattle.core_view.specs.declared.outcome.Outcome.TheVariants.{Stops};
 ghost use Rattle.core_view.specs.Flight.{is_open_guess as is_open_guess_entry};
-ghost use Rattle.core_view.specs.Operations.{destination_of, stops_at_fetch, is_load, is_store};
-ghost use Rattle.core_view.specs.Queues.{loads_of, stores_of};
+ghost use Rattle.core_view.specs.Operations.{destination_of, stops_at_fetch};
 ghost use Rattle.core_view.specs.View.{entry_at};
 ghost use Rattle.core_context.specs.Issuable.{HasIssued, IsAnswered, IsIssuable, IsIssuableAt, IsMarked, AreLetGo, must_wait, AreHeld, HoldsNone};
 ghost use Rattle.core_context.specs.Track.{is_last, retired, parked, stopped, completed, renamed_one};
-ghost use Rattle.core_context.specs.Cores.{operands_of, AllFetched};
+ghost use Rattle.core_context.specs.Cores.{operands_of};
 ghost use Rattle.entry_stages.specs.Heads.{IsGoing, first_done, step_on};
 ghost use Rattle.flight.specs.Flights.{execution_of, is_due, IsIssued};
 ghost use Rattle.core_context.specs.Left.{IsIdleCore, IsEventAt};
@@ -90,8 +89,8 @@ pub fn stop<A: Allocator>(flow: &mut DataFlow<A>, track: &mut Track<A>, context:
     flow.cut_from(context, 0, 0);
 }
 
-/// The entry at a place, which is issued, completes, if it is plain: no store, and fetch went on after it where it goes. It
-/// squashes nothing. Returns whether one more may be due in the same cycle.
+/// The entry at a place, which is issued, completes, if it is plain: fetch went on after it where it goes, and it is no
+/// store behind which a load has issued. It squashes nothing. Returns whether one more may be due in the same cycle.
 #[inline(always)]
 pub fn complete_plain<A: Allocator>(
     flow: &mut DataFlow<A>,
@@ -252,28 +251,12 @@ fn renamable<A: Allocator>(
     }
 }
 
-/// Whether each place that an operation needs of the queues is free. Most operations take one test of what they are.
+/// Whether each place that an operation needs of the queues is free.
 #[inline(always)]
 fn has_places<A: Allocator>(flow: &DataFlow<A>, track: &Track<A>, operation: &Decoded) -> bool
     ensures { IsTrue result ↔ HasPlaces flow.now track.now operation.now }
 {
-    if operation.accesses_or_stops() {
-        return has_places_apart(flow, track, operation);
-    }
-    flow.has_place()
-}
-
-/// The same of what accesses memory or stops at fetch.
-fn has_places_apart<A: Allocator>(flow: &DataFlow<A>, track: &Track<A>, operation: &Decoded) -> bool
-    ensures { IsTrue result ↔ HasPlaces flow.now track.now operation.now }
-{
-    if operation.is_load() && !track.has_load_place() {
-        return false;
-    }
-    if operation.is_store() && !track.has_store_place() {
-        return false;
-    }
-    operation.stops_at_fetch() || flow.has_place()
+    track.has_place(operation) && (flow.has_place() || operation.stops_at_fetch())
 }
 
 /// The oldest fetched entry is renamed in a cycle, if it can be and its stamp is no greater than a limit. Returns its stamp.
@@ -314,9 +297,6 @@ fn rename_oldest<A: Allocator>(
     requires free { 0 < destination_of (entry_at track.old.context track.old.renamed).operation → taken flow.old < flow.old.extra }
     requires fresh { waits_in flow.old context (entry_at track.old.context track.old.renamed).stamp ≡ false }
     requires place { stops_at_fetch (entry_at track.old.context track.old.renamed).operation ≡ false → length flow.old.waiters < flow.old.places }
-    requires fetched { AllFetched (drop track.old.renamed track.old.context.flight) }
-    requires load { is_load (entry_at track.old.context track.old.renamed).operation ≡ true → length (loads_of track.old.context.flight) < track.old.load_places }
-    requires store { is_store (entry_at track.old.context track.old.renamed).operation ≡ true → length (stores_of track.old.context.flight) < track.old.store_places }
     ensures track { track.new ≡ renamed_one cycle track.old }
     ensures flow { flow.new ≡ renamed_flow flow.old context (entry_at track.old.context track.old.renamed) (list_any is_open_guess_entry (take track.old.renamed track.old.context.flight)) }
 {
@@ -347,9 +327,6 @@ fn rename_stop<A: Allocator>(flow: &mut DataFlow<A>, track: &mut Track<A>, conte
     requires younger { All (λ n. n.operands.stamp < (entry_at track.old.context track.old.renamed).stamp) (lane flow.old context).nodes }
     requires room { length (lane flow.old context).nodes < (lane flow.old context).room }
     requires free { 0 < destination_of (entry_at track.old.context track.old.renamed).operation → taken flow.old < flow.old.extra }
-    requires fetched { AllFetched (drop track.old.renamed track.old.context.flight) }
-    requires load { is_load (entry_at track.old.context track.old.renamed).operation ≡ true → length (loads_of track.old.context.flight) < track.old.load_places }
-    requires store { is_store (entry_at track.old.context track.old.renamed).operation ≡ true → length (stores_of track.old.context.flight) < track.old.store_places }
     ensures track { track.new ≡ renamed_one cycle track.old }
     ensures flow { (speculative : Bool) → flow.new ≡ renamed_flow flow.old context (entry_at track.old.context track.old.renamed) speculative }
 {
@@ -369,9 +346,6 @@ fn rename_waiting<A: Allocator>(flow: &mut DataFlow<A>, track: &mut Track<A>, co
     requires free { 0 < destination_of (entry_at track.old.context track.old.renamed).operation → taken flow.old < flow.old.extra }
     requires fresh { waits_in flow.old context (entry_at track.old.context track.old.renamed).stamp ≡ false }
     requires place { length flow.old.waiters < flow.old.places }
-    requires fetched { AllFetched (drop track.old.renamed track.old.context.flight) }
-    requires load { is_load (entry_at track.old.context track.old.renamed).operation ≡ true → length (loads_of track.old.context.flight) < track.old.load_places }
-    requires store { is_store (entry_at track.old.context track.old.renamed).operation ≡ true → length (stores_of track.old.context.flight) < track.old.store_places }
     ensures track { (cycle : ℕ) → track.new ≡ renamed_one cycle track.old }
     ensures flow { flow.new ≡ renamed_flow flow.old context (entry_at track.old.context track.old.renamed) (list_any is_open_guess_entry (take track.old.renamed track.old.context.flight)) }
 {

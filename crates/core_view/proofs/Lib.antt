@@ -16,3 +16,5 @@ pub mod StoreSlots
 pub mod RingForm
 pub mod Computed
 pub mod TurnBits
+pub mod KindTests
+pub mod Growing

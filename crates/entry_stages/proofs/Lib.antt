@@ -1,5 +1,3 @@
 mod Texts
 mod Computes
 mod Unwritten
-pub mod QueueSlots
-pub mod Laws

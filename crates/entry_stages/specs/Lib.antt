@@ -1,7 +1,6 @@
 pub mod Text
 pub mod Plain
 pub mod Operands
-pub mod Placed
 pub mod Effects
 pub mod Due
 pub mod Mispredicted

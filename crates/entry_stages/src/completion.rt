@@ -1,11 +1,10 @@
 //! What an entry comes to as it completes.
 
-ghost use Rattle.std.specs.Prelude.{◌≡◌, ◌+◌, ◌<◌, length, option_copied};
-ghost use Rattle.core_view.specs.Flight.{bytes_in};
+ghost use Rattle.std.specs.Prelude.{◌≡◌, ◌+◌, ◌<◌, length};
 ghost use Rattle.flight.specs.Flights.{entry_in, execution_of, IsIssued};
 ghost use Rattle.entry_stages.specs.Mispredicted.{is_mispredicted_by};
 
-use core_view::{Access, Bytes, Entry, Outcome, Stage};
+use core_view::{Entry, Outcome, Stage};
 use flight::Flight;
 use std::alloc::Allocator;
 
@@ -21,25 +20,6 @@ pub fn is_mispredicted(entry: &Entry) -> bool
         Outcome::Goes { step } => entry.is_mispredicted(&step),
         Outcome::Stops { .. } => false,
     }
-}
-
-/// The bytes that an issued entry will write, if it writes any.
-// They are lent: each function that gave them by value would have them copied once more, in pieces.
-#[inline(always)]
-pub fn bytes_to_come(entry: &Entry) -> Option<&Bytes>
-    requires { IsIssued entry.now.stage }
-    ensures { option_copied result ≡ bytes_in (execution_of entry.now.stage).outcome }
-{
-    let Stage::Issued { execution } = &entry.stage else {
-        return None;
-    };
-    let Outcome::Goes { step } = &execution.outcome else {
-        return None;
-    };
-    let Access::Writes { bytes } = &step.access else {
-        return None;
-    };
-    Some(bytes)
 }
 
 /// The pc at which fetch goes on once the entry at a place has completed, where it went on at another before.

@@ -10,8 +10,8 @@ mod prediction;
 mod renaming;
 mod retirement;
 
-pub use accesses::{place_access, retire_access};
-pub use completion::{bytes_to_come, fetch_pc_after, is_mispredicted};
+pub use accesses::retire_access;
+pub use completion::{fetch_pc_after, is_mispredicted};
 pub use decoded_memory::DecodedMemory;
 pub use effects::{computed, effect_at, span_of};
 pub use lags::{ONE_CYCLE, address_of, due_after, kind_of, lag_of, refused};

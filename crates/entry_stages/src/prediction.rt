@@ -2,6 +2,7 @@
 
 ghost use Rattle.std.specs.Prelude.{◌≡◌};
 ghost use Rattle.core_view.specs.declared.operation.Operation.TheVariants.{Performs};
+ghost use Rattle.core_view.specs.Operations.{is_guessed};
 ghost use Rattle.lawful_cycle.specs.Fetch.{IsFollowedBy, IsStated};
 
 use branch_predict::Guess;
@@ -59,13 +60,14 @@ fn guessed_apart<G: Guess>(guess: &mut G, context: Ctx, pc: u64, insn: &Insn) ->
     guessed(guess, context, pc, insn)
 }
 
-/// A branch or jump that retires is shown to the guess, with the pc at which its context goes on.
+/// A branch or jump that retires, guessed or not, is shown to the guess, with the pc at which its context goes on.
 #[inline(always)]
-pub fn learn<G: Guess>(guess: &mut G, context: Ctx, entry: &Entry, next: u64)
+pub fn learn<G: Guess>(guess: &mut G, context: Ctx, entry: &Entry, next: u64, guessed: bool)
+    requires { guessed ≡ is_guessed entry.now.operation }
     ensures { G.may_answer guess.new ≡ G.may_answer guess.old }
 {
     let operation = entry.operation.operation();
-    if entry.operation.is_guessed() {
+    if guessed {
         if let Operation::Performs { insn } = operation {
             guess.learn(context, entry.pc, insn, next);
         }

@@ -50,3 +50,14 @@ guesses-retired (suc r) (e ∷ es) some = let same : suc r - 1 ≡ r = omega ari
 pub one-most : (b : Bool) → bool_byte b ≤ 1
 one-most true = omega arith
 one-most false = omega arith
+
+-- the oldest of them is renamed
+pub guesses-renamed : (g r : ℕ) (es fs : List Entry) (e : Entry) → g ≡ guesses_ahead r es → r < length es → is_guessed e.operation ≡ is_guessed (entry_in es r).operation → fs ≡ set es r e → g - bool_byte (is_guessed e.operation) ≡ guesses_ahead (r + 1) fs
+guesses-renamed g r es fs e is within same made =
+    let left : guesses_ahead (r + 1) fs ≡ guesses_ahead (r + 1) es = ap (guesses_ahead (r + 1)) made ∙ guesses-set (r + 1) r es e (omega arith) in
+    let here : guesses_ahead r es ≡ bool_byte (is_guessed e.operation) + guesses_ahead (r + 1) es = guesses-next r es within ∙ ap (λ b. cond b 1 0 + guesses_ahead (r + 1) es) (sym same) ∙ ap (λ n. n + guesses_ahead (r + 1) es) (one-is (is_guessed e.operation)) in
+    omega (arith, is, left, here)
+  where
+    one-is : (b : Bool) → cond b 1 0 ≡ bool_byte b
+    one-is true = refl
+    one-is false = refl

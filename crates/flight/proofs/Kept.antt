@@ -1,5 +1,5 @@
 -- What is true of a flight, event by event.
-use Rattle.std.proofs.Common.{◌≡◌, ◌≢◌, ℕ, zero, suc, ◌+◌, ◌-◌, ◌%◌, ◌<◌, ◌≤◌, List, [], ◌∷◌, length, take, drop, set, get_or, refl, sym, ◌∙◌, ap, arith, inl, inr, ◌⊎◌, length-set, length-drop}
+use Rattle.std.proofs.Common.{◌≡◌, ◌≢◌, ℕ, zero, suc, ◌+◌, ◌-◌, ◌%◌, ◌<◌, ◌≤◌, true, List, [], ◌∷◌, ◌++◌, length, take, drop, set, get_or, refl, sym, ◌∙◌, ap, arith, inl, inr, ◌⊎◌, length-set, length-drop}
 use Rattle.std.specs.Int.{bit_at}
 use Rattle.std.proofs.lemmas.List.{length-take-le, get_or-take, get_or-set_same, get_or-set_other}
 use Rattle.std.proofs.lemmas.Grind.{get_or_after_one}
@@ -9,10 +9,11 @@ use Rattle.core_view.specs.declared.entry.Execution.{Execution}
 use Rattle.core_view.specs.declared.entry.Stage.{Stage}
 use Rattle.core_view.specs.declared.entry.Stage.TheVariants.{Fetched, Queued, Issued, Done}
 use Rattle.core_view.specs.View.{no_entry}
+use Rattle.core_view.specs.Queues.{is_renamed}
 use Rattle.core_view.specs.Events.{with_stage}
 use Rattle.flight.specs.declared.marks.Marks.{Marks}
 use Rattle.flight.specs.Marked.{marks_of}
-use Rattle.flight.specs.Flights.{entry_in, IsFlight, IsAhead, IsHinted}
+use Rattle.flight.specs.Flights.{entry_in, IsFlight, IsAhead, AreRenamed, IsHinted}
 use Rattle.flight.proofs.Looks.{lt-or, eq-or}
 
 -- ---- lists
@@ -134,17 +135,57 @@ flight-retired es fs r base m n words f some is marks = rw is (record {
   few = omega (arith, f.few);
   marked = marks (take r es) f.marked ∙ ap marks_of (drop-take-one r es);
   ahead = λ i h. ap (λ (e : Entry). e.stage) (get_or_after_one es i no_entry) ∙ f.ahead (1 + i) (omega arith);
+  placed = λ i h. ap (λ (e : Entry). is_renamed e.stage) (get_or_after_one es i no_entry) ∙ f.placed (1 + i) (omega arith);
   hinted = hinted-retired words base es f.hinted;
 })
 
+-- what is put at a place is renamed, as the others are
+placed-put : (es : List Entry) (e : Entry) (place r : ℕ) → AreRenamed r es → is_renamed e.stage ≡ true → place < length es → AreRenamed r (set es place e)
+placed-put es e place r placed is within i low = elim (eq-or i place) [
+  | inl here ↦ ap (λ k. is_renamed (entry_in (set es place e) k).stage) here ∙ ap (λ (d : Entry). is_renamed d.stage) (get_or-set_same es place e no_entry within) ∙ is
+  | inr other ↦ ap (λ (d : Entry). is_renamed d.stage) (get_or-set_other es place i e no_entry other) ∙ placed i low
+]
+
+-- one more is renamed, the oldest that wasn't
+placed-next : (es fs : List Entry) (e : Entry) (r : ℕ) → AreRenamed r es → is_renamed e.stage ≡ true → r < length es → fs ≡ set es r e → AreRenamed (r + 1) fs
+placed-next es fs e r placed is within made = rw made (λ i low. elim (eq-or i r) [
+  | inl here ↦ ap (λ k. is_renamed (entry_in (set es r e) k).stage) here ∙ ap (λ (d : Entry). is_renamed d.stage) (get_or-set_same es r e no_entry within) ∙ is
+  | inr other ↦ ap (λ (d : Entry). is_renamed d.stage) (get_or-set_other es r i e no_entry other) ∙ placed i (omega (arith, low, other))
+])
+
+take-next : (es : List Entry) (r : ℕ) (e : Entry) → r < length es → take (r + 1) (set es r e) ≡ take r es ++ e ∷ []
+take-next [] r e within = absurd (omega arith)
+take-next (f ∷ es) zero e within = refl
+take-next (f ∷ es) (suc r) e within = let one : suc r + 1 ≡ suc (r + 1) = omega arith in rw one (ap (λ (fs : List Entry). f ∷ fs) (take-next es r e (omega arith)))
+
+-- the oldest entry that was fetched is renamed: it waits or is done
+pub flight-renamed : (es fs : List Entry) (e : Entry) (r base : ℕ) (m n : Marks) (words : List ℕ) → IsFlight es r base m words → r < length es → r < 64 → is_renamed e.stage ≡ true → ((x : Execution) → e.stage ≡ Issued x → ⊥) → fs ≡ set es r e →
+    ((xs : List Entry) → m ≡ marks_of xs → r ≡ length xs → length xs < 64 → n ≡ marks_of (xs ++ e ∷ [])) → IsFlight fs (r + 1) base n words
+flight-renamed es fs e r base m n words f within few renamed idle made marks =
+    let long : length (take r es) ≡ r = length-take-le r es f.within in rw made (record {
+      within = omega (arith, within, length-set es r e);
+      few = omega (arith, few);
+      marked = marks (take r es) f.marked (sym long) (omega (arith, long, few)) ∙ ap marks_of (sym (take-next es r e within));
+      ahead = λ i h. let other : i ≢ r = omega arith in ap (λ (d : Entry). d.stage) (get_or-set_other es r i e no_entry other) ∙ f.ahead i (omega (arith, h));
+      placed = placed-next es (set es r e) e r f.placed renamed within refl;
+      hinted = hinted-still words base es (set es r e) f.hinted still;
+    })
+  where
+    still : (i : ℕ) (x : Execution) → (entry_in (set es r e) i).stage ≡ Issued x → (entry_in es i).stage ≡ Issued x
+    still i x is = elim (eq-or i r) [
+      | inl here ↦ absurd (idle x (ap (λ (d : Entry). d.stage) (sym (get_or-set_same es r e no_entry within) ∙ ap (λ k. entry_in (set es r e) k) (sym here)) ∙ is))
+      | inr other ↦ ap (λ (d : Entry). d.stage) (sym (get_or-set_other es r i e no_entry other)) ∙ is
+    ]
+
 -- another entry at a renamed place
-flight-put : (es : List Entry) (e : Entry) (place r base : ℕ) (m n : Marks) (words vs : List ℕ) → IsFlight es r base m words → place < r →
+flight-put : (es : List Entry) (e : Entry) (place r base : ℕ) (m n : Marks) (words vs : List ℕ) → IsFlight es r base m words → place < r → is_renamed e.stage ≡ true →
     n ≡ marks_of (set (take r es) place e) → IsHinted vs base (set es place e) → IsFlight (set es place e) r base n vs
-flight-put es e place r base m n words vs f within marks hinted = record {
+flight-put es e place r base m n words vs f within renamed marks hinted = record {
   within = omega (arith, f.within, length-set es place e);
   few = f.few;
   marked = marks ∙ ap marks_of (sym (take-set-lt r es place e within));
   ahead = λ i h. let other : i ≢ place = omega arith in ap (λ (e : Entry). e.stage) (get_or-set_other es place i e no_entry other) ∙ f.ahead i h;
+  placed = placed-put es e place r f.placed renamed (omega (arith, within, f.within));
   hinted = hinted;
 }
 
@@ -158,7 +199,7 @@ flight-issued es fs e place r base m n words x w f within size queued is made ma
     let there : entry_in (take r es) place ≡ entry_in es place = get_or-take r es place no_entry within in
     let stage : e.stage ≡ Issued x = ap (λ (d : Entry). d.stage) is in
     let same : (entry_in (take r es) place).operation ≡ e.operation = ap (λ (d : Entry). d.operation) there ∙ sym (ap (λ (d : Entry). d.operation) is) in
-    rw made (flight-put es e place r base m n words (set words (x.due % 64) w) f within
+    rw made (flight-put es e place r base m n words (set words (x.due % 64) w) f within (ap is_renamed stage)
     (marks (take r es) x f.marked (ap (λ (d : Entry). d.stage) there ∙ queued) same stage (omega arith) (omega (arith, f.few)))
     (hinted-issued words base place es e x f.hinted (omega (arith, f.within)) size stage w bit more))
 
@@ -171,6 +212,7 @@ flight-cleared es place r base cycle w m words f renamed size idle others = reco
   few = f.few;
   marked = f.marked;
   ahead = f.ahead;
+  placed = f.placed;
   hinted = hinted-cleared words base place r cycle w es f.hinted f.ahead f.few renamed size idle others;
 }
 
@@ -182,7 +224,7 @@ flight-finished es fs e x place r base cycle w m n words f issued same done made
     let within : place < r = issued-renamed es r place x f.ahead issued in
     let long : length (take r es) ≡ r = length-take-le r es f.within in
     let word : n ≡ marks_of (set (take r es) place e) = marks (take r es) f.marked (omega arith) (omega (arith, f.few)) (ap (λ (e : Entry). e.stage) (get_or-take r es place no_entry within) ∙ issued) (ap (λ (e : Entry). e.operation) (get_or-take r es place no_entry within) ∙ same) in
-    let put = flight-put es e place r base m n words words f within word (hinted-still words base es (set es place e) f.hinted (still within)) in
+    let put = flight-put es e place r base m n words words f within (ap is_renamed done) word (hinted-still words base es (set es place e) f.hinted (still within)) in
     rw made (flight-cleared (set es place e) place r base cycle w n words put (omega (arith, within, f.few)) size (λ z is. absurd (idle z (sym (ap (λ (e : Entry). e.stage) (get_or-set_same es place e no_entry (omega (arith, f.within)))) ∙ is))) others)
   where
     idle : (z : Execution) → e.stage ≡ Issued z → ⊥
@@ -200,6 +242,7 @@ flight-none base words = record {
   few = omega arith;
   marked = refl;
   ahead = λ i h. refl;
+  placed = λ i h. absurd (omega (arith, h));
   hinted = λ i x is. absurd (fetched-issued x is);
 }
 

@@ -3,3 +3,4 @@ mod Looks
 mod Freed
 mod Kept
 mod Ahead
+mod KindWords

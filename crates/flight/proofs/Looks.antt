@@ -1,17 +1,20 @@
 -- What the words and the hints of a flight show of its entries.
-use Rattle.std.proofs.Common.{◌≡◌, ◌≢◌, ℕ, zero, suc, ◌+◌, ◌*◌, ◌/◌, ◌%◌, ◌<◌, ◌≤◌, Bool, true, false, cond, List, [], ◌∷◌, length, take, get_or, Some, None, is_some, refl, sym, ◌∙◌, ap, arith, inl, inr, ◌⊎◌}
-use Rattle.std.specs.Prelude.{◌==◌, if◌then◌else◌}
+use Rattle.std.proofs.Common.{◌≡◌, ◌≢◌, ℕ, zero, suc, ◌+◌, ◌*◌, ◌/◌, ◌%◌, ◌<◌, ◌≤◌, Bool, true, false, cond, List, [], ◌∷◌, length, take, get_or, Option, Some, None, is_some, refl, sym, ◌∙◌, ap, arith, inl, inr, ◌⊎◌}
+use Rattle.std.specs.Prelude.{◌==◌, if◌then◌else◌, IfSome, MatchOption}
 use Rattle.std.specs.Int.{bit_at}
 use Rattle.std.proofs.lemmas.Bool.{eqb-true}
 use Rattle.std.proofs.lemmas.Bool.Decides.{nat_tests}
+use Rattle.std.proofs.lemmas.Nat.Bits.{bit_at-lt}
 use Rattle.core_view.specs.declared.entry.Entry.{Entry}
 use Rattle.core_view.specs.declared.entry.Execution.{Execution}
 use Rattle.core_view.specs.declared.entry.Stage.{Stage}
 use Rattle.core_view.specs.declared.entry.Stage.TheVariants.{Fetched, Queued, Issued, Done}
 use Rattle.core_view.specs.Events.{due_at}
-use Rattle.flight.specs.Marked.{word_of}
-use Rattle.flight.specs.Flights.{entry_in, IsHinted, IsAhead, NoneFrom, IsNext, IsIssued, is_due}
-use Rattle.flight.proofs.Words.{bit-clear, bit-set}
+use Rattle.core_view.specs.Operations.{is_store}
+use Rattle.core_view.proofs.KindTests.{store-kind}
+use Rattle.flight.specs.Marked.{word_of, is_of_kind, is_issued_load}
+use Rattle.flight.specs.Flights.{Flight, entry_in, IsHinted, IsAhead, NoneFrom, IsNext, NoneRenamedFrom, IsNextRenamed, NoneRenamedBelow, IsLastRenamed, IsIssued, is_due}
+use Rattle.flight.proofs.Words.{bit-clear, bit-set, bit-within}
 
 -- ---- cases of places
 
@@ -79,15 +82,63 @@ pub word-past : (test : Entry → Bool) (es : List Entry) (w r from place : ℕ)
     r ≤ place → ((i : ℕ) → from ≤ i → i < place → bit_at w i ≡ 0) → NoneFrom test es from
 word-past test es w r from place is within ahead fetched past clear = none-from test es from place r (word-none test es w r from place is within ahead fetched clear) past ahead fetched
 
+-- ---- a word of renamed entries, whatever the others are
+
+module _ (test : Entry → Bool) (f : Flight) (w : ℕ) (is : w ≡ word_of test (take f.renamed f.entries)) (within : f.renamed ≤ length f.entries) where
+  here : (i : ℕ) → bit_at w i ≡ 1 → (i < f.renamed) × (test (entry_in f.entries i) ≡ true)
+  here i set = let renamed = bit-within test f.entries w f.renamed i is within set in (renamed, bit-set test f.entries w f.renamed i is within renamed set)
+
+  pub next-renamed : (from place : ℕ) → from ≤ place → bit_at w place ≡ 1 → ((i : ℕ) → from ≤ i → i < place → bit_at w i ≡ 0) → IsNextRenamed test f from place
+  next-renamed from place after set clear = record {
+    after = after;
+    renamed = (here place set).0;
+    passes = (here place set).1;
+    first = λ i from_here below. bit-clear test f.entries w f.renamed i is within (omega (arith, below, (here place set).0)) (clear i from_here below);
+  }
+
+  pub past-renamed : (from place : ℕ) → f.renamed ≤ place → ((i : ℕ) → from ≤ i → i < place → bit_at w i ≡ 0) → NoneRenamedFrom test f from
+  past-renamed from place past clear i after below = bit-clear test f.entries w f.renamed i is within below (clear i after (omega (arith, past, below)))
+
+  pub last-renamed : (before : ℕ) (o : Option ℕ) → IfSome o (λ p. p < before) → IfSome o (λ p. bit_at w p ≡ 1) → IfSome o (λ p. (i : ℕ) → p < i → i < before → bit_at w i ≡ 0) → (o ≡ None → (i : ℕ) → i < before → bit_at w i ≡ 0) →
+      MatchOption o (NoneRenamedBelow test f before) (λ p. IsLastRenamed test f before p)
+  last-renamed before None below set clear none = λ i low renamed. bit-clear test f.entries w f.renamed i is within renamed (none refl i low)
+  last-renamed before (Some p) below set clear none = record {
+    below = below;
+    renamed = (here p set).0;
+    passes = (here p set).1;
+    last = λ i after low renamed. bit-clear test f.entries w f.renamed i is within renamed (clear i after low);
+  }
+
+-- ---- stores and loads
+
+-- where no load from a store on has its bit, none behind it has issued
+pub unread : (f : Flight) (stores loads place : ℕ) → stores ≡ word_of (is_of_kind 4) (take f.renamed f.entries) → loads ≡ word_of is_issued_load (take f.renamed f.entries) → f.renamed ≤ length f.entries → place < f.renamed →
+    (bit_at stores place ≡ 1 → (i : ℕ) → place ≤ i → bit_at loads i ≡ 0) → is_store (entry_in f.entries place).operation ≡ true → NoneRenamedFrom is_issued_load f (place + 1)
+unread f stores loads place stores_are loads_are within renamed clear store i after below =
+    bit-clear is_issued_load f.entries loads f.renamed i loads_are within below (clear (there (lt-or (bit_at stores place) 1)) i (omega (arith, after)))
+  where
+    there : (bit_at stores place < 1) ⊎ (1 ≤ bit_at stores place) → bit_at stores place ≡ 1
+    there (inl none) = absurd (no (sym store ∙ sym (store-kind (entry_in f.entries place).operation) ∙ bit-clear (is_of_kind 4) f.entries stores f.renamed place stores_are within renamed (omega (arith, none))))
+      where
+        no : true ≡ false → ⊥
+        no e = cc
+    there (inr some) = omega (arith, some, bit_at-lt stores place)
+
+-- ---- the first two places
+
 -- the first bit of a word
-pub first-bit : (test : Entry → Bool) (es : List Entry) (w r : ℕ) → w ≡ word_of test (take r es) → r ≤ length es → IsAhead r es → ((e : Entry) → e.stage ≡ Fetched → test e ≡ false) → (w % 2 == 1) ≡ test (entry_in es 0)
-first-bit test es w zero is within ahead fetched = ap (λ n. n % 2 == 1) is ∙ sym (fetched (entry_in es 0) (ahead 0 (omega arith)))
-first-bit test [] w (suc r) is within ahead fetched = absurd (omega arith)
-first-bit test (e ∷ es) w (suc r) is within ahead fetched = ap (λ n. n % 2 == 1) is ∙ low (test e) (word_of test (take r es))
+pub first-renamed : (test : Entry → Bool) (es : List Entry) (w r : ℕ) → w ≡ word_of test (take r es) → r ≤ length es → 0 < r → (w % 2 == 1) ≡ test (entry_in es 0)
+first-renamed test es w zero is within some = absurd (omega arith)
+first-renamed test [] w (suc r) is within some = absurd (omega arith)
+first-renamed test (e ∷ es) w (suc r) is within some = ap (λ n. n % 2 == 1) is ∙ low (test e) (word_of test (take r es))
   where
     low : (b : Bool) (n : ℕ) → ((cond b 1 0 + 2 * n) % 2 == 1) ≡ b
     low true n = grind (arith, nat_tests)
     low false n = grind (arith, nat_tests)
+
+pub first-bit : (test : Entry → Bool) (es : List Entry) (w r : ℕ) → w ≡ word_of test (take r es) → r ≤ length es → IsAhead r es → ((e : Entry) → e.stage ≡ Fetched → test e ≡ false) → (w % 2 == 1) ≡ test (entry_in es 0)
+first-bit test es w zero is within ahead fetched = ap (λ n. n % 2 == 1) is ∙ sym (fetched (entry_in es 0) (ahead 0 (omega arith)))
+first-bit test es w (suc r) is within ahead fetched = first-renamed test es w (suc r) is within (omega arith)
 
 -- and the second: it is the first of the word of the others
 pub second-bit : (test : Entry → Bool) (es : List Entry) (w r : ℕ) → w ≡ word_of test (take r es) → r ≤ length es → IsAhead r es → ((e : Entry) → e.stage ≡ Fetched → test e ≡ false) → (w / 2 % 2 == 1) ≡ test (entry_in es 1)

@@ -10,7 +10,7 @@ use Rattle.std.proofs.Math.Seq.{map-set_same}
 use Rattle.std.proofs.lemmas.Simd.{bit_mask_l, mask_l-lt}
 use Rattle.std.proofs.lemmas.List.Sums.{sum_by-cons}
 use Rattle.std.proofs.lemmas.Nat.{and_le_l}
-use Rattle.std.proofs.lemmas.Nat.Bits.{bit_at_above, bit_at_and, bit_at_not, same_from_bits_below}
+use Rattle.std.proofs.lemmas.Nat.Bits.{bit_at_above, bit_at_and, bit_at_not, same_from_bits, same_from_bits_below}
 use Rattle.std.proofs.Math.Pow.{pow_mono}
 use Rattle.core_view.specs.declared.entry.Entry.{Entry}
 use Rattle.core_view.specs.declared.entry.Stage.{Stage}
@@ -19,12 +19,12 @@ use Rattle.core_view.specs.Operations.{is_load}
 use Rattle.core_view.specs.Flight.{is_done, has_missed, is_missed_load}
 use Rattle.core_view.specs.View.{no_entry}
 use Rattle.flight.specs.declared.marks.Marks.{Marks}
-use Rattle.flight.specs.Marked.{word_of, marks_of, is_waiting_load, missed_at_issue, is_load_that_missed, has_completed}
+use Rattle.flight.specs.Marked.{word_of, marks_of, missed_at_issue, is_load_that_missed, has_completed}
 use Rattle.flight.specs.Flights.{entry_in}
 
-pub five : (a b c d e a' b' c' d' e' : ℕ) → a ≡ a' → b ≡ b' → c ≡ c' → d ≡ d' → e ≡ e' →
-    ◌≡◌ {A = Marks} record { waiting = a; waiting_loads = b; open_guesses = c; missed_loads = d; done = e } record { waiting = a'; waiting_loads = b'; open_guesses = c'; missed_loads = d'; done = e' }
-five a b c d e a' b' c' d' e' pa pb pc pd pe = rw pa (rw pb (rw pc (rw pd (rw pe refl))))
+pub four : (k k' : List ℕ) (a b c a' b' c' : ℕ) → k ≡ k' → a ≡ a' → b ≡ b' → c ≡ c' →
+    ◌≡◌ {A = Marks} record { kinds = k; waiting = a; missed_loads = b; done = c } record { kinds = k'; waiting = a'; missed_loads = b'; done = c' }
+four k k' a b c a' b' c' pk pa pb pc = rw pk (rw pa (rw pb (rw pc refl)))
 
 bit-entry : (p : Entry → Bool) (es : List Entry) (i : ℕ) → i < length es → get_or (map p es) i false ≡ p (entry_in es i)
 bit-entry p [] i lt = absurd (omega arith)
@@ -42,10 +42,6 @@ word-unset p es e w is fails = is ∙ grown es
     grown : (fs : List Entry) → word_of p fs ≡ word_of p (fs ++ e ∷ [])
     grown [] = ap (λ b. cond b 1 0 + 2 * 0) (sym fails)
     grown (f ∷ fs) = ap (λ n. cond (p f) 1 0 + 2 * n) (grown fs)
-
--- the word of loads that wait, beside the others of an entry more
-pub loads-told : (es : List Entry) (e : Entry) (w : ℕ) → w ≡ word_of is_waiting_load (es ++ e ∷ []) → record (marks_of (es ++ e ∷ [])) { waiting_loads = w } ≡ marks_of (es ++ e ∷ [])
-loads-told es e w is = ap (λ v. let m : Marks = record (marks_of (es ++ e ∷ [])) { waiting_loads = v } in m) is
 
 pub word-set : (p : Entry → Bool) (es : List Entry) (e : Entry) (w r place : ℕ) (b : Bool) → w ≡ word_of p es → place < length es → length es ≤ 64 → b ≡ p e →
     ((ms : List Bool) → w ≡ mask_l ms → place < length ms → length ms ≤ 64 → r ≡ mask_l (set ms place b)) → r ≡ word_of p (set es place e)
@@ -66,6 +62,9 @@ word-same p es e w place is same = is ∙ ap mask_l (sym (map-set_same p es plac
 
 pub word-take : (p : Entry → Bool) (es : List Entry) (w r n : ℕ) → w ≡ word_of p es → length es ≤ 64 → ((ms : List Bool) → w ≡ mask_l ms → length ms ≤ 64 → r ≡ mask_l (take n ms)) → r ≡ word_of p (take n es)
 word-take p es w r n is short h = h (map p es) is (omega (arith, length-map es p)) ∙ ap mask_l (take-map p n es)
+
+pub few-taken : (es : List Entry) (r : ℕ) → r ≤ length es → r ≤ 64 → length (take r es) ≤ 64
+few-taken es r within few = omega (arith, length-take-le r es within, few)
 
 -- ---- a word that is 0
 
@@ -154,6 +153,23 @@ module _ (p q r : Entry → Bool) (is : (e : Entry) → (p e && not (q e)) ≡ r
   word-without es short =
       let le : bit_and (word_of p es) (bit_not w64 (word_of q es)) ≤ word_of p es = and_le_l _ _ in
       same_from_bits_below 64 _ _ (omega (arith, le, fits p es short)) (fits r es short) (λ i low. bit es i short low)
+
+-- what passes two tests passes a third
+module _ (p q r : Entry → Bool) (is : (e : Entry) → (p e && q e) ≡ r e) where
+  one-of : (a b c : Bool) → (a && b) ≡ c → min (cond a 1 0) (cond b 1 0) ≡ cond c 1 0
+  one-of true true c e = ap (λ d. cond {A = ℕ} d 1 0) e
+  one-of true false c e = ap (λ d. cond {A = ℕ} d 1 0) e
+  one-of false true c e = ap (λ d. cond {A = ℕ} d 1 0) e
+  one-of false false c e = ap (λ d. cond {A = ℕ} d 1 0) e
+
+  at-both : (es : List Entry) (i : ℕ) → min (cond (get_or (map p es) i false) 1 0) (cond (get_or (map q es) i false) 1 0) ≡ cond (get_or (map r es) i false) 1 0
+  at-both [] i = refl
+  at-both (e ∷ es) zero = one-of (p e) (q e) (r e) (is e)
+  at-both (e ∷ es) (suc i) = at-both es i
+
+  pub word-both : (es : List Entry) → bit_and (word_of p es) (word_of q es) ≡ word_of r es
+  word-both es = same_from_bits _ _ (λ i. bit_at_and (word_of p es) (word_of q es) i ∙ ap (λ n. min n (bit_at (word_of q es) i)) (bit_mask_l (map p es) i)
+      ∙ ap (λ n. min (cond (get_or (map p es) i false) 1 0) n) (bit_mask_l (map q es) i) ∙ at-both es i ∙ sym (bit_mask_l (map r es) i))
 
 missed-is : (e : Entry) → (is_load_that_missed e && not (has_completed e)) ≡ is_missed_load e
 missed-is e = go (is_load e.operation) e.stage

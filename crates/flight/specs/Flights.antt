@@ -12,10 +12,11 @@ use Rattle.core_view.specs.declared.entry.Entry.{Entry}
 use Rattle.core_view.specs.View.{no_entry}
 use Rattle.core_view.specs.Operations.{is_guessed, is_store}
 use Rattle.core_view.specs.Flight.{result_in, is_open_guess}
+use Rattle.core_view.specs.Queues.{is_renamed}
 use Rattle.core_view.specs.Events.{with_stage, renamed_stage, completed_entry, due_at}
 use Rattle.flight.specs.declared.finished.Finished.{Finished}
 use Rattle.flight.specs.declared.marks.Marks.{Marks}
-use Rattle.flight.specs.Marked.{marks_of, is_waiting}
+use Rattle.flight.specs.Marked.{marks_of, is_waiting, is_issued_load}
 
 -- the entries in flight, oldest first, how many of them are renamed, and how many there may be
 pub record Flight : Type 0 where
@@ -89,11 +90,33 @@ pub record IsNext (test : Entry → Bool) (es : List Entry) (from place : ℕ) :
   pub passes : test (entry_in es place) ≡ true
   pub first : (i : ℕ) → from ≤ i → i < place → test (entry_in es i) ≡ false
 
--- an issued entry is plain: no store, and fetch went on after it where it goes
-pub record IsPlain (e : Entry) (f : Finished) : Type 0 where
-  pub store : is_store e.operation ≡ false
-  pub followed : (step : Step) → (execution_of e.stage).outcome ≡ Goes step → e.followed ≡ step.next
-  pub result : result_in (execution_of e.stage).outcome ≡ Some f.value
+-- no renamed entry from a place on passes a test
+abbrev pub NoneRenamedFrom : (Entry → Bool) → Flight → ℕ → Type 0
+NoneRenamedFrom test f from = (i : ℕ) → from ≤ i → i < f.renamed → test (entry_in f.entries i) ≡ false
+
+-- the first renamed entry from a place on that passes a test
+pub record IsNextRenamed (test : Entry → Bool) (f : Flight) (from place : ℕ) : Type 0 where
+  pub after : from ≤ place
+  pub renamed : place < f.renamed
+  pub passes : test (entry_in f.entries place) ≡ true
+  pub first : (i : ℕ) → from ≤ i → i < place → test (entry_in f.entries i) ≡ false
+
+-- no renamed entry below a place passes a test
+abbrev pub NoneRenamedBelow : (Entry → Bool) → Flight → ℕ → Type 0
+NoneRenamedBelow test f before = (i : ℕ) → i < before → i < f.renamed → test (entry_in f.entries i) ≡ false
+
+-- the last renamed entry below a place that passes a test
+pub record IsLastRenamed (test : Entry → Bool) (f : Flight) (before place : ℕ) : Type 0 where
+  pub below : place < before
+  pub renamed : place < f.renamed
+  pub passes : test (entry_in f.entries place) ≡ true
+  pub last : (i : ℕ) → place < i → i < before → i < f.renamed → test (entry_in f.entries i) ≡ false
+
+-- the issued entry at a place is plain: fetch went on after it where it goes, and it is no store behind which a load has issued
+pub record IsPlain (f : Flight) (place : ℕ) (finished : Finished) : Type 0 where
+  pub unread : is_store (entry_in f.entries place).operation ≡ true → NoneRenamedFrom is_issued_load f (place + 1)
+  pub followed : (step : Step) → (execution_of (entry_in f.entries place).stage).outcome ≡ Goes step → (entry_in f.entries place).followed ≡ step.next
+  pub result : result_in (execution_of (entry_in f.entries place).stage).outcome ≡ Some finished.value
 
 -- no entry below a place is guessed and has not completed
 abbrev pub NoneOpenBelow : List Entry → ℕ → Type 0
@@ -114,9 +137,14 @@ IsHinted words base es = (i : ℕ) (x : Execution) → (entry_in es i).stage ≡
 abbrev pub IsAhead : ℕ → List Entry → Type 0
 IsAhead renamed es = (i : ℕ) → renamed ≤ i → (entry_in es i).stage ≡ Fetched
 
+-- and what is renamed isn't
+abbrev pub AreRenamed : ℕ → List Entry → Type 0
+AreRenamed renamed es = (i : ℕ) → i < renamed → is_renamed (entry_in es i).stage ≡ true
+
 pub record IsFlight (entries : List Entry) (renamed base : ℕ) (marks : Marks) (hints : List ℕ) : Type 0 where
   pub within : renamed ≤ length entries
   pub few : renamed ≤ 64
   pub marked : marks ≡ marks_of (take renamed entries)
   pub ahead : IsAhead renamed entries
+  pub placed : AreRenamed renamed entries
   pub hinted : IsHinted hints base entries

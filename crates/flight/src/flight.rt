@@ -1,6 +1,6 @@
 //! The entries of a context in flight.
 
-ghost use Rattle.std.specs.Prelude.{◌≡◌, ◌≢◌, ℕ, ◌+◌, ◌-◌, ◌<◌, ◌≤◌, ◌%◌, Bool, true, false, [], ◌∷◌, ◌++◌, length, take, drop, slice_get, slice_set, option_copied, None, Some, IfOk, IfSome, IsTrue, MatchOption, All, count_by};
+ghost use Rattle.std.specs.Prelude.{◌≡◌, ◌≢◌, ℕ, ◌+◌, ◌-◌, ◌<◌, ◌≤◌, ◌%◌, Bool, true, false, [], ◌∷◌, ◌++◌, length, take, drop, slice_get, slice_set, option_copied, None, Some, IfOk, IfSome, IsTrue, MatchOption, All, count_by, nat_lt};
 ghost use Rattle.std.specs.Int.{bit_at};
 ghost use Rattle.std.specs.List.{list_any};
 ghost use Rattle.circular_buffer.specs.Buffer.{buffer, last_item};
@@ -12,14 +12,18 @@ ghost use Rattle.core_view.specs.declared.entry.Execution.{Execution};
 ghost use Rattle.core_view.specs.declared.outcome.Step.{Step};
 ghost use Rattle.core_view.specs.declared.outcome.Outcome.TheVariants.{Goes};
 ghost use Rattle.core_view.specs.Flight.{is_done, is_open_guess, is_missed_load, result_in};
-ghost use Rattle.core_view.specs.Operations.{is_guessed, is_load, is_store, stops_at_fetch};
-ghost use Rattle.flight.specs.Marked.{is_waiting, is_waiting_load, word_of};
-ghost use Rattle.flight.specs.Flights.{entry_in, empty_flight, fetched_one, renamed_one, issued_one, finished_one, retired_one, none_left, cut_at, execution_of, IsIssued, guesses_ahead, is_due, NoneFrom, IsNext, IsPlain, NoneOpenBelow, Frees};
+ghost use Rattle.core_view.specs.Operations.{is_guessed, is_load, stops_at_fetch};
+ghost use Rattle.core_view.specs.Kinds.{kind_index};
+ghost use Rattle.core_view.specs.Queues.{is_renamed};
+ghost use Rattle.flight.specs.Marked.{is_of_kind, is_waiting, is_waiting_load, is_issued_load, is_completed_store, word_of};
+ghost use Rattle.flight.specs.Flights.{entry_in, empty_flight, fetched_one, renamed_one, issued_one, finished_one, retired_one, none_left, cut_at, execution_of, IsIssued, guesses_ahead, is_due, NoneFrom, IsNext, NoneRenamedFrom, IsNextRenamed, NoneRenamedBelow, IsLastRenamed, IsPlain, NoneOpenBelow, Frees};
 
 use crate::finished::Finished;
 use crate::marks::{Marks, is_waiting};
-use bit_vector::{both, clear_slot, has_more, lowest, next, set_slot, turn, up_to_first};
-use core_view::{Entry, Execution, Outcome, Stage};
+use bit_vector::{
+    both, clear_slot, count, has_from, has_more, last, lowest, next, set_slot, turn, up_to_first,
+};
+use core_view::{Entry, Execution, OperationKind, Outcome, Stage};
 use reorder_buffer::Ring;
 use std::alloc::{AllocError, Allocator, Global};
 use std::marker::Model;
@@ -87,6 +91,7 @@ impl<A: Allocator> Flight<A> {
         ensures value { result ≡ self.now.renamed }
         ensures within { result ≤ length self.now.entries }
         ensures few { result ≤ 64 }
+        ensures oldest { (i : ℕ) → is_renamed (entry_in self.now.entries i).stage ≡ nat_lt i result }
     {
         self.renamed
     }
@@ -171,29 +176,9 @@ impl<A: Allocator> Flight<A> {
         let place = self.renamed;
         let entry = waiting(at(&self.ring, place));
         set_in(&mut self.ring, place, entry);
-        self.marks.push_waiting(place, &entry);
+        self.marks.push_queued(place, &entry);
         self.slots[(entry.stamp % 256) as usize] = slot_of(self.base, place) as u8;
         self.renamed = place + 1;
-        let guessed = usize::from(entry.operation.is_guessed());
-        self.guessed -= guessed;
-    }
-
-    /// The same of one that is no load.
-    #[inline(always)]
-    pub fn rename_other(&mut self)
-        requires some { self.old.renamed < length self.old.entries }
-        requires few { self.old.renamed < 64 }
-        requires goes { stops_at_fetch (entry_in self.old.entries self.old.renamed).operation ≡ false }
-        requires other { is_load (entry_in self.old.entries self.old.renamed).operation ≡ false }
-        ensures { (cycle : ℕ) → self.new ≡ renamed_one cycle self.old }
-    {
-        let _len = self.ring.len();
-        let next = self.renamed;
-        let entry = waiting(at(&self.ring, next));
-        set_in(&mut self.ring, next, entry);
-        self.marks.push_other(next, &entry);
-        self.slots[(entry.stamp % 256) as usize] = slot_of(self.base, next) as u8;
-        self.renamed = next + 1;
         let guessed = usize::from(entry.operation.is_guessed());
         self.guessed -= guessed;
     }
@@ -279,7 +264,7 @@ impl<A: Allocator> Flight<A> {
     pub fn has_open_guess(&self) -> bool
         ensures { result ≡ list_any is_open_guess (take self.now.renamed self.now.entries) }
     {
-        self.marks.open_guesses != 0
+        self.marks.open_guesses() != 0
     }
 
     /// How many loads were issued, have not completed, and missed.
@@ -303,7 +288,7 @@ impl<A: Allocator> Flight<A> {
         ensures here { result < self.now.renamed → is_open_guess (entry_in self.now.entries result) ≡ true }
         ensures few { result ≤ 64 }
     {
-        next(self.marks.open_guesses, 0)
+        next(self.marks.open_guesses(), 0)
     }
 
     /// The place of the entry with a stamp that waits for issue, where the slot that is known of the stamp is its own.
@@ -337,7 +322,7 @@ impl<A: Allocator> Flight<A> {
         ensures next { MatchOption result (NoneFrom is_waiting_load self.now.entries from) (λ place. IsNext is_waiting_load self.now.entries from place) }
         ensures renamed { IfSome result (λ place. place < self.now.renamed) }
     {
-        self.next_marked(self.marks.waiting_loads, from)
+        self.next_marked(self.marks.waiting_loads(), from)
     }
 
     /// Whether a renamed entry is a load that waits for issue.
@@ -346,7 +331,52 @@ impl<A: Allocator> Flight<A> {
         ensures value { result ≡ list_any is_waiting_load (take self.now.renamed self.now.entries) }
         ensures none { result ≡ false → NoneFrom is_waiting_load self.now.entries 0 }
     {
-        self.marks.waiting_loads != 0
+        self.marks.waiting_loads() != 0
+    }
+
+    /// How many renamed entries are of a kind.
+    #[inline(always)]
+    pub fn kind_count(&self, kind: OperationKind) -> usize
+        ensures value { result ≡ count_by (is_of_kind (kind_index kind)) (take self.now.renamed self.now.entries) }
+    {
+        count(self.marks.of_kind(kind))
+    }
+
+    /// Whether a renamed entry is of a kind.
+    #[inline(always)]
+    pub fn has_kind(&self, kind: OperationKind) -> bool
+        ensures { result ≡ list_any (is_of_kind (kind_index kind)) (take self.now.renamed self.now.entries) }
+    {
+        self.marks.of_kind(kind) != 0
+    }
+
+    /// Whether the oldest entry, which is renamed, is of a kind.
+    #[inline(always)]
+    pub fn head_is(&self, kind: OperationKind) -> bool
+        requires { 0 < self.now.renamed }
+        ensures { result ≡ is_of_kind (kind_index kind) (entry_in self.now.entries 0) }
+    {
+        self.marks.of_kind(kind) % 2 == 1
+    }
+
+    /// The first place from one on whose entry is a load that has issued.
+    #[inline(always)]
+    pub fn next_issued_load(&self, from: usize) -> Option<usize>
+        requires { from ≤ 64 }
+        ensures { MatchOption result (NoneRenamedFrom is_issued_load self.now from) (λ place. IsNextRenamed is_issued_load self.now from place) }
+    {
+        // What has its bit is renamed.
+        let place = next(self.marks.issued_loads(), from);
+        if place < 64 { Some(place) } else { None }
+    }
+
+    /// The last place below one whose entry is a store that has completed.
+    #[inline(always)]
+    pub fn last_completed_store(&self, before: usize) -> Option<usize>
+        requires { before ≤ 64 }
+        ensures { MatchOption result (NoneRenamedBelow is_completed_store self.now before) (λ place. IsLastRenamed is_completed_store self.now before place) }
+    {
+        last(self.marks.completed_stores(), before)
     }
 
     /// The first place from one on whose entry has its bit in a word.
@@ -386,18 +416,23 @@ impl<A: Allocator> Flight<A> {
         }
     }
 
-    /// The entry at a place, which is issued, completes, if it is plain. Nothing is cut.
+    /// The entry at a place, which is issued, completes, if it is plain: fetch went on after it where it goes, and it is no
+    /// store behind which a load has issued. Nothing is cut.
     #[inline(always)]
     pub fn finish_plain(&mut self, place: usize, cycle: u64) -> Option<Finished>
         requires place { place < length self.old.entries }
         requires issued { IsIssued (entry_in self.old.entries place).stage }
         ensures none { result ≡ None → self.new ≡ self.old }
-        ensures plain { IfSome result (IsPlain (entry_in self.old.entries place)) }
+        ensures plain { IfSome result (IsPlain self.old place) }
         ensures done { IfSome result (λ _. self.new ≡ finished_one self.old place (execution_of (entry_in self.old.entries place).stage)) }
         ensures frees { IfSome result (Frees self.old self.new place) }
         ensures more { IfSome result (λ f. f.more ≡ false → (i : ℕ) → is_due cycle (entry_in self.new.entries i) ≡ false) }
     {
         let value = plain_result(at(&self.ring, place))?;
+        let stores = self.marks.of_kind(OperationKind::Store);
+        if has_from(self.marks.issued_loads(), place, stores) {
+            return None;
+        }
         let before = self.unguarded();
         self.finish(place);
         let frees = has_more(self.unguarded(), before);
@@ -413,7 +448,7 @@ impl<A: Allocator> Flight<A> {
         ensures waits { (i : ℕ) → bit_at result i ≡ 1 → is_waiting (entry_in self.now.entries i) ≡ true }
         ensures none_open { (i : ℕ) → bit_at result i ≡ 1 → NoneOpenBelow self.now.entries i }
     {
-        both(self.marks.waiting, up_to_first(self.marks.open_guesses))
+        both(self.marks.waiting, up_to_first(self.marks.open_guesses()))
     }
 
     /// The first place from one on whose entry is due in a cycle. Bits of what was cut are cleared on the way.
@@ -573,10 +608,9 @@ fn complete_in<A: Allocator>(ring: &mut Ring<Entry, A>, place: usize) -> u64
     execution.due
 }
 
-/// The result of an entry that is issued, if it is no store and fetch went on after it where it goes.
+/// The result of an entry that is issued, if fetch went on after it where it goes.
 #[inline(always)]
 fn plain_result(entry: &Entry) -> Option<u64>
-    ensures store { IfSome result (λ _. is_store entry.now.operation ≡ false) }
     ensures followed { IfSome result (λ _. (step : Step) → (execution_of entry.now.stage).outcome ≡ Goes step → entry.now.followed ≡ step.next) }
     ensures result { IfSome result (λ value. result_in (execution_of entry.now.stage).outcome ≡ Some value) }
 {
@@ -586,7 +620,7 @@ fn plain_result(entry: &Entry) -> Option<u64>
     let Outcome::Goes { step } = &execution.outcome else {
         return None;
     };
-    if entry.operation.is_store() || entry.followed != step.next {
+    if entry.followed != step.next {
         return None;
     }
     Some(step.result)

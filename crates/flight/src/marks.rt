@@ -5,22 +5,21 @@ ghost use Rattle.core_view.specs.declared.entry.Entry.{Entry};
 ghost use Rattle.core_view.specs.declared.entry.Execution.{Execution};
 ghost use Rattle.core_view.specs.declared.entry.Stage.TheVariants.{Queued, Issued, Done};
 ghost use Rattle.core_view.specs.Operations.{is_load};
+ghost use Rattle.core_view.specs.Kinds.{kind_index};
 ghost use Rattle.core_view.specs.Flight.{is_open_guess, is_missed_load};
-ghost use Rattle.flight.specs.Marked.{marks_of, is_waiting, is_waiting_load, is_load_that_missed, missed_at_issue};
+ghost use Rattle.flight.specs.Marked.{marks_of, kinds_of, word_of, is_of_kind, is_waiting, is_waiting_load, is_issued_load, is_completed_store, is_load_that_missed, missed_at_issue};
 ghost use Rattle.flight.specs.Flights.{entry_in};
 
 use bit_vector::{assign, count, first, push, without_first, without_first_of_each};
-use core_view::{Entry, Stage};
+use core_view::{Entry, OperationKind, Stage};
 
 /// A bit a renamed entry, bit 0 for the oldest.
 #[derive(Clone, Copy)]
 pub(crate) struct Marks {
+    /// A word a kind of operation: it is of this kind.
+    pub(crate) kinds: [u64; 6],
     /// It waits for issue.
     pub(crate) waiting: u64,
-    /// It is a load that waits for issue.
-    pub(crate) waiting_loads: u64,
-    /// It is guessed and has not completed.
-    pub(crate) open_guesses: u64,
     /// It is a load that was issued and missed, done or not.
     pub(crate) missed_loads: u64,
     /// It is done.
@@ -33,9 +32,8 @@ impl Marks {
         ensures { result ≡ marks_of [] }
     {
         Marks {
+            kinds: [0; 6],
             waiting: 0,
-            waiting_loads: 0,
-            open_guesses: 0,
             missed_loads: 0,
             done: 0,
         }
@@ -47,43 +45,21 @@ impl Marks {
         requires { place < 64 }
         ensures { (es : List Entry) → self.old ≡ marks_of es → place ≡ length es → self.new ≡ marks_of (es ++ entry.now ∷ []) }
     {
+        push_kind(&mut self.kinds, place, entry);
         self.waiting = push(self.waiting, place, is_waiting(entry));
-        self.waiting_loads = push(self.waiting_loads, place, is_waiting_load(entry));
-        self.open_guesses = push(self.open_guesses, place, is_open_guess(entry));
         self.missed_loads = push(self.missed_loads, place, is_load_that_missed(entry));
         self.done = push(self.done, place, entry.stage.is_done());
     }
 
     /// With an entry more, the youngest, which waits for issue.
-    #[inline]
-    pub(crate) fn push_waiting(&mut self, place: usize, entry: &Entry)
+    #[inline(always)]
+    pub(crate) fn push_queued(&mut self, place: usize, entry: &Entry)
         requires { place < 64 }
         ensures { (es : List Entry) → self.old ≡ marks_of es → place ≡ length es → entry.now.stage ≡ Queued → self.new ≡ marks_of (es ++ entry.now ∷ []) }
     {
-        self.push_queued(place, entry);
-        if entry.operation.is_load() {
-            self.waiting_loads = push(self.waiting_loads, place, true);
-        }
-    }
-
-    /// The same of one that is no load.
-    #[inline]
-    pub(crate) fn push_other(&mut self, place: usize, entry: &Entry)
-        requires { place < 64 }
-        ensures { (es : List Entry) → self.old ≡ marks_of es → place ≡ length es → entry.now.stage ≡ Queued → is_load entry.now.operation ≡ false → self.new ≡ marks_of (es ++ entry.now ∷ []) }
-    {
-        self.push_queued(place, entry);
-    }
-
-    /// The same but for the word of the loads that wait.
-    #[inline(always)]
-    fn push_queued(&mut self, place: usize, entry: &Entry)
-        requires { place < 64 }
-        ensures { (es : List Entry) → self.old ≡ marks_of es → place ≡ length es → entry.now.stage ≡ Queued → self.new ≡ record (marks_of (es ++ entry.now ∷ [])) { waiting_loads = self.old.waiting_loads } }
-    {
         // The other bits at the place are clear already.
+        push_kind(&mut self.kinds, place, entry);
         self.waiting = push(self.waiting, place, true);
-        self.open_guesses = push(self.open_guesses, place, entry.operation.is_guessed());
     }
 
     /// With an entry at a place that has issued, where it waited.
@@ -94,7 +70,6 @@ impl Marks {
             place < length es → length es ≤ 64 → self.new ≡ marks_of (slice_set es place entry.now) }
     {
         self.waiting = assign(self.waiting, place, false);
-        self.waiting_loads = assign(self.waiting_loads, place, false);
         self.missed_loads = assign(self.missed_loads, place, is_load_that_missed(entry));
     }
 
@@ -116,7 +91,6 @@ impl Marks {
         ensures { (es : List Entry) (e : Entry) (x : Execution) → self.old ≡ marks_of es → place < length es → length es ≤ 64 → (entry_in es place).stage ≡ Issued x → (entry_in es place).operation ≡ e.operation → e.stage ≡ Done x →
             self.new ≡ marks_of (slice_set es place e) }
     {
-        self.open_guesses = assign(self.open_guesses, place, false);
         self.done = assign(self.done, place, true);
     }
 
@@ -125,15 +99,16 @@ impl Marks {
     pub(crate) fn retire(&mut self)
         ensures { (es : List Entry) → self.old ≡ marks_of es → self.new ≡ marks_of (drop 1 es) }
     {
-        let [waiting, waiting_loads, open_guesses, missed_loads] = without_first_of_each([
+        let [plain, jump, guessed, load, store, stop] = self.kinds;
+        let [plain, jump, guessed, load] = without_first_of_each([plain, jump, guessed, load]);
+        let [store, stop, waiting, missed_loads] = without_first_of_each([
+            store,
+            stop,
             self.waiting,
-            self.waiting_loads,
-            self.open_guesses,
             self.missed_loads,
         ]);
+        self.kinds = [plain, jump, guessed, load, store, stop];
         self.waiting = waiting;
-        self.waiting_loads = waiting_loads;
-        self.open_guesses = open_guesses;
         self.missed_loads = missed_loads;
         self.done = without_first(self.done);
     }
@@ -143,11 +118,58 @@ impl Marks {
     pub(crate) fn keep(&mut self, count: usize)
         ensures { (es : List Entry) → self.old ≡ marks_of es → length es ≤ 64 → self.new ≡ marks_of (take count es) }
     {
+        let [plain, jump, guessed, load, store, stop] = self.kinds;
+        self.kinds = [
+            first(plain, count),
+            first(jump, count),
+            first(guessed, count),
+            first(load, count),
+            first(store, count),
+            first(stop, count),
+        ];
         self.waiting = first(self.waiting, count);
-        self.waiting_loads = first(self.waiting_loads, count);
-        self.open_guesses = first(self.open_guesses, count);
         self.missed_loads = first(self.missed_loads, count);
         self.done = first(self.done, count);
+    }
+
+    /// The word of a kind.
+    #[inline(always)]
+    pub(crate) fn of_kind(&self, kind: OperationKind) -> u64
+        ensures { (es : List Entry) → self.now ≡ marks_of es → result ≡ word_of (is_of_kind (kind_index kind)) es }
+    {
+        self.kinds[kind.index()]
+    }
+
+    /// A word of the loads that wait for issue.
+    #[inline(always)]
+    pub(crate) fn waiting_loads(&self) -> u64
+        ensures { (es : List Entry) → self.now ≡ marks_of es → length es ≤ 64 → result ≡ word_of is_waiting_load es }
+    {
+        self.waiting & self.of_kind(OperationKind::Load)
+    }
+
+    /// A word of the loads that have issued.
+    #[inline(always)]
+    pub(crate) fn issued_loads(&self) -> u64
+        ensures { (es : List Entry) → self.now ≡ marks_of es → length es ≤ 64 → result ≡ word_of is_issued_load es }
+    {
+        self.of_kind(OperationKind::Load) & !self.waiting
+    }
+
+    /// A word of the stores that have completed.
+    #[inline(always)]
+    pub(crate) fn completed_stores(&self) -> u64
+        ensures { (es : List Entry) → self.now ≡ marks_of es → result ≡ word_of is_completed_store es }
+    {
+        self.of_kind(OperationKind::Store) & self.done
+    }
+
+    /// A word of those that are guessed and have not completed.
+    #[inline(always)]
+    pub(crate) fn open_guesses(&self) -> u64
+        ensures { (es : List Entry) → self.now ≡ marks_of es → length es ≤ 64 → result ≡ word_of is_open_guess es }
+    {
+        self.of_kind(OperationKind::Guessed) & !self.done
     }
 
     /// How many loads were issued, have not completed, and missed.
@@ -159,28 +181,22 @@ impl Marks {
     }
 }
 
+/// The word of an entry's kind gets its bit, the youngest. The bits of the other kinds at its place are clear already.
+#[inline(always)]
+fn push_kind(kinds: &mut [u64; 6], place: usize, entry: &Entry)
+    requires { place < 64 }
+    ensures { (es : List Entry) → kinds.old ≡ kinds_of es → place ≡ length es → kinds.new ≡ kinds_of (es ++ entry.now ∷ []) }
+{
+    let kind = entry.operation.kind().index();
+    kinds[kind] = push(kinds[kind], place, true);
+}
+
 /// Whether an entry waits for issue.
 #[inline]
 pub(crate) fn is_waiting(entry: &Entry) -> bool
     ensures { result ≡ is_waiting entry.now }
 {
     matches!(entry.stage, Stage::Queued)
-}
-
-/// Whether an entry is a load that waits for issue.
-#[inline]
-fn is_waiting_load(entry: &Entry) -> bool
-    ensures { result ≡ is_waiting_load entry.now }
-{
-    is_waiting(entry) & entry.operation.is_load()
-}
-
-/// Whether an entry is guessed and has not completed.
-#[inline]
-fn is_open_guess(entry: &Entry) -> bool
-    ensures { result ≡ is_open_guess entry.now }
-{
-    entry.operation.is_guessed() & !entry.stage.is_done()
 }
 
 /// Whether an entry is a load that was issued and missed, done or not.

@@ -1,5 +1,9 @@
-pub mod DropBefore
-pub mod Replacing
-pub mod Scans
 pub mod Numbers
 pub mod SeenByNewest
+pub mod Slots
+pub mod SlotCounts
+pub mod SlotKinds
+pub mod PlaceLimits
+pub mod RenamedPlace
+pub mod StoresBefore
+pub mod LoadsBehind

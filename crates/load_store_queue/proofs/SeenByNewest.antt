@@ -1,5 +1,5 @@
 -- What a load sees, by the newest store that shares a byte with it.
-use Rattle.std.proofs.Common.{◌≡◌, ℕ, true, false, List, Option, Some, None, sym, ap, ◌∙◌}
+use Rattle.std.proofs.Common.{◌≡◌, ℕ, true, List, Option, Some, None, sym, ap, ◌∙◌}
 use Rattle.core_view.specs.declared.span.Span.{Span}
 use Rattle.core_view.specs.declared.span.Bytes.{Bytes}
 use Rattle.core_view.specs.Spans.{shares, covers, number_in, part_of}
@@ -25,7 +25,3 @@ module _ (memory : ℕ → ℕ) (qs : List StoreSlot) (k : ℕ) (s : Span) (newe
   seen_in_store b value some whole is =
       let by_store : forwarded memory newest s ≡ part_of b s = ap (λ (n : Option Bytes). forwarded memory n s) some in
       is ∙ sym (seen_by (ap (λ (n : Option Bytes). is_clear_of n s) some ∙ whole) ∙ by_store)
-
-  -- it doesn't
-  pub not_clear : (b : Bytes) → newest ≡ Some b → covers b.span s ≡ false → false ≡ is_clear_in qs k s
-  not_clear b some part = sym (clear_by ∙ ap (λ (n : Option Bytes). is_clear_of n s) some ∙ part)

@@ -1,4 +1,3 @@
 pub mod FaultText
 pub mod Queues
-pub mod Replaced
 pub mod Answered

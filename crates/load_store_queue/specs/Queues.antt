@@ -1,19 +1,25 @@
--- The loads and stores in flight of one context, oldest first.
-use Rattle.std.specs.Prelude.{ℕ, ◌==◌, if◌then◌else◌, List, [], Option}
+-- The load queue and the store queue of a context: the loads and the stores of its flight, oldest first.
+use Rattle.std.specs.Prelude.{◌≡◌, ℕ, ◌<◌, ◌==◌, if◌then◌else◌, true, List, [], ◌∷◌, length, Option}
 use Rattle.core_view.specs.declared.span.Span.{Span}
 use Rattle.core_view.specs.declared.span.Bytes.{Bytes}
-use Rattle.core_view.specs.Queues.{LoadSlot, StoreSlot}
+use Rattle.core_view.specs.declared.entry.Entry.{Entry}
+use Rattle.core_view.specs.declared.operation.Operation.{Operation}
+use Rattle.core_view.specs.Operations.{is_load, is_store}
+use Rattle.core_view.specs.Queues.{LoadSlot, StoreSlot, loads_of, stores_of}
 
--- both lists, and how many of each there may be
-pub record Queues : Type 0 where
-  pub loads : List LoadSlot
-  pub stores : List StoreSlot
+-- how many of each there may be
+pub record Places : Type 0 where
   pub load_places : ℕ
   pub store_places : ℕ
 
--- no load and no store, with so many places
-abbrev pub empty_queues : ℕ → ℕ → Queues
-empty_queues load_places store_places = record { loads = []; stores = []; load_places = load_places; store_places = store_places }
+-- beside the entries of a flight there is a place for one more of an operation, where it is a load or a store
+pub record HasPlace (q : Places) (es : List Entry) (o : Operation) : Type 0 where
+  pub load : is_load o ≡ true → length (loads_of es) < q.load_places
+  pub store : is_store o ≡ true → length (stores_of es) < q.store_places
+
+-- so many places for loads and for stores among the kinds of operations, and more than can be renamed for the others
+abbrev pub limits_of : ℕ → ℕ → List ℕ
+limits_of load_places store_places = 65 ∷ 65 ∷ 65 ∷ load_places ∷ store_places ∷ 65 ∷ []
 
 -- the stamps of the two
 abbrev pub load_stamp : LoadSlot → ℕ
@@ -29,3 +35,9 @@ with_span k span q = if q.stamp == k then record { stamp = k; span = span } else
 -- the store with a stamp has completed with these bytes; None where it stops
 abbrev pub slot_with_bytes : ℕ → Option Bytes → StoreSlot → StoreSlot
 slot_with_bytes k bytes q = if q.stamp == k then record { stamp = k; bytes = bytes } else q
+
+module _ {X : Type 0} (stamp : X → ℕ) where
+  -- the list without its oldest, where that has this stamp
+  abbrev pub without_oldest : ℕ → List X → List X
+  without_oldest k [] = []
+  without_oldest k (x ∷ xs) = if stamp x == k then xs else x ∷ xs

@@ -2,15 +2,15 @@
 //!
 //! A load takes its bytes from the newest older store that shares a byte with it and has completed, where that
 //! covers the load, else from memory. A store that completes names the oldest issued younger load that shares a byte
-//! with it.
+//! with it. The entries are lent: what is kept of a load or a store stands in its entry of the flight.
 #![tactic(auto)]
 
 mod answer;
 mod fault;
 mod load_store_queue;
-mod place;
 mod reading;
-mod ring;
+mod search;
+mod stored;
 
 pub use answer::LoadAnswer;
 pub use fault::QueueFault;

@@ -3,7 +3,7 @@
 ghost use Rattle.std.specs.Prelude.{◌≡◌, ◌+◌, ◌-◌, ◌<◌, ◌≤◌, true, length, Some, None};
 ghost use Rattle.reorder_buffer.specs.Growing.{IsGrowing};
 ghost use Rattle.core_view.specs.Outcomes.{image_of};
-ghost use Rattle.core_view.specs.Flight.{seen_of, bytes_in, IsSound};
+ghost use Rattle.core_view.specs.Flight.{seen_of, IsSound};
 ghost use Rattle.core_view.specs.Operations.{is_store, stops_at_fetch};
 ghost use Rattle.core_view.specs.declared.entry.Entry.{Entry};
 ghost use Rattle.core_view.specs.View.{entry_at};
@@ -12,8 +12,7 @@ ghost use Rattle.core_context.specs.Ends.{IsEnd};
 ghost use Rattle.core_context.specs.Track.{finished, cut_at, completed, cut_stamp};
 
 use crate::track::Track;
-use core_view::Bytes;
-use entry_stages::{bytes_to_come, fetch_pc_after, is_mispredicted};
+use entry_stages::{fetch_pc_after, is_mispredicted};
 use flight::Flight;
 use std::alloc::Allocator;
 
@@ -72,39 +71,13 @@ impl<A: Allocator> Track<A> {
         ensures growing { IsGrowing (λ (e : Entry). e.stamp) self.new.context.flight }
         ensures bound { self.new.renamed ≤ length self.new.context.flight }
     {
-        let store = self.flight.get(place).unwrap();
-        let stamp = store.stamp;
-        match bytes_to_come(store) {
-            Some(bytes) => {
-                let bytes = *bytes;
-                self.finish_writing(place, stamp, Some(bytes))
-            }
-            None => self.finish_writing(place, stamp, None),
-        }
-    }
-
-    /// The same, with its stamp and the bytes that it writes, none where it stops.
-    // They are read ahead of what is written into the ring, after which its entry would have to be looked for again.
-    #[inline(always)]
-    fn finish_writing(&mut self, place: usize, stamp: u64, bytes: Option<Bytes>) -> Option<u64>
-        requires place { place < length self.old.context.flight }
-        requires issued { IsIssued (entry_at self.old.context place).stage }
-        requires store { is_store (entry_at self.old.context place).operation ≡ true }
-        requires sound { IsSound (image_of self.old.context.state) (seen_of self.old.context.state) self.old.context.state.pc self.old.context.flight }
-        requires stamp { stamp ≡ (entry_at self.old.context place).stamp }
-        requires bytes { bytes ≡ bytes_in (execution_of (entry_at self.old.context place).stage).outcome }
-        ensures finished { self.new ≡ finished self.old place (execution_of (entry_at self.old.context place).stage) }
-        ensures cut { result ≡ cut_stamp self.old.context place (execution_of (entry_at self.old.context place).stage) }
-        ensures growing { IsGrowing (λ (e : Entry). e.stamp) self.new.context.flight }
-        ensures bound { self.new.renamed ≤ length self.new.context.flight }
-    {
         // The stamps grow, before and after.
         let _len = self.flight.len();
-        self.flight.finish(place);
+        let conflict = self.queue.resolve_store(&mut self.flight, place);
         self.fetch_pc = fetch_pc_after(&self.flight, place, self.fetch_pc);
         let _left = self.flight.len();
         let _renamed = self.flight.renamed_count();
-        self.queue.resolve_store(stamp, bytes)
+        conflict
     }
 
     /// The entries from a stamp on are dropped. The one at a place stays.
@@ -113,9 +86,8 @@ impl<A: Allocator> Track<A> {
         requires kept { (entry_at self.old.context place).stamp < stamp }
         ensures { self.new ≡ cut_at self.old stamp }
     {
-        self.flight.cut_past(place, stamp);
+        self.queue.drop_from(&mut self.flight, place, stamp);
         (self.fetch_pc, self.goes_on) = end_of(&self.flight, self.pc);
-        self.queue.drop_from(stamp);
     }
 }
 

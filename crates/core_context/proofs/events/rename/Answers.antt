@@ -12,9 +12,6 @@ rename_oldest-requires-clause-younger g c = nodes_older c.requires.core.core c.i
 pub rename_oldest-requires-clause-fresh : goal.rename_oldest-requires-clause-fresh
 rename_oldest-requires-clause-fresh g c = first_idle c.requires.core.core c.in_ok-stamp.ensures.can.some
 
-pub rename_oldest-requires-clause-fetched : goal.rename_oldest-requires-clause-fetched
-rename_oldest-requires-clause-fetched g c = c.requires.core.core.are_fetched
-
 pub returns-clause-fetched : goal.returns-clause-fetched
 returns-clause-fetched g c = first_fetched c.requires.core.core c.in_ok-stamp.ensures.can.some
 

@@ -4,4 +4,4 @@ use Rattle.core_context.specs.Track.{Track}
 use Rattle.core_context.proofs.track.Track.fetch_pc.Goals as goal
 
 pub returns : goal.returns
-returns g c = c.self.invariant.3.pc_is ∙ ap (λ (t : Track). pc_past t.context.state.pc t.context.flight) c.self.view_is
+returns g c = c.self.invariant.1.pc_is ∙ ap (λ (t : Track). pc_past t.context.state.pc t.context.flight) c.self.view_is

@@ -13,8 +13,6 @@ use Rattle.core_view.specs.View.{no_entry, entry_at}
 use Rattle.entry_stages.specs.Mispredicted.{is_mispredicted_by}
 use Rattle.core_context.specs.Track.{Track, cut_stamp}
 use Rattle.core_context.specs.Ends.{IsEnd}
-use Rattle.entry_stages.specs.Placed.{Holds}
-use Rattle.entry_stages.proofs.Laws.{other_holds}
 use Rattle.core_context.proofs.Tracks.{set_read, cut_kept, cut_wrong_none, cut_wrong_some, writes_none}
 use Rattle.core_context.proofs.Ends.{end_finished}
 use Rattle.core_context.proofs.track.Track.finish.Given.{Over}
@@ -53,13 +51,10 @@ other g c = sym c.is_store.ensures ∙ c.if-is_store.false
 mispredicted : (g : Over) (c : After-fetch_pc_after-self-inside g) → is_mispredicted_by c.unwrap-entry.result.now (execution g c).outcome ≡ c.is_mispredicted-mispredicted.result
 mispredicted g c = sym (c.is_mispredicted-mispredicted.ensures ∙ ap (λ s. is_mispredicted_by c.unwrap-entry.result.now (execution_of s).outcome) (stage g c))
 
-held : (g : Over) (c : After-fetch_pc_after-self-inside g) → Holds c.self.inside.queue c.finish.new.self.entries
-held g c = other_holds (entries g c) c.args.place c.unwrap-entry.result.now (read g c) (execution g c) c.finish.new.self.entries (stage g c) (written g c) c.self.inside.queue (other g c) c.self.invariant.1 c.self.invariant.2
-
 end : (g : Over) (c : After-fetch_pc_after-self-inside g) → IsEnd c.self.inside.pc c.fetch_pc_after-self-inside.result c.self.inside.goes_on c.finish.new.self.entries
 end g c =
     let here = get_or_from_slice_get (entries g c) c.args.place c.unwrap-entry.result.now no_entry (read g c) in
-    end_finished c.self.inside.pc _ _ _ (entries g c) c.finish.new.self.entries c.args.place (completed_entry c.unwrap-entry.result.now (execution g c)) c.self.invariant.3 (slice_get_within (entries g c) c.args.place c.unwrap-entry.result.now (read g c)) (written g c)
+    end_finished c.self.inside.pc _ _ _ (entries g c) c.finish.new.self.entries c.args.place (completed_entry c.unwrap-entry.result.now (execution g c)) c.self.invariant.1 (slice_get_within (entries g c) c.args.place c.unwrap-entry.result.now (read g c)) (written g c)
     (ap (λ (f : Entry). f.operation) (sym here)) c.fetch_pc_after-self-inside.ensures.last c.fetch_pc_after-self-inside.ensures.before
 
 -- ---- nothing was guessed wrongly
@@ -67,7 +62,7 @@ end g c =
 pub invariant_of-self : goal.invariant_of-self
 invariant_of-self g c =
     let at = (goal.at.invariant_of-self g c).After-fetch_pc_after-self-inside in
-    (c.self.invariant.0, (held g at).loads, (held g at).stores, end g at)
+    (c.self.invariant.0, end g at)
 
 pub returns-then-not-mispredicted-clause-cut : goal.returns-then-not-mispredicted-clause-cut
 returns-then-not-mispredicted-clause-cut g c =
@@ -82,7 +77,7 @@ returns-then-not-mispredicted-clause-cut g c =
 pub invariant_of-self-in_err-next : goal.invariant_of-self-in_err-next
 invariant_of-self-in_err-next g c =
     let at = (goal.at.invariant_of-self-in_err-next g c).After-fetch_pc_after-self-inside in
-    (c.self.invariant.0, (held g at).loads, (held g at).stores, end g at)
+    (c.self.invariant.0, end g at)
 
 pub returns-in_err-next-clause-cut : goal.returns-in_err-next-clause-cut
 returns-in_err-next-clause-cut g c =
@@ -95,7 +90,7 @@ returns-in_err-next-clause-cut g c =
 pub invariant_of-self-2 : goal.invariant_of-self-2
 invariant_of-self-2 g c =
     let at = (goal.at.invariant_of-self-2 g c).After-fetch_pc_after-self-inside in
-    (c.self.invariant.0, (held g at).loads, (held g at).stores, end g at)
+    (c.self.invariant.0, end g at)
 
 pub returns-clause-cut : goal.returns-clause-cut
 returns-clause-cut g c =

@@ -7,20 +7,13 @@ use Rattle.core_view.specs.declared.entry.Entry.{Entry}
 use Rattle.core_view.specs.Operations.{is_load}
 use Rattle.core_view.specs.Queues.{loads_of, stores_of}
 use Rattle.core_view.specs.Events.{with_stage}
-use Rattle.entry_stages.proofs.Laws.{loads_issue_other, stores_issue}
 use Rattle.core_view.specs.View.{no_entry}
 use Rattle.core_context.proofs.Ends.{end_set}
 use Rattle.core_context.proofs.track.Track.issue_other.Goals as goal
 
 pub invariant_of-self : goal.invariant_of-self
 invariant_of-self g c =
-    let stage : (entry_in c.self.inside.flight.entries c.args.place).stage ≡ Queued = rw (← c.self.view_is) at c.requires.queued in
-    let other : is_load (entry_in c.self.inside.flight.entries c.args.place).operation ≡ false = rw (← c.self.view_is) at c.requires.other in
-    let within = rw (← c.self.view_is) at c.requires.place in
-    let read = slice_get-get_or c.self.inside.flight.entries c.args.place no_entry within in
     let items : c.issue_other.new.self.entries ≡ set c.self.inside.flight.entries c.args.place (with_stage (entry_in c.self.inside.flight.entries c.args.place) (Issued c.args.execution)) = ap (λ (f : Flight). f.entries) c.issue_other.ensures in (
       c.self.invariant.0,
-      c.self.invariant.1 ∙ sym (loads_issue_other c.self.inside.flight.entries c.args.place _ read c.args.execution other) ∙ sym (ap (λ (es : List Entry). loads_of es) items),
-      c.self.invariant.2 ∙ sym (stores_issue c.self.inside.flight.entries c.args.place _ read c.args.execution stage) ∙ sym (ap (λ (es : List Entry). stores_of es) items),
-      end_set c.self.inside.pc _ _ c.self.inside.flight.entries _ c.args.place _ c.self.invariant.3 items refl refl,
+      end_set c.self.inside.pc _ _ c.self.inside.flight.entries _ c.args.place _ c.self.invariant.1 items refl refl,
     )

@@ -2,20 +2,16 @@ use Rattle.std.proofs.Common.{List, ◌≡◌, true, ap, sym, ◌∙◌}
 use Rattle.std.specs.Prelude.{not, ◌&&◌}
 use Rattle.flight.specs.Flights.{Flight}
 use Rattle.core_view.specs.declared.entry.Entry.{Entry}
-use Rattle.core_view.specs.Queues.{loads_of, stores_of}
 use Rattle.core_view.specs.Operations.{stops_at_fetch}
 use Rattle.core_view.specs.Flight.{is_open}
-use Rattle.entry_stages.proofs.Laws.{loads_push, stores_push}
 use Rattle.core_context.proofs.Ends.{end_push}
 use Rattle.core_context.proofs.track.Track.push.Goals as goal
 
 pub invariant_of-self : goal.invariant_of-self
 invariant_of-self g c =
     let open_ : is_open c.self.inside.flight.entries ≡ true = rw (← c.self.view_is) at c.requires.goes_on in
-    let goes_on : (c.self.inside.goes_on && not c.args.stops) ≡ not (stops_at_fetch c.args.entry.operation) = ap (λ b. b && not c.args.stops) (c.self.invariant.3.open_is ∙ open_) ∙ ap not c.requires.stops in
+    let goes_on : (c.self.inside.goes_on && not c.args.stops) ≡ not (stops_at_fetch c.args.entry.operation) = ap (λ b. b && not c.args.stops) (c.self.invariant.1.open_is ∙ open_) ∙ ap not c.requires.stops in
     let items = ap (λ (f : Flight). f.entries) c.push.ensures in (
       c.self.invariant.0,
-      c.self.invariant.1 ∙ sym (loads_push c.self.inside.flight.entries c.args.entry c.requires.fetched) ∙ sym (ap (λ (es : List Entry). loads_of es) items),
-      c.self.invariant.2 ∙ sym (stores_push c.self.inside.flight.entries c.args.entry c.requires.fetched) ∙ sym (ap (λ (es : List Entry). stores_of es) items),
       end_push c.self.inside.pc _ _ c.self.inside.flight.entries _ c.args.entry items c.requires.followed goes_on,
     )

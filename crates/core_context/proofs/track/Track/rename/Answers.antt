@@ -1,15 +1,8 @@
-use Rattle.std.proofs.Common.{rules, ◌≡◌, ap, refl, slice_get, Some}
+use Rattle.std.proofs.Common.{ap, refl}
 use Rattle.flight.specs.Flights.{Flight}
-use Rattle.core_context.proofs.Ends.{can_place_in, renamed_in}
+use Rattle.core_context.proofs.Ends.{end_set}
 use Rattle.core_context.proofs.track.Track.rename.Goals as goal
-
-pub place_access-requires : goal.place_access-requires
-place_access-requires g c =
-    let read : slice_get c.self.inside.flight.entries c.self.inside.flight.renamed ≡ Some c.unwrap.result.now = search rules in
-    can_place_in _ c.args.self.now c.self.view_is c.requires.fetched c.unwrap.result.now read c.self.inside.queue c.self.invariant.1 c.self.invariant.2 c.len-len.ensures.growing refl refl c.requires.load c.requires.store
 
 pub invariant_of-self : goal.invariant_of-self
 invariant_of-self g c =
-    let read : slice_get c.self.inside.flight.entries c.self.inside.flight.renamed ≡ Some c.unwrap.result.now = search rules in
-    let kept = renamed_in _ c.args.self.now c.self.view_is c.requires.fetched c.unwrap.result.now read c.self.inside.queue c.self.invariant.1 c.self.invariant.2 c.args.cycle c.self.inside.pc _ _ _ _ c.self.invariant.3 (ap (λ (f : Flight). f.entries) c.rename.ensures) c.place_access.ensures.holds in
-    (c.self.invariant.0, kept.0, kept.1, kept.2)
+    (c.self.invariant.0, end_set c.self.inside.pc _ _ c.self.inside.flight.entries _ c.self.inside.flight.renamed _ c.self.invariant.1 (ap (λ (f : Flight). f.entries) c.rename.ensures) refl refl)

@@ -1,0 +1,222 @@
+//! A flight with its queues of loads and stores, whose calls are told stamps.
+ghost use Rattle.std.specs.Prelude.{◌≡◌, ◌<◌, length, All, IsTrue};
+ghost use Rattle.flight.specs.Flights.{entry_in};
+
+use core_view::{Access, Bytes, Decoded, Entry, Execution, Operation, Outcome, Span, Stage, Step};
+use flight::Flight;
+use hart_step::Stop;
+use load_store_queue::{LoadAnswer, LoadStoreQueue, QueueFault};
+use paged_memory::{Memory, Width};
+use rv64_decode::decode;
+use std::alloc::Global;
+use std::marker::Model;
+use std::process::Abort;
+
+/// LD a0, 0(a1)
+pub const LOAD: u32 = 0x0005_B503;
+
+/// SD a0, 0(a1)
+pub const STORE: u32 = 0x00A5_B023;
+
+/// ADDI x0, x0, 0
+pub const NOP: u32 = 0x0000_0013;
+
+/// How many entries there may be.
+const ROOM: usize = 8;
+
+/// A context's entries, and the queues of its loads and stores.
+#[derive(Drop)]
+pub struct Accesses {
+    flight: Flight,
+    queue: LoadStoreQueue,
+}
+
+impl Model for Accesses {
+    ghost use Rattle.std.specs.Prelude.{◌≡◌};
+    ghost use Rattle.flight.specs.Flights.{Flight};
+
+    ghost Value = { Flight };
+
+    ghost view = { λ a. a.flight };
+
+    ghost invariant = { λ a. a.flight.capacity ≡ 8 };
+}
+
+/// What stands at a word.
+fn decoded(word: u32) -> Decoded {
+    Decoded::new(match decode(word) {
+        Some(insn) => Operation::Performs { insn },
+        None => Operation::Stops { why: Stop::Illegal },
+    })
+}
+
+/// An execution that makes an access, or stops where it makes none.
+fn execution_of(access: Option<Access>, why: Stop) -> Execution {
+    let outcome = match access {
+        Some(access) => Outcome::Goes {
+            step: Step {
+                result: 0,
+                next: 4,
+                access,
+            },
+        },
+        None => Outcome::Stops { why },
+    };
+    Execution {
+        due: 1,
+        miss: false,
+        outcome,
+    }
+}
+
+impl Accesses {
+    /// No entry, and so many places for loads and for stores.
+    pub fn new(rt: &impl Abort, alloc: Global, load_places: usize, store_places: usize) -> Self {
+        let Ok(flight) = Flight::new(alloc, ROOM) else {
+            panic!(rt; "out of memory");
+        };
+        Accesses {
+            flight,
+            queue: LoadStoreQueue::new(load_places, store_places),
+        }
+    }
+
+    /// What stands at a word is fetched, with a stamp above the others'.
+    pub fn fetch(&mut self, rt: &impl Abort, stamp: u64, word: u32) {
+        assert!(rt; self.flight.len() < ROOM && self.is_next(stamp));
+        let operation = decoded(word);
+        let entry = Entry::new(stamp, 0, 0, operation, 4);
+        self.flight.push(entry, operation.is_guessed());
+    }
+
+    /// The oldest fetched entry is renamed: a load or a store takes its place.
+    pub fn rename(&mut self, rt: &impl Abort) -> Result<(), QueueFault> {
+        let place = self.flight.renamed_count();
+        assert!(rt; place < 64);
+        let operation = self.entry(rt, place).operation;
+        if operation.is_load() {
+            return self.queue.place_load(&mut self.flight);
+        }
+        if operation.is_store() {
+            return self.queue.place_store(&mut self.flight);
+        }
+        self.flight.rename(1);
+        Ok(())
+    }
+
+    /// What stands at a word is fetched and renamed.
+    pub fn put(&mut self, rt: &impl Abort, stamp: u64, word: u32) {
+        self.fetch(rt, stamp, word);
+        assert_eq!(rt; self.rename(rt), Ok(()), "{stamp}");
+    }
+
+    /// A load issues, and reads a span or stops.
+    pub fn issue_load(&mut self, rt: &impl Abort, stamp: u64, span: Option<Span>) {
+        let place = self.place(rt, stamp);
+        let load = self.entry(rt, place);
+        assert!(rt; load.operation.is_load());
+        assert!(rt; matches!(load.stage, Stage::Queued));
+        let access = span.map(|span| Access::Reads { span });
+        let execution = execution_of(access, Stop::LoadAccess);
+        self.queue.issue_load(&mut self.flight, place, execution);
+    }
+
+    /// A store issues and completes, with its bytes or a stop. Gives the load that conflicts.
+    pub fn complete_store(
+        &mut self,
+        rt: &impl Abort,
+        stamp: u64,
+        bytes: Option<Bytes>,
+    ) -> Option<u64> {
+        let place = self.place(rt, stamp);
+        let store = self.entry(rt, place);
+        assert!(rt; !store.operation.is_load());
+        assert!(rt; matches!(store.stage, Stage::Queued));
+        let access = bytes.map(|bytes| Access::Writes { bytes });
+        let execution = execution_of(access, Stop::StoreAccess);
+        self.flight.issue_other(place, execution);
+        let store = self.entry(rt, place);
+        assert!(rt; store.operation.is_store());
+        assert!(rt; matches!(store.stage, Stage::Issued { .. }));
+        self.queue.resolve_store(&mut self.flight, place)
+    }
+
+    /// What the entry with a stamp gets that loads from an address, and the same where memory's number is lent.
+    pub fn load(
+        &self,
+        rt: &impl Abort,
+        memory: &Memory,
+        stamp: u64,
+        address: u64,
+        width: Width,
+    ) -> LoadAnswer {
+        let place = self.place(rt, stamp);
+        let flight = &self.flight;
+        let answer = self.queue.ask_load(flight, memory, place, address, width);
+        if let Ok(number) = memory.load(address, width) {
+            let size = width.bytes();
+            let span = Span { address, size };
+            let same = self.queue.forward(flight, place, span, number);
+            assert_eq!(rt; same, answer, "load {stamp} of {address}");
+        }
+        answer
+    }
+
+    /// The oldest entry, which has a stamp, retires.
+    pub fn retire(&mut self, rt: &impl Abort, stamp: u64) {
+        assert!(rt; self.flight.renamed_count() > 0);
+        assert_eq!(rt; self.entry(rt, 0).stamp, stamp);
+        self.queue.retire(&mut self.flight);
+    }
+
+    /// The entries from a stamp on are dropped. The oldest stays.
+    pub fn drop_from(&mut self, rt: &impl Abort, stamp: u64) {
+        assert!(rt; self.entry(rt, 0).stamp < stamp);
+        self.queue.drop_from(&mut self.flight, 0, stamp);
+    }
+
+    /// Whether there is a place for one more of what stands at a word.
+    pub fn has_place(&self, word: u32) -> bool {
+        self.queue.has_place(&self.flight, &decoded(word))
+    }
+
+    /// Whether there is no store.
+    pub fn has_no_store(&self) -> bool {
+        self.queue.has_no_store(&self.flight)
+    }
+
+    /// Whether a stamp is above those of the entries.
+    fn is_next(&self, stamp: u64) -> bool
+        ensures { IsTrue result → All (λ e. e.stamp < stamp) self.now.entries }
+    {
+        // The stamps of the entries grow.
+        let _len = self.flight.len();
+        match self.flight.last() {
+            None => true,
+            Some(last) => last.stamp < stamp,
+        }
+    }
+
+    /// The entry at a place.
+    fn entry(&self, rt: &impl Abort, place: usize) -> Entry
+        ensures within { place < length self.now.entries }
+        ensures entry { result ≡ entry_in self.now.entries place }
+    {
+        let Some(entry) = self.flight.get(place) else {
+            panic!(rt; "no entry at {place}");
+        };
+        *entry
+    }
+
+    /// The place of the renamed entry with a stamp.
+    fn place(&self, rt: &impl Abort, stamp: u64) -> usize
+        ensures { result < self.now.renamed }
+    {
+        for place in 0..self.flight.renamed_count() {
+            if self.entry(rt, place).stamp == stamp {
+                return place;
+            }
+        }
+        panic!(rt; "no entry {stamp}");
+    }
+}
