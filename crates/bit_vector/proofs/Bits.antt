@@ -1,14 +1,13 @@
 -- Bits of words.
-use mir.Val.{bool_byte}
-use Rattle.std.proofs.Common.{◌≡◌, ◌≢◌, ℕ, suc, ◌+◌, ◌-◌, ◌*◌, ◌/◌, ◌%◌, ◌^◌, ◌<◌, ◌≤◌, Bool, true, max, min, false, not, nat_eq, bit_and, bit_or, sym, ◌∙◌, ap, arith, inl, inr, ◌⊎◌}
-use Rattle.std.specs.Int.{bit_at, w64, rotate_right, leading_zeros, trailing_zeros, bit_not}
+use Rattle.std.proofs.Common.{◌≡◌, ℕ, suc, ◌+◌, ◌-◌, ◌*◌, ◌/◌, ◌%◌, ◌^◌, ◌<◌, ◌≤◌, true, max, min, false, not, nat_eq, bit_and, bit_or, sym, ◌∙◌, ap, arith, inl, inr, ◌⊎◌}
+use Rattle.std.specs.Int.{bit_at, w64, rotate_right, leading_zeros, trailing_zeros}
 use Rattle.std.specs.Int.Bits.{bit_xor}
 use Rattle.std.specs.Prelude.{nat_lt}
 use Rattle.std.proofs.Math.Nat.{div-eq_of_lt, lt-div-mul-add}
 use Rattle.std.proofs.lemmas.Bool.{ltb-true, ltb-false, le-ltb}
 use Rattle.std.proofs.lemmas.Bool.Decides.{nat_tests}
-use Rattle.std.proofs.lemmas.Nat.{pow_below, shr-shr, shr_split, shr_le, pow_pos, pow-add, and_mask, mod_low, leading_top}
-use Rattle.std.proofs.lemmas.Nat.Bits.{and_pow, bit_at_and, bit_at_not, bit_at_or, bit_at_xor, bit_at-lt, bit_at_above, bit_at-zero, bit_at-suc, bit_at_lowest, bit_at_ones, bit_at_clear_same, bit_at_clear_other, bit_at_cat_low, bit_at_cat_high, bit_at-trailing_zeros, same_from_bits, same_from_bits_below}
+use Rattle.std.proofs.lemmas.Nat.{pow_below, shr-shr, shr_split, shr_le, pow_pos, pow-add, leading_top}
+use Rattle.std.proofs.lemmas.Nat.Bits.{and_pow, bit_at_and, bit_at_not, bit_at_or, bit_at_xor, bit_at-lt, bit_at_above, bit_at-zero, bit_at-suc, bit_at_lowest, bit_at_ones, bit_at_cat_low, bit_at_cat_high, bit_at-trailing_zeros, same_from_bits, same_from_bits_below}
 
 pub bit-kept : (a b j : ℕ) → bit_at a j ≡ 1 → bit_at (bit_or a b) j ≡ 1
 bit-kept a b j h = let m : bit_at (bit_or a b) j ≡ max (bit_at a j) (bit_at b j) = bit_at_or a b j in let lt : bit_at b j < 2 = bit_at-lt b j in omega arith

@@ -6,8 +6,8 @@ mod slots;
 mod turns;
 
 pub use places::{
-    assign, both, count, first, has_from, has_more, last, lowest, next, push, up_to_first, without_first,
-    without_first_of_each,
+    assign, both, count, first, has_from, has_more, last, lowest, next, push, up_to_first,
+    without_first, without_first_of_each,
 };
 pub use slots::{clear_slot, set_slot, turn, turn_eight};
 pub use turns::after_first;

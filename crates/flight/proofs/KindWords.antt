@@ -6,11 +6,10 @@ use Rattle.std.specs.Simd.Lanes.{mask_l}
 use Rattle.std.proofs.lemmas.Bool.{eq-eqb, ne_eqb}
 use Rattle.core_view.specs.declared.entry.Entry.{Entry}
 use Rattle.core_view.specs.Kinds.{kind_index, kind_of}
-use Rattle.core_view.specs.Operations.{is_load}
 use Rattle.core_view.proofs.KindTests.{load-kind}
-use Rattle.core_view.specs.Flight.{is_queued, is_done, is_open_guess}
+use Rattle.core_view.specs.Flight.{is_queued}
 use Rattle.flight.specs.declared.marks.Marks.{Marks}
-use Rattle.flight.specs.Marked.{word_of, kinds_of, marks_of, is_of_kind, is_waiting, is_waiting_load, has_completed}
+use Rattle.flight.specs.Marked.{word_of, kinds_of, marks_of, is_of_kind, is_waiting, is_waiting_load}
 use Rattle.flight.specs.Flights.{entry_in}
 use Rattle.flight.proofs.Words.{word-push, word-unset, word-same, word-take, word-both, word-without}
 

@@ -1,6 +1,6 @@
 -- Which entries have a slot among the loads or the stores: the renamed ones of one kind.
 use Rattle.std.proofs.Common.{◌≡◌, ◌↔◌, ℕ, Bool, true, false, ◌&&◌, not, List, [], length, take, count_by, Some, None, is_some, refl, sym, ◌∙◌, ap, arith}
-use Rattle.std.specs.Prelude.{◌==◌, if◌then◌else◌, nat_lt}
+use Rattle.std.specs.Prelude.{if◌then◌else◌, nat_lt}
 use Rattle.std.specs.List.{list_any}
 use Rattle.std.proofs.lemmas.Bool.{not-true, not_from_false, ltb-false, le-ltb}
 use Rattle.std.proofs.lemmas.List.{nil_from_length}

@@ -39,11 +39,7 @@ pub(crate) fn newest_sharing<A: Allocator>(
 /// The stamp of the oldest load behind a place that has issued without a stop and shares a byte with these. No load
 /// that is younger than it is looked at.
 #[inline(always)]
-pub(crate) fn conflict<A: Allocator>(
-    flight: &Flight<A>,
-    place: usize,
-    bytes: Bytes,
-) -> Option<u64>
+pub(crate) fn conflict<A: Allocator>(flight: &Flight<A>, place: usize, bytes: Bytes) -> Option<u64>
     requires { place < flight.now.renamed }
     ensures { result ≡ conflict_in (loads_of flight.now.entries) (entry_in flight.now.entries place).stamp (Some bytes) }
 {

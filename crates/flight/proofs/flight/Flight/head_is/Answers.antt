@@ -1,4 +1,4 @@
-use Rattle.std.proofs.Common.{◌≡◌, ◌<◌, take, ap, ◌∙◌}
+use Rattle.std.proofs.Common.{◌<◌, take, ap, ◌∙◌}
 use Rattle.core_view.specs.Kinds.{kind_index}
 use Rattle.flight.specs.Flights.{Flight, entry_in}
 use Rattle.flight.specs.Marked.{is_of_kind}

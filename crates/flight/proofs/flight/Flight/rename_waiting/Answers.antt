@@ -19,7 +19,8 @@ invariant_of-self g c =
     let same = ap (λ (e : Entry). is_guessed e.operation) c.waiting-entry.ensures ∙ ap (λ (e : Entry). is_guessed e.operation) c.at.ensures in
     let made = ap (λ (b : Buffer Entry). b.items) c.set_in.ensures in
     let some : c.self.inside.renamed < length c.self.inside.ring.items = rw (← c.self.view_is) at c.requires.some in
-    let few : c.self.inside.renamed < 64 = rw (← c.self.view_is) at c.requires.few in
-    (flight-renamed _ _ c.waiting-entry.result _ _ _ _ _ c.self.invariant.0 some few (ap is_renamed stage) (λ x is. idle x (sym stage ∙ is)) made
-        (λ xs was long room. c.push_queued.ensures xs was long stage),
-      ap (λ n. c.self.inside.guessed - n) (c.from-guessed.ensures ∙ ap bool_byte c.is_guessed.ensures) ∙ guesses-renamed _ _ _ _ c.waiting-entry.result c.self.invariant.1 some same made)
+    let few : c.self.inside.renamed < 64 = rw (← c.self.view_is) at c.requires.few in (
+      flight-renamed _ _ c.waiting-entry.result _ _ _ _ _ c.self.invariant.0 some few (ap is_renamed stage) (λ x is. idle x (sym stage ∙ is)) made
+          (λ xs was long room. c.push_queued.ensures xs was long stage),
+      ap (λ n. c.self.inside.guessed - n) (c.from-guessed.ensures ∙ ap bool_byte c.is_guessed.ensures) ∙ guesses-renamed _ _ _ _ c.waiting-entry.result c.self.invariant.1 some same made,
+    )
