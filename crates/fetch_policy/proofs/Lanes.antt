@@ -1,5 +1,5 @@
 -- Eight ranks as the lanes of a vector.
-use Rattle.std.proofs.Common.{◌≡◌, ℕ, zero, suc, ◌+◌, ◌*◌, ◌-◌, ◌%◌, ◌<◌, ◌≤◌, inl, inr, true, false, cond, nat_eq, nat_lt, List, [], ◌∷◌, ◌++◌, map, length, get_or, bit_and, refl, sym, ap, subst, ◌∙◌, arith, w16}
+use Rattle.std.proofs.Common.{◌≡◌, ℕ, zero, suc, ◌+◌, ◌*◌, ◌-◌, ◌%◌, ◌<◌, ◌≤◌, inl, inr, true, false, cond, nat_eq, nat_lt, nat_le, List, [], ◌∷◌, ◌++◌, map, length, get_or, bit_and, refl, sym, ap, subst, ◌∙◌, arith, w16}
 use Rattle.std.specs.Prelude.{set}
 use Rattle.std.specs.Simd.Lanes.{zip2, sel_l, top}
 use Rattle.std.proofs.lemmas.Simd.{get_or-zip2, get_or-replicate, get_or-sel_l, tops_compared, length-zip2}
@@ -117,3 +117,24 @@ without_one xs n eight lt = subst (λ ys. sel_l (top 15 (cond (nat_eq 0 n) 65535
     here (suc (suc (suc (suc (suc (suc zero)))))) lt = refl
     here (suc (suc (suc (suc (suc (suc (suc zero))))))) lt = refl
     here (suc (suc (suc (suc (suc (suc (suc (suc n)))))))) lt = absurd (omega (arith, lt))
+
+-- ---- without those of full front lists
+
+-- the count of a context by whether its front list is full
+count_left : (xs fs : List ℕ) (c : ℕ) → length xs ≡ 8 → length fs ≡ 8 → c < 8
+    → key_in (sel_l (map (top 15) (zip2 (λ a b. cond (nat_le a b) 65535 0) (16 ∷ 16 ∷ 16 ∷ 16 ∷ 16 ∷ 16 ∷ 16 ∷ 16 ∷ []) fs)) (8191 ∷ 8191 ∷ 8191 ∷ 8191 ∷ 8191 ∷ 8191 ∷ 8191 ∷ 8191 ∷ []) xs) c ≡ cond (nat_le 16 (key_in fs c)) 8191 (key_in xs c)
+count_left xs fs c hx hf lt =
+    let sixteen : List ℕ = 16 ∷ 16 ∷ 16 ∷ 16 ∷ 16 ∷ 16 ∷ 16 ∷ 16 ∷ [] in
+    let none : List ℕ = 8191 ∷ 8191 ∷ 8191 ∷ 8191 ∷ 8191 ∷ 8191 ∷ 8191 ∷ 8191 ∷ [] in
+    let long : length (zip2 nat_le sixteen fs) ≡ 8 = length-zip2 nat_le sixteen fs (sym hf) in
+    ap (λ ms. key_in (sel_l ms none xs) c) (tops_compared w16 nat_le sixteen fs) ∙ get_or-sel_l (zip2 nat_le sixteen fs) none xs c 0 (omega (arith, long, lt)) lt (omega (arith, hx, lt))
+    ∙ ap (λ t. cond t (get_or none c 0) (key_in xs c)) (get_or-zip2 nat_le sixteen fs c 0 0 false lt (omega (arith, hf, lt)))
+    ∙ ap (λ k. cond (nat_le k (key_in fs c)) (get_or none c 0) (key_in xs c)) (get_or-replicate 8 c 16 0 lt)
+    ∙ ap (λ k. cond (nat_le 16 (key_in fs c)) k (key_in xs c)) (get_or-replicate 8 c 8191 0 lt)
+
+module _ (xs fs : List ℕ) (c : ℕ) (hx : length xs ≡ 8) (hf : length fs ≡ 8) (lt : c < 8) where
+  pub full_left_out : 16 ≤ key_in fs c → key_in (sel_l (map (top 15) (zip2 (λ a b. cond (nat_le a b) 65535 0) (16 ∷ 16 ∷ 16 ∷ 16 ∷ 16 ∷ 16 ∷ 16 ∷ 16 ∷ []) fs)) (8191 ∷ 8191 ∷ 8191 ∷ 8191 ∷ 8191 ∷ 8191 ∷ 8191 ∷ 8191 ∷ []) xs) c ≡ 8191
+  full_left_out full = let t : nat_le 16 (key_in fs c) ≡ true = grind (arith, nat_tests, full) in count_left xs fs c hx hf lt ∙ ap (λ b. cond b 8191 (key_in xs c)) t
+
+  pub others_left : key_in fs c < 16 → key_in (sel_l (map (top 15) (zip2 (λ a b. cond (nat_le a b) 65535 0) (16 ∷ 16 ∷ 16 ∷ 16 ∷ 16 ∷ 16 ∷ 16 ∷ 16 ∷ []) fs)) (8191 ∷ 8191 ∷ 8191 ∷ 8191 ∷ 8191 ∷ 8191 ∷ 8191 ∷ 8191 ∷ []) xs) c ≡ key_in xs c
+  others_left room = let t : nat_le 16 (key_in fs c) ≡ false = grind (arith, nat_tests, room) in count_left xs fs c hx hf lt ∙ ap (λ b. cond b 8191 (key_in xs c)) t

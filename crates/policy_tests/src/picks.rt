@@ -6,7 +6,7 @@ ghost use Rattle.fetch_policy.specs.Least.{AreRanks};
 use core_profile::FetchPolicy;
 use fetch_policy::{
     Brcount, FetchContext, FetchView, Icount, Iqposn, Misscount, NO_COUNT, NO_KEY, NamedPick, Pick,
-    RoundRobin, choose, first_by_rank, ranks, without,
+    RoundRobin, choose, first_by_rank, ranks, without, without_full,
 };
 use join_law::{Ctx, Eight};
 use std::simd::prelude::*;
@@ -120,6 +120,15 @@ fn the_least_key_goes_first_and_of_equal_ones_the_earlier_turn(rt: HostRuntime) 
             first(&[none; 8], 0)
         ],
         [1, 2, 8]
+    );
+}
+
+#[test]
+fn contexts_with_sixteen_fetched_entries_are_left_out(rt: HostRuntime) {
+    let fetched = [0, 15, 16, 17, 80, 15, 1, 16];
+    assert_eq!(rt;
+        without_full(&[3, 0, 160, 7, 12, 15, 16, NO_COUNT], &fetched),
+        [3, 0, 8191, 8191, 8191, 15, 16, 8191]
     );
 }
 
