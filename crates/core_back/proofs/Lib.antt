@@ -5,7 +5,6 @@ pub mod Machines
 pub mod Selections
 pub mod Chosen
 pub mod FirstMachine
-pub mod Gathered
 pub mod AlikeMachines
 pub mod CompletedByPlace
 pub mod ContextByContext

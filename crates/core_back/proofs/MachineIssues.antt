@@ -1,5 +1,5 @@
 -- A selection, and the issue of the first entry that was selected, in the machine.
-use Rattle.std.proofs.Common.{◌≡◌, ◌≢◌, ℕ, suc, ◌+◌, ◌<◌, Bool, true, false, List, [], ◌∷◌, length, get_or, drop, map, Option, Some, refl, sym, ap, subst, ◌∙◌, arith, inl, inr}
+use Rattle.std.proofs.Common.{◌≡◌, ◌≢◌, ℕ, suc, ◌+◌, ◌<◌, Bool, true, false, List, [], ◌∷◌, length, get_or, drop, map, Option, Some, None, refl, sym, ap, subst, ◌∙◌, arith, inl, inr}
 use Rattle.std.specs.Prelude.{◌||◌, ◌&&◌, ◌==◌, not, set, All, AllPairs, IfSome}
 use Rattle.std.proofs.lemmas.List.Elements.{All-filter}
 use Rattle.std.proofs.lemmas.Bool.{cases_eq, cases_lt, lt-ltb, or_parts, and_parts, eqb-false, ne_eqb, not-true}
@@ -15,9 +15,9 @@ use Rattle.core_view.specs.Outcomes.{image_of, outcome_in}
 use Rattle.core_view.specs.declared.entry.Execution.{Execution}
 use Rattle.core_view.specs.declared.entry.Stage.TheVariants.{Queued}
 use Rattle.core_back.specs.declared.machine.Machine.TheInside.{Inside}
-use Rattle.data_flow.specs.Flow.{Flow, lane, queued, waits_in, sources_at, released}
+use Rattle.data_flow.specs.Flow.{Flow, lane, node_at, queued, waits_in, waits_to_load, sources_at, released}
 use Rattle.core_context.specs.Track.{Track, issued}
-use Rattle.core_context.specs.Issuable.{may_issue_at, IsMarked, AreLetGo, AreHeld, HoldsNone, IsClear, IsIssuable}
+use Rattle.core_context.specs.Issuable.{may_issue_at, IsMarked, AreLetGo, AreHeld, IsClear, IsIssuable}
 use Rattle.data_tags.specs.declared.delay.Kind.{Kind}
 use Rattle.data_tags.specs.declared.delay.Lag.{Lag}
 use Rattle.lawful_cycle.specs.Delays.{kind_of, address_in, IsLagOf}
@@ -27,7 +27,7 @@ use Rattle.core_context.specs.Steps.{IsRemarked}
 use Rattle.core_context.specs.Cores.{is_selected, IsCore}
 use Rattle.core_back.specs.Machine.{Machine, context_at, with_context, no_track}
 use Rattle.core_back.specs.Shown.{machine_of, IsMachine, AreApart, IsSuppliedIn}
-use Rattle.core_context.proofs.Laws.{remarked_twice, remarked_lane, held_kept, issued_clear, released_remarked, released_all, let_go_marked, core_answered, core_sources, issue_core, issue_other, eight-remarked, node_count}
+use Rattle.core_context.proofs.Laws.{remarked_twice, remarked_lane, held_kept, issued_clear, released_remarked, released_all, let_go_marked, core_answered, core_sources, issue_core, issue_other, eight-remarked, node_count, none_ready_held}
 use Rattle.core_back.proofs.Machines.{At, at_context, idle_names, room_after}
 use Rattle.core_back.proofs.Selections.{first_apart, rest_apart, ready_place, name_selected, remarked_core, select_core, select_waiters, select_apart, select_supplied, select_free, select_clear, select_idle}
 use Rattle.core_back.proofs.Chosen.{is_chosen}
@@ -262,11 +262,12 @@ module _ {A : Type 0} where
     pub rest : (c : ℕ) → has left c ≡ true → (k : ℕ) → IsMarked h.flow c k false
     pub none : h.holds ≡ false → AreLetGo h.flow
 
-  -- all are let go first: those of a context of which none has to wait are then held as they have to be
-  pub held_first : (m h : Inside A) (left : ℕ) → IsMachine m → h.flow ≡ record m.flow { waiters = map released m.flow.waiters }
-      → ((c : ℕ) → has left c ≡ true → c < 8) → ((c : ℕ) → c < 8 → has left c ≡ false → HoldsNone (get_or m.tracks.items c no_track))
+  -- all are let go first: those of a context without a ready one are then held as they have to be
+  pub held_first : (m h : Inside A) (now : Machine) (left : ℕ) → machine_of m ≡ now → IsMachine m → now.names ≡ [] → h.flow ≡ record m.flow { waiters = map released m.flow.waiters }
+      → ((c : ℕ) → has left c ≡ true → c < 8)
+      → ((c place : ℕ) → has left c ≡ false → place < length (lane h.flow c).nodes → waits_to_load h.flow c (node_at (lane h.flow c) place).operands.stamp ≡ true → sources_at (lane h.flow c) place ≡ None)
       → h.origins ≡ m.origins → h.tracks ≡ m.tracks → h.cycle ≡ m.cycle → h.stamp ≡ m.stamp → h.fetch_room ≡ m.fetch_room → h.profile ≡ m.profile → IsHeldBut m h left
-  held_first m h left ok is known none origins tracks cycle stamp room profile =
+  held_first m h now left shows ok idle is known lacking origins tracks cycle stamp room profile =
       let free : AreLetGo h.flow = released_all m.flow h.flow is in
       record {
         origins = origins;
@@ -277,7 +278,9 @@ module _ {A : Type 0} where
         room = room;
         profile = profile;
         known = known;
-        held = λ c lt clear. none c lt clear h.flow c (λ i under. core_answered (ok.cores c lt) i (omega (arith, under))) (let_go_marked h.flow free c);
+        held = λ c lt clear.
+            let core = subst (λ names. IsCore (start (arc_value m.origins.c0) c) m.stamp m.profile.reorder_buffer m.flow names c (get_or m.tracks.items c no_track)) (idle_names m now shows idle) (ok.cores c lt) in
+            none_ready_held core h.flow is (λ place. lacking c place clear);
         rest = λ c set k. let_go_marked h.flow free c k;
         none = λ unheld. free;
       }

@@ -160,7 +160,7 @@ select_idle {names = names} f g s i d lt =
 -- ---- names are apart
 
 abbrev pub no_waiting : Waiting
-no_waiting = record { stamp = 0; context = 0; guessed = false; speculative = false; held = false; waits = [] }
+no_waiting = record { stamp = 0; context = 0; guessed = false; load = false; speculative = false; held = false; waits = [] }
 
 apart_names : (e x : Waiting) → AreDistinct e x → AreApart (name_of e) (name_of x)
 apart_names e x h = rw (eqb-flip x.context e.context, eqb-flip x.stamp e.stamp) h
@@ -175,7 +175,7 @@ select_apart s = subst (AllPairs AreApart) (sym s.names) (λ i j d lt within.
 -- ---- names have the values of their sources
 
 abbrev pub no_waiter : Waiter
-no_waiter = record { stamp = 0; context = 0; guessed = false; speculative = false; held = false }
+no_waiter = record { stamp = 0; context = 0; guessed = false; load = false; speculative = false; held = false }
 
 none_waited : (b : Bool) → waits_of b ≡ [] → b ≡ true
 none_waited true h = refl

@@ -12,7 +12,6 @@ ghost use Rattle.origin_set.specs.Start.{start};
 ghost use Rattle.core_back.specs.Machine.{IsAlike, context_at, in_flight, with_context, with_cycle, no_track, IsNextOf};
 ghost use Rattle.flight.specs.Flights.{execution_of, IsIssued as IsIssuedStage, is_due, NoneFrom, IsNext};
 ghost use Rattle.core_context.specs.Heads.{IsGoing, first_done, step_on};
-ghost use Rattle.core_context.specs.Issuable.{HoldsNone};
 ghost use Rattle.core_back.specs.Selected.{IsChosen};
 ghost use Rattle.core_back.specs.Issued.{IsIssued};
 ghost use Rattle.core_back.specs.Fetched.{IsRenamed, IsRenamedRun, IsPickTurn};
@@ -328,7 +327,8 @@ impl<A: Allocator> Machine<A> {
     {
         events::release(&mut self.flow, self.holds);
         self.holds = false;
-        let mut left = holding(self.tracks.as_slice());
+        // Only a ready load may have to wait.
+        let mut left = self.flow.contexts_with_ready_load();
         while left != 0 {
             let context = first_context(left);
             let track = &self.tracks[context.index()];
@@ -580,22 +580,6 @@ impl<A: Allocator> Machine<A> {
         self.cycle += 1;
         self.fetch_room = 8;
     }
-}
-
-/// A word with a bit for each of eight contexts a load of which may have to wait for an older store.
-#[inline(always)]
-fn holding<A: Allocator>(tracks: &[Track<A>]) -> u64
-    requires { length tracks.now ≡ 8 }
-    ensures known { (c : ℕ) → has result c ≡ true → c < 8 }
-    ensures none { (c : ℕ) → c < 8 → has result c ≡ false → HoldsNone (slice_index_or tracks.now c no_track) }
-{
-    // Gathered without a jump, as none could be guessed.
-    let mut word = 0;
-    for context in Ctx::all() {
-        let may_hold = events::may_hold(&tracks[context.index()]);
-        word = word_mask::assigned(word, context.index(), may_hold);
-    }
-    word
 }
 
 /// The first context of a word.

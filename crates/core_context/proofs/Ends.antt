@@ -1,21 +1,18 @@
 -- The end of a flight, as it is kept beside it, event by event.
-use Rattle.std.proofs.Common.{◌≡◌, ℕ, zero, suc, ◌+◌, ◌-◌, ◌<◌, Bool, true, false, List, [], ◌∷◌, ◌++◌, length, get_or, drop, slice_get, Some, None, refl, sym, ap, subst, ◌∙◌, arith, inl, inr, ◌⊎◌}
+use Rattle.std.proofs.Common.{◌≡◌, ℕ, zero, suc, ◌+◌, ◌-◌, ◌<◌, Bool, true, false, List, [], ◌∷◌, ◌++◌, length, get_or, drop, Some, None, refl, sym, ap, ◌∙◌, arith, inl, inr, ◌⊎◌}
 use Rattle.std.specs.Prelude.{set, not}
 use Rattle.std.proofs.lemmas.List.{length-set}
 use Rattle.circular_buffer.specs.Buffer.{last_item}
-use Rattle.reorder_buffer.specs.Growing.{IsGrowing as IsRising}
 use Rattle.core_view.specs.declared.entry.Entry.{Entry}
 use Rattle.core_view.specs.declared.outcome.Step.{Step}
 use Rattle.core_view.specs.declared.outcome.Outcome.{Outcome}
 use Rattle.core_view.specs.declared.outcome.Outcome.TheVariants.{Goes, Stops}
-use Rattle.core_view.specs.Operations.{is_load, is_store, stops_at_fetch}
-use Rattle.core_view.specs.Events.{followed_by, with_stage, renamed_stage}
+use Rattle.core_view.specs.Operations.{stops_at_fetch}
+use Rattle.core_view.specs.Events.{followed_by}
 use Rattle.core_view.specs.Flight.{pc_past, is_open}
-use Rattle.core_view.specs.Queues.{loads_of, stores_of}
-use Rattle.core_view.specs.View.{entry_at, no_entry}
+use Rattle.core_view.specs.View.{no_entry}
 use Rattle.core_context.specs.Ends.{IsEnd}
-use Rattle.core_context.specs.Track.{Track}
-use Rattle.core_context.proofs.Tracks.{set_read, pc_last, pc_some, open_some, none_last}
+use Rattle.core_context.proofs.Tracks.{pc_last, pc_some, open_some, none_last}
 
 -- ---- another entry at a place
 

@@ -1,7 +1,7 @@
 -- Loads that are held in the issue queue until they are clear.
 use Rattle.std.proofs.Common.{◌≡◌, ◌≢◌, ℕ, zero, suc, ◌+◌, ◌<◌, ◌≤◌, Bool, true, false, not, List, [], ◌∷◌, length, get_or, take, map, Option, Some, None, refl, sym, ap, subst, ◌∙◌, arith, inl, inr}
 use Rattle.std.specs.Prelude.{All, ◌||◌, ◌&&◌, ◌==◌, set, if◌then◌else◌}
-use Rattle.std.proofs.lemmas.Bool.{and_parts, or_parts, eqb-true, cases_lt, true≢false}
+use Rattle.std.proofs.lemmas.Bool.{and_parts, or_parts, eqb-true, cases_lt}
 use Rattle.std.proofs.lemmas.List.Elements.{All-map, All-head, All-tail}
 use Rattle.hart_step.specs.declared.effect.Effect.{Effect}
 use Rattle.hart_step.specs.declared.effect.Effect.TheVariants as effect
@@ -14,7 +14,6 @@ use Rattle.core_view.specs.declared.entry.Execution.{Execution}
 use Rattle.core_view.specs.declared.entry.Stage.TheVariants.{Fetched, Queued, Issued}
 use Rattle.core_view.specs.declared.entry.Entry.{Entry}
 use Rattle.core_view.specs.Operations.{is_load}
-use Rattle.flight.specs.Flights.{NoneFrom}
 use Rattle.flight.specs.Marked.{is_waiting_load}
 use Rattle.core_view.specs.Outcomes.{image_of}
 use Rattle.core_view.specs.Flight.{seen_of, IsGrowing, is_queued as is_waiting_stage}
@@ -27,7 +26,7 @@ use Rattle.core_view.proofs.Accesses.{is_load_effect, effect_loads}
 use Rattle.core_view.proofs.Queues.{queue_newest}
 use Rattle.data_flow.specs.Flow.{Flow, Waiter, lane, sources_at, is_waiter, with_held, released}
 use Rattle.lawful_cycle.specs.Issue.{is_clear_on}
-use Rattle.core_context.specs.Issuable.{IsAnswered, may_issue_at, IsMarked, AreLetGo, must_wait, AreHeld, HoldsNone, IsClear}
+use Rattle.core_context.specs.Issuable.{IsAnswered, may_issue_at, IsMarked, AreLetGo, must_wait, AreHeld, IsClear}
 use Rattle.core_context.specs.Queued.{unheld}
 use Rattle.core_context.specs.Steps.{IsRemarked}
 use Rattle.core_context.specs.Track.{Track, issued}
@@ -234,19 +233,6 @@ pub held_all : (old f : Flow) (c : ℕ) (t : Track) (n : ℕ) (holds : Bool) →
 held_all old f c t n holds h le i lt stage =
     let lanes : lane f c ≡ lane old c = remarked_lane old f c h.flow in
     rw lanes (h.held i (omega (arith, le, lt)) stage)
-
--- where no load waits none has to wait for a store
-holds_no_load : (t : Track) → NoneFrom is_waiting_load t.context.flight 0 → HoldsNone t
-holds_no_load t next = λ f c answered let_go. held_all f f c t t.renamed false (held_skip f f c t 0 t.renamed false (held_first f c t let_go) (omega arith) (λ i from lt. next i from)) (omega arith)
-
--- nor where no store is in the queue
-holds_no_store : (t : Track) (no_store : Bool) → (no_store ≡ true → stores_of t.context.flight ≡ []) → not no_store ≡ false → HoldsNone t
-holds_no_store t true stores h = λ f c answered let_go. none_stored_held f c t answered let_go (stores refl)
-holds_no_store t false stores h = absurd (true≢false h)
-
-pub holds_none : (t : Track) (load no_store : Bool) → (load ≡ false → NoneFrom is_waiting_load t.context.flight 0) → (no_store ≡ true → stores_of t.context.flight ≡ []) → (load && not no_store) ≡ false → HoldsNone t
-holds_none t false no_store loads stores h = holds_no_load t (loads refl)
-holds_none t true no_store loads stores h = holds_no_store t no_store stores h
 
 -- of another context they are held still
 pub held_kept : (f g : Flow) (c : ℕ) (t : Track) → IsRemarked f g → ((k : ℕ) (b : Bool) → IsMarked f c k b → IsMarked g c k b) → AreHeld f c t → AreHeld g c t

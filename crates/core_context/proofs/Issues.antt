@@ -1,9 +1,8 @@
 -- An entry issues: what it computes with, and what it leaves of a core.
 use Rattle.std.proofs.Common.{◌≡◌, ◌≢◌, ℕ, ◌<◌, ◌≤◌, Bool, true, false, not, ◌&&◌, ◌||◌, List, ◌∷◌, length, get_or, take, map, Option, Some, None, refl, sym, ap, subst, ◌∙◌, arith, inl, inr}
-use Rattle.std.specs.Prelude.{◌==◌, set, slice_get}
+use Rattle.std.specs.Prelude.{◌==◌, set}
 use Rattle.std.proofs.Math.Seq.{take-set-lt}
 use Rattle.std.proofs.lemmas.Bool.{ne_eqb, true≢false, cases_lt}
-use Rattle.std.proofs.lemmas.Option.{get_or_from_slice_get, slice_get_within}
 use Rattle.std.proofs.lemmas.List.{length-set, length-take-le, map-set, set-get_or, get_or-map, get_or-take, take-take, drop-set-lt}
 use Rattle.hart_step.specs.State.{State}
 use Rattle.core_view.specs.declared.note.EntryId.{EntryId}
@@ -41,12 +40,10 @@ core_answered {t = t} core i le = record {
 }
 
 -- a queued entry doesn't stop at fetch
-pub queued_goes : (x : Context) (i : ℕ) (e : Entry) → IsAnswered x i → slice_get x.flight i ≡ Some e → (entry_at x i).stage ≡ Queued → stops_at_fetch e.operation ≡ false
-queued_goes x i e ready is stage =
-    let lt : i < length x.flight = slice_get_within x.flight i e is in
+pub queued_goes : (x : Context) (i : ℕ) → IsAnswered x i → i < length x.flight → (entry_at x i).stage ≡ Queued → stops_at_fetch (entry_at x i).operation ≡ false
+queued_goes x i ready lt stage =
     let s = sound_at (image_of x.state) (seen_of x.state) x.state.pc x.flight i no_entry lt ready.sound in
-    subst (λ (f : Entry). stops_at_fetch f.operation ≡ false) (get_or_from_slice_get x.flight i e no_entry is)
-    (subst (λ t. HasOutcome (image_of x.state) (flight_seen_at x i) (entry_at x i).operation (entry_at x i).pc t) stage s.outcome)
+    subst (λ t. HasOutcome (image_of x.state) (flight_seen_at x i) (entry_at x i).operation (entry_at x i).pc t) stage s.outcome
 
 -- ---- the outcome
 

@@ -22,4 +22,5 @@ pub use Rattle.core_context.proofs.Queue.{behind_at, core_waiting, eight-remarke
 pub use Rattle.core_context.proofs.Waiting.{eqb-flip, growing_at, queued_stage, same_place}
 pub use Rattle.core_context.proofs.Flights.{growing_take}
 -- what is held, and what a release lets go
+pub use Rattle.core_context.proofs.ReadyLoads.{none_ready_held}
 pub use Rattle.core_context.proofs.HeldLoads.{held_kept, issued_clear, let_go_marked, released_all, released_remarked, remarked_lane, remarked_twice}

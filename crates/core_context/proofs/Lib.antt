@@ -11,6 +11,7 @@ pub mod Retires
 pub mod Renames
 pub mod Fetches
 pub mod HeldLoads
+pub mod ReadyLoads
 pub mod WaiterMarks
 pub mod Tracks
 pub mod RenamedAreOldest

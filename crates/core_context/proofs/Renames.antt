@@ -10,7 +10,7 @@ use Rattle.core_view.specs.declared.operation.Operation.{Operation}
 use Rattle.core_view.specs.declared.operation.Operation.TheVariants as operation
 use Rattle.core_view.specs.declared.entry.Stage.TheVariants.{Fetched}
 use Rattle.core_view.specs.declared.entry.Entry.{Entry}
-use Rattle.core_view.specs.Operations.{stops_at_fetch, is_guessed, destination_of}
+use Rattle.core_view.specs.Operations.{stops_at_fetch, is_load, is_guessed, destination_of}
 use Rattle.core_view.specs.Flight.{is_done, IsGrowing, result_of, is_queued, is_open_guess}
 use Rattle.core_view.specs.Events.{with_stage, renamed_stage}
 use Rattle.core_view.specs.Queues.{is_renamed}
@@ -142,7 +142,7 @@ rename_core {start = start} {stamp = stamp} {reorder = reorder} {c = c} {f = f} 
     g = with_lane f c (with_node (lane f c) (operands_of e))
 
     w : Waiter
-    w = record { stamp = e.stamp; context = c; guessed = is_guessed e.operation; speculative = list_any is_open_guess (take t.renamed t.context.flight); held = false }
+    w = record { stamp = e.stamp; context = c; guessed = is_guessed e.operation; load = is_load e.operation; speculative = list_any is_open_guess (take t.renamed t.context.flight); held = false }
 
     -- it waits behind the guessed entries before it
     as_queued : w ≡ waiter_for c t.context.flight n
@@ -176,7 +176,7 @@ renamed_flow_left f c d e speculative ne = by_stop (stops_at_fetch e.operation)
     g = with_lane f c (with_node (lane f c) (operands_of e))
 
     w : Waiter
-    w = record { stamp = e.stamp; context = c; guessed = is_guessed e.operation; speculative = speculative; held = false }
+    w = record { stamp = e.stamp; context = c; guessed = is_guessed e.operation; load = is_load e.operation; speculative = speculative; held = false }
 
     by_stop : (b : Bool) → IsLeft f (if b then g else record g { waiters = f.waiters ++ w ∷ [] }) d
     by_stop true = with_lane_left f c d (with_node (lane f c) (operands_of e)) ne
@@ -190,7 +190,7 @@ sizes-renamed_flow f c e speculative lt = by_stop (stops_at_fetch e.operation)
     g = with_lane f c (with_node (lane f c) (operands_of e))
 
     w : Waiter
-    w = record { stamp = e.stamp; context = c; guessed = is_guessed e.operation; speculative = speculative; held = false }
+    w = record { stamp = e.stamp; context = c; guessed = is_guessed e.operation; load = is_load e.operation; speculative = speculative; held = false }
 
     by_stop : (b : Bool) → KeepsSizes f (if b then g else record g { waiters = f.waiters ++ w ∷ [] })
     by_stop true = sizes-with_lane f c (with_node (lane f c) (operands_of e))

@@ -1,13 +1,12 @@
 -- What a track's queues give the entry at a place.
-use Rattle.std.proofs.Common.{◌≡◌, ℕ, ◌<◌, List, length, get_or, take, slice_get, Some, sym, ap, ◌∙◌}
+use Rattle.std.proofs.Common.{◌≡◌, ℕ, ◌<◌, length, get_or, take, sym, ◌∙◌}
 use Rattle.paged_memory.specs.Cells.{byte_at}
 use Rattle.core_view.specs.declared.span.Span.{Span}
-use Rattle.core_view.specs.declared.entry.Entry.{Entry}
 use Rattle.core_view.specs.Spans.{number_in}
 use Rattle.core_view.specs.Outcomes.{image_of}
 use Rattle.core_view.specs.Flight.{seen_of}
 use Rattle.core_view.specs.Loads.{is_clear}
-use Rattle.core_view.specs.Queues.{StoreSlot, stores_of, is_clear_in, value_seen_in}
+use Rattle.core_view.specs.Queues.{stores_of, is_clear_in, value_seen_in}
 use Rattle.core_view.specs.View.{Context, seen_at, no_entry}
 use Rattle.core_view.proofs.Loads.{seen_past-value}
 use Rattle.core_view.proofs.Queues.{queue_clear, queue_value}

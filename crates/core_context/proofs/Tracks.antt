@@ -2,7 +2,7 @@
 use Rattle.std.proofs.Common.{◌≡◌, ◌≢◌, ℕ, suc, ◌+◌, ◌-◌, ◌<◌, ◌≤◌, Bool, true, false, cond, List, [], ◌∷◌, length, get_or, take, drop, slice_get, Option, Some, None, refl, sym, ap, subst, ◌∙◌, arith, add-one, length-take, length-drop, inl, inr}
 use Rattle.std.specs.Prelude.{set, is_some, nat_lt, not, min, find, option_map, if◌then◌else◌, ◌==◌, ◌&&◌}
 use Rattle.std.proofs.lemmas.Bool.{cases_eq, cases_lt, eq-eqb, lt-ltb, le-ltb, ltb-true, ltb-false}
-use Rattle.std.proofs.lemmas.List.{nil_from_length, take_all, length-set, get_or-drop, get_or-set_same, get_or-set_other, get_or_default}
+use Rattle.std.proofs.lemmas.List.{nil_from_length, take_all, length-set, get_or-drop, get_or-set_other, get_or_default}
 use Rattle.std.proofs.lemmas.List.Folds.{list_any_none, list_any_at}
 use Rattle.std.proofs.lemmas.Option.{get_or_from_slice_get, slice_get-get_or, slice_get_cases, slice_get_within, none-some}
 use Rattle.circular_buffer.specs.Buffer.{last_item}
@@ -21,7 +21,7 @@ use Rattle.core_view.specs.Operations.{stops_at_fetch, is_guessed, is_store}
 use Rattle.core_view.specs.Outcomes.{Image, bytes_written}
 use Rattle.core_view.specs.Flight.{is_queued, is_done, Seen, seen_past, pc_past, is_open, span_read, bytes_in, touches, clean_length, HasOutcome, IsSoundEntry, IsSound}
 use Rattle.core_view.specs.Events.{is_mispredicted, kept_length, completed_entry, complete_in}
-use Rattle.core_view.specs.Queues.{is_renamed, loads_of, conflict_in, conflict_of}
+use Rattle.core_view.specs.Queues.{loads_of, conflict_in, conflict_of}
 use Rattle.core_view.specs.View.{no_entry}
 use Rattle.core_view.proofs.Accesses.{stage_bytes}
 use Rattle.core_view.proofs.Accesses.{store_predicted}
@@ -30,7 +30,7 @@ use Rattle.core_view.proofs.RingForm.{complete_take}
 use Rattle.core_view.proofs.Sound.{sound_at}
 use Rattle.flight.specs.Flights.{NoneFrom, IsNext}
 use Rattle.flight.specs.Marked.{is_waiting}
-use Rattle.entry_stages.specs.Heads.{IsGoing, done_outcome, first_done}
+use Rattle.entry_stages.specs.Heads.{done_outcome, first_done}
 use Rattle.core_context.specs.Queued.{queued_at}
 use Rattle.entry_stages.specs.Mispredicted.{is_mispredicted_by}
 use Rattle.core_context.specs.Track.{Track, left_by, cut_stamp, finished, cut_at, completed}

@@ -1,9 +1,9 @@
 -- Marks of what waits for issue, and one more that waits.
-use Rattle.std.proofs.Common.{◌≡◌, ℕ, zero, suc, ◌-◌, ◌<◌, Bool, true, false, List, [], ◌∷◌, ◌++◌, length, get_or, refl, sym, ap, ◌∙◌, arith, length-append}
+use Rattle.std.proofs.Common.{◌≡◌, ℕ, zero, suc, ◌-◌, ◌<◌, Bool, true, false, List, [], ◌∷◌, ◌++◌, length, get_or, refl, sym, ap, ap₂, ◌∙◌, arith, length-append}
 use Rattle.std.specs.Prelude.{set, if◌then◌else◌}
 use Rattle.std.proofs.lemmas.List.{get_or_at}
 use Rattle.core_view.specs.declared.entry.Entry.{Entry}
-use Rattle.core_view.specs.Operations.{stops_at_fetch, is_guessed}
+use Rattle.core_view.specs.Operations.{stops_at_fetch, is_load, is_guessed}
 use Rattle.data_flow.specs.declared.operands.Operands.{Operands}
 use Rattle.data_flow.specs.Flow.{Node, Lane, Flow, no_node, no_lane, lane, with_lane, with_node}
 use Rattle.core_context.specs.Steps.{IsRemarked, renamed_flow}
@@ -30,17 +30,17 @@ newest_at ns n =
 pub renamed_stops : (f h : Flow) (c : ℕ) (e : Entry) (o : Operands) (speculative : Bool) → o ≡ operands_of e → h ≡ with_lane f c (with_node (lane f c) o) → stops_at_fetch e.operation ≡ true → h ≡ renamed_flow f c e speculative
 renamed_stops f h c e o speculative is renamed stops =
     renamed ∙ ap (λ (p : Operands). with_lane f c (with_node (lane f c) p)) is
-    ∙ sym (ap (λ (b : Bool). if b then g else record g { waiters = f.waiters ++ record { stamp = e.stamp; context = c; guessed = is_guessed e.operation; speculative = speculative; held = false } ∷ [] }) stops)
+    ∙ sym (ap (λ (b : Bool). if b then g else record g { waiters = f.waiters ++ record { stamp = e.stamp; context = c; guessed = is_guessed e.operation; load = is_load e.operation; speculative = speculative; held = false } ∷ [] }) stops)
   where
     g : Flow
     g = with_lane f c (with_node (lane f c) (operands_of e))
 
 -- one more instruction that waits, in one step
-pub renamed_waiting : (f h : Flow) (c : ℕ) (e : Entry) (o : Operands) (speculative guessed : Bool) → o ≡ operands_of e → stops_at_fetch e.operation ≡ false → guessed ≡ is_guessed e.operation
-    → h ≡ record (with_lane f c (with_node (lane f c) o)) { waiters = f.waiters ++ record { stamp = o.stamp; context = c; guessed = guessed; speculative = speculative; held = false } ∷ [] } → h ≡ renamed_flow f c e speculative
-renamed_waiting f h c e o speculative guessed is stops guess waits =
-    waits ∙ ap (λ b. more o b) guess ∙ ap (λ (p : Operands). more p (is_guessed e.operation)) is
-    ∙ sym (ap (λ (b : Bool). if b then with_lane f c (with_node (lane f c) (operands_of e)) else more (operands_of e) (is_guessed e.operation)) stops)
+pub renamed_waiting : (f h : Flow) (c : ℕ) (e : Entry) (o : Operands) (speculative guessed load : Bool) → o ≡ operands_of e → stops_at_fetch e.operation ≡ false → guessed ≡ is_guessed e.operation → load ≡ is_load e.operation
+    → h ≡ record (with_lane f c (with_node (lane f c) o)) { waiters = f.waiters ++ record { stamp = o.stamp; context = c; guessed = guessed; load = load; speculative = speculative; held = false } ∷ [] } → h ≡ renamed_flow f c e speculative
+renamed_waiting f h c e o speculative guessed load is stops guess loads waits =
+    waits ∙ ap₂ (more o) guess loads ∙ ap (λ (p : Operands). more p (is_guessed e.operation) (is_load e.operation)) is
+    ∙ sym (ap (λ (b : Bool). if b then with_lane f c (with_node (lane f c) (operands_of e)) else more (operands_of e) (is_guessed e.operation) (is_load e.operation)) stops)
   where
-    more : Operands → Bool → Flow
-    more p b = record (with_lane f c (with_node (lane f c) p)) { waiters = f.waiters ++ record { stamp = p.stamp; context = c; guessed = b; speculative = speculative; held = false } ∷ [] }
+    more : Operands → Bool → Bool → Flow
+    more p guessed load = record (with_lane f c (with_node (lane f c) p)) { waiters = f.waiters ++ record { stamp = p.stamp; context = c; guessed = guessed; load = load; speculative = speculative; held = false } ∷ [] }

@@ -51,10 +51,6 @@ must_wait x i (Some values) = not (may_issue_at x i values.0 values.1)
 abbrev pub AreHeld : Flow → ℕ → Track → Type 0
 AreHeld f c t = (i : ℕ) → i < t.renamed → (entry_at t.context i).stage ≡ Queued → IsMarked f c (entry_at t.context i).stamp (must_wait t.context i (sources_at (lane f c) i))
 
--- no queued entry of a context has to wait, once each is answered, so that where all are let go they are held as they have to be
-abbrev pub HoldsNone : Track → Type 0
-HoldsNone t = (f : Flow) (c : ℕ) → ((i : ℕ) → i < t.renamed → IsAnswered t.context i) → ((k : ℕ) → IsMarked f c k false) → AreHeld f c t
-
 -- the entry of a context and stamp may issue on the values of its sources
 abbrev pub IsClear : Flow → ℕ → Track → ℕ → Type 0
 IsClear f c t k = (i a b : ℕ) → i < t.renamed → (entry_at t.context i).stamp ≡ k → sources_at (lane f c) i ≡ Some (a, b) → may_issue_at t.context i a b ≡ true

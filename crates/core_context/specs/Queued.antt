@@ -2,7 +2,7 @@
 use Rattle.std.specs.Prelude.{ℕ, Bool, false, ◌&&◌, ◌==◌, nat_lt, if◌then◌else◌, List, [], ◌∷◌, map, filter}
 use Rattle.std.specs.List.{list_any}
 use Rattle.core_view.specs.declared.entry.Entry.{Entry}
-use Rattle.core_view.specs.Operations.{is_guessed}
+use Rattle.core_view.specs.Operations.{is_load, is_guessed}
 use Rattle.data_flow.specs.Flow.{Waiter, Flow}
 use Rattle.core_view.specs.Flight.{is_queued, is_open_guess}
 
@@ -24,7 +24,7 @@ waiting_of f c = map unheld (filter (λ w. w.context == c) f.waiters)
 
 -- an entry of a context's flight as it waits
 abbrev pub waiter_for : ℕ → List Entry → Entry → Waiter
-waiter_for c es e = record { stamp = e.stamp; context = c; guessed = is_guessed e.operation; speculative = is_behind e.stamp es; held = false }
+waiter_for c es e = record { stamp = e.stamp; context = c; guessed = is_guessed e.operation; load = is_load e.operation; speculative = is_behind e.stamp es; held = false }
 
 -- the entries up to the oldest guessed one that has not completed
 abbrev pub up_to_guess : List Entry → List Entry

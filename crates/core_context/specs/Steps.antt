@@ -3,7 +3,7 @@ use Rattle.std.specs.Prelude.{◌≡◌, ℕ, ◌+◌, ◌<◌, Bool, false, ◌
 use Rattle.core_view.specs.declared.entry.Execution.{Execution}
 use Rattle.core_view.specs.Flight.{result_in, is_open_guess}
 use Rattle.core_view.specs.declared.entry.Entry.{Entry}
-use Rattle.core_view.specs.Operations.{stops_at_fetch, is_guessed}
+use Rattle.core_view.specs.Operations.{stops_at_fetch, is_load, is_guessed}
 use Rattle.core_view.specs.View.{Context, entry_at, no_entry}
 use Rattle.data_flow.specs.Flow.{Flow, lane, with_lane, without_oldest, with_result, with_node, cut_flow}
 use Rattle.core_context.specs.Queued.{unheld, up_to_guess, settled}
@@ -47,7 +47,7 @@ abbrev pub renamed_flow : Flow → ℕ → Entry → Bool → Flow
 renamed_flow f c e speculative =
     let g = with_lane f c (with_node (lane f c) (operands_of e)) in
     if stops_at_fetch e.operation then g
-    else record g { waiters = f.waiters ++ record { stamp = e.stamp; context = c; guessed = is_guessed e.operation; speculative = speculative; held = false } ∷ [] }
+    else record g { waiters = f.waiters ++ record { stamp = e.stamp; context = c; guessed = is_guessed e.operation; load = is_load e.operation; speculative = speculative; held = false } ∷ [] }
 
 -- only what is held has changed
 pub record IsRemarked (old new : Flow) : Type 0 where

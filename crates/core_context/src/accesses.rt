@@ -26,6 +26,7 @@ use std::alloc::Allocator;
 pub(crate) fn perform_load<A: Allocator, D: Delay>(
     track: &mut Track<A>,
     place: usize,
+    pc: u64,
     kind: LoadKind,
     address: u64,
     context: Ctx,
@@ -33,6 +34,7 @@ pub(crate) fn perform_load<A: Allocator, D: Delay>(
     delay: &mut D,
 ) -> Lag
     requires place { place < length track.old.context.flight }
+    requires pc { pc ≡ (entry_at track.old.context place).pc }
     requires queued { (entry_at track.old.context place).stage ≡ Queued }
     requires load { is_load (entry_at track.old.context place).operation ≡ true }
     requires answered { IsAnswered track.old.context place }
@@ -52,8 +54,7 @@ pub(crate) fn perform_load<A: Allocator, D: Delay>(
     let LoadAnswer::Ready { value } = track.ask(place, span_of(kind, address), number) else {
         unreachable!();
     };
-    let entry = track.entry(place).unwrap();
-    let outcome = loads_at(entry.pc, kind, address, value);
+    let outcome = loads_at(pc, kind, address, value);
     let lag = lag_of(delay, context, Kind::Load, address, &outcome);
     track.issue_load(place, due_after(cycle, lag, outcome));
     lag
@@ -64,6 +65,7 @@ pub(crate) fn perform_load<A: Allocator, D: Delay>(
 pub(crate) fn perform_store<A: Allocator, D: Delay>(
     track: &mut Track<A>,
     place: usize,
+    pc: u64,
     width: StoreWidth,
     address: u64,
     value: u64,
@@ -72,6 +74,7 @@ pub(crate) fn perform_store<A: Allocator, D: Delay>(
     delay: &mut D,
 ) -> Lag
     requires place { place < length track.old.context.flight }
+    requires pc { pc ≡ (entry_at track.old.context place).pc }
     requires queued { (entry_at track.old.context place).stage ≡ Queued }
     requires store { is_load (entry_at track.old.context place).operation ≡ false }
     requires cycle { cycle < 2 ^ 56 }
@@ -88,8 +91,7 @@ pub(crate) fn perform_store<A: Allocator, D: Delay>(
         track.issue_other(place, refused(fault, cycle));
         return ONE_CYCLE;
     }
-    let entry = track.entry(place).unwrap();
-    let outcome = stores_at(entry.pc, width, address, value);
+    let outcome = stores_at(pc, width, address, value);
     let lag = lag_of(delay, context, Kind::Store, address, &outcome);
     track.issue_other(place, due_after(cycle, lag, outcome));
     lag

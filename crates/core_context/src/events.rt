@@ -10,7 +10,7 @@ ghost use Rattle.core_view.specs.declared.outcome.Outcome.TheVariants.{Stops};
 ghost use Rattle.core_view.specs.Flight.{is_open_guess as is_open_guess_entry};
 ghost use Rattle.core_view.specs.Operations.{destination_of, stops_at_fetch};
 ghost use Rattle.core_view.specs.View.{entry_at};
-ghost use Rattle.core_context.specs.Issuable.{HasIssued, IsAnswered, IsIssuable, IsIssuableAt, IsMarked, AreLetGo, must_wait, AreHeld, HoldsNone};
+ghost use Rattle.core_context.specs.Issuable.{HasIssued, IsAnswered, IsIssuable, IsIssuableAt, IsMarked, AreLetGo, must_wait, AreHeld};
 ghost use Rattle.core_context.specs.Track.{is_last, retired, parked, stopped, completed, renamed_one};
 ghost use Rattle.core_context.specs.Cores.{operands_of};
 ghost use Rattle.entry_stages.specs.Heads.{IsGoing, first_done, step_on};
@@ -352,8 +352,9 @@ fn rename_waiting<A: Allocator>(flow: &mut DataFlow<A>, track: &mut Track<A>, co
     let entry = track.entry_at(track.renamed_count());
     let speculative = track.has_uncompleted_guess();
     let guessed = entry.operation.is_guessed();
+    let load = entry.operation.is_load();
     track.rename_waiting();
-    flow.rename_waiting(context, operands(&entry), guessed, speculative);
+    flow.rename_waiting(context, operands(&entry), guessed, load, speculative);
 }
 
 /// Tells the queue of the entries that are behind no guessed entry any more: those up to the oldest guessed entry that
@@ -462,7 +463,11 @@ fn issue_apart<A: Allocator, D: Delay>(
     ensures keeps_greatest { D.greatest_lag delay.new ≡ D.greatest_lag delay.old }
 {
     let values = flow.sources(context, place).unwrap();
-    perform_apart(track, place, values, context, cycle, delay)
+    let entry = track.entry_at(place);
+    let operation = *entry.operation.operation();
+    perform_apart(
+        track, place, operation, entry.pc, values, context, cycle, delay,
+    )
 }
 
 /// Lets all loads go, where one may be held.
@@ -473,15 +478,6 @@ pub fn release<A: Allocator>(flow: &mut DataFlow<A>, holds: bool)
     if holds {
         flow.release();
     }
-}
-
-/// Whether a load of a context may have to wait for an older store: one waits for issue, and a store is renamed.
-#[inline]
-pub fn may_hold<A: Allocator>(track: &Track<A>) -> bool
-    ensures { result ≡ false → HoldsNone track.now }
-{
-    // Both are asked, without a jump between them.
-    track.has_queued_load() & !track.has_no_store()
 }
 
 /// Tells the queue which loads of a context, which are all let go, have to wait for an older store. Returns whether one
@@ -495,6 +491,9 @@ pub fn hold_loads<A: Allocator>(flow: &mut DataFlow<A>, track: &Track<A>, contex
     ensures others { (d k : ℕ) (b : Bool) → d ≢ context → IsMarked flow.old d k b → IsMarked flow.new d k b }
     ensures none { result ≡ false → flow.new ≡ flow.old }
 {
+    if track.has_no_store() {
+        return false;
+    }
     let mut holds = false;
     let mut from = 0;
     for _turn in 0..track.renamed_count() {
@@ -508,8 +507,8 @@ pub fn hold_loads<A: Allocator>(flow: &mut DataFlow<A>, track: &Track<A>, contex
     holds
 }
 
-/// Holds the entry of a context at a place, which is let go, if it is a queued load that has the values of its sources
-/// and has to wait for an older store. Returns whether it has to.
+/// Holds the entry of a context at a place, which is queued and let go, if it has the values of its sources and has to
+/// wait for an older store. Returns whether it has to.
 fn hold_load<A: Allocator>(
     flow: &mut DataFlow<A>,
     track: &Track<A>,
@@ -518,19 +517,16 @@ fn hold_load<A: Allocator>(
 ) -> bool
     requires place { place < track.now.renamed }
     requires nodes { length (lane flow.old context).nodes ≡ track.now.renamed }
+    requires queued { (entry_at track.now.context place).stage ≡ Queued }
     requires answered { IsAnswered track.now.context place }
     requires let_go { IsMarked flow.old context (entry_at track.now.context place).stamp false }
     ensures flow { IsRemarked flow.old flow.new }
-    ensures held { (entry_at track.now.context place).stage ≡ Queued →
-        IsMarked flow.new context (entry_at track.now.context place).stamp (must_wait track.now.context place (sources_at (lane flow.old context) place)) }
+    ensures held { IsMarked flow.new context (entry_at track.now.context place).stamp (must_wait track.now.context place (sources_at (lane flow.old context) place)) }
     ensures others { (d k : ℕ) (b : Bool) → (k ≡ (entry_at track.now.context place).stamp → d ≢ context) → IsMarked flow.old d k b → IsMarked flow.new d k b }
     ensures none { result ≡ false → flow.new ≡ flow.old }
 {
     // How many are renamed is at most how many there are.
     let _renamed = track.renamed_count();
-    if !track.is_queued_load(place) {
-        return false;
-    }
     let Some((first, second)) = flow.sources(context, place) else {
         return false;
     };

@@ -11,6 +11,7 @@ pub mod Marks
 pub mod Ready
 pub mod Carried
 pub mod Selects
+pub mod ReadyLoads
 pub mod Steps
 pub mod Waiters
 pub mod Renames

@@ -1,12 +1,12 @@
 -- An entry of the queue is ready where its instruction has the values of its sources.
-use Rattle.std.proofs.Common.{◌≡◌, ◌≢◌, ℕ, zero, suc, ◌<◌, true, false, List, [], ◌∷◌, ◌++◌, length, get_or, take, Option, Some, None, refl, sym, ap, ap₂, ◌∙◌, arith}
+use Rattle.std.proofs.Common.{◌≡◌, ◌≢◌, ℕ, zero, suc, ◌<◌, ◌&&◌, not, true, false, List, [], ◌∷◌, ◌++◌, length, get_or, take, Option, Some, None, refl, sym, ap, ap₂, ◌∙◌, arith}
 use Rattle.std.specs.Prelude.{is_some, ◌==◌, if◌then◌else◌}
 use Rattle.std.proofs.lemmas.Bool.{eq-eqb, ne_eqb}
 use Rattle.std.proofs.lemmas.List.{length-map}
 use Rattle.rename_file.specs.File.{Bank, bank}
 use Rattle.circular_buffer.specs.Buffer.{Buffer}
 use Rattle.core_view.specs.Flight.{known}
-use Rattle.issue_queue.specs.Entry.{Entry, IsReady}
+use Rattle.issue_queue.specs.Entry.{Entry, IsReady, is_ready}
 use Rattle.data_flow.specs.declared.operands.Operands.{Operands}
 use Rattle.data_flow.specs.declared.operands.Renamed.{Renamed}
 use Rattle.data_flow.specs.declared.data_flow.DataFlow.TheInside.{Inside}
@@ -49,6 +49,12 @@ ready_back None b p q h = absurd cc
 ready_back (Some x) None p q h = absurd cc
 ready_back (Some x) (Some y) p q h = refl
 
+supplied_alike : (a b : Option ℕ) (p q : ℕ) → (length (waits_of (is_some (both a b))) == 0) ≡ (length ((if is_some a then [] else p ∷ []) ++ (if is_some b then [] else q ∷ [])) == 0)
+supplied_alike None None p q = refl
+supplied_alike None (Some y) p q = refl
+supplied_alike (Some x) None p q = refl
+supplied_alike (Some x) (Some y) p q = refl
+
 -- the entry as it is shown
 abbrev pub shown_entry : List Lane → Entry → Entry
 shown_entry lanes e = queued_waiter lanes (waiter_of e)
@@ -57,6 +63,7 @@ shown_entry lanes e = queued_waiter lanes (waiter_of e)
 pub record IsFaithful (f : Entry → Entry) (e : Entry) : Type 0 where
   pub there : IsReady e → IsReady (f e)
   pub back : IsReady (f e) → IsReady e
+  pub tested : is_ready (f e) ≡ is_ready e
 
 pub faithful : {A : Type 0} (d : Inside A) (e : Entry) → IsWiredUp d → IsWaiting d.registers.cells d.renamed e → IsFaithful (shown_entry (flow d).lanes) e
 faithful d e up h =
@@ -70,4 +77,7 @@ faithful d e up h =
     record {
       there = λ ready. (shown ∙ ready_there (cell_of cells n.first) (cell_of cells n.second) n.first n.second (sym h.waits ∙ ready.0), ready.1);
       back = λ ready. (h.waits ∙ ready_back (cell_of cells n.first) (cell_of cells n.second) n.first n.second (sym shown ∙ ready.0), ready.1);
+      tested = ap (λ (ws : List ℕ). (length ws == 0) && not e.held) shown
+          ∙ ap (λ s. s && not e.held) (supplied_alike (cell_of cells n.first) (cell_of cells n.second) n.first n.second)
+          ∙ sym (ap (λ (ws : List ℕ). (length ws == 0) && not e.held) h.waits);
     }

@@ -43,25 +43,25 @@ last_new [] n = refl
 last_new (x ∷ ns) n = last_new ns n
 
 -- with an instruction more, which waits
-abbrev pub with_waiting : Flow → ℕ → Operands → Bool → Bool → Flow
-with_waiting now c o guessed speculative = record (with_lane now c (with_node (lane now c) o)) { waiters = now.waiters ++ record { stamp = o.stamp; context = c; guessed = guessed; speculative = speculative; held = false } ∷ [] }
+abbrev pub with_waiting : Flow → ℕ → Operands → Bool → Bool → Bool → Flow
+with_waiting now c o guessed load speculative = record (with_lane now c (with_node (lane now c) o)) { waiters = now.waiters ++ record { stamp = o.stamp; context = c; guessed = guessed; load = load; speculative = speculative; held = false } ∷ [] }
 
-pub rename_wait_leaves : {A : Type 0} (d : Inside A) (now : Flow) (c k : ℕ) (o : Operands) (found left : Buffer Renamed) (n : Renamed) (r : File) (guessed speculative : Bool) (q : IssueQueue) → flow d ≡ now → IsWiredUp d → Here d now c k found → IsNamed d.registers c o n
+pub rename_wait_leaves : {A : Type 0} (d : Inside A) (now : Flow) (c k : ℕ) (o : Operands) (found left : Buffer Renamed) (n : Renamed) (r : File) (guessed load speculative : Bool) (q : IssueQueue) → flow d ≡ now → IsWiredUp d → Here d now c k found → IsNamed d.registers c o n
     → All (λ m. m.operands.stamp < o.stamp) (lane now c).nodes → left ≡ buffer (found.items ++ n ∷ []) found.capacity
     → r.banks ≡ set d.registers.banks c (bank_with (bank d.registers c) o.destination n.destination) → CellsWith d.registers r o.destination n.destination
-    → q ≡ record d.queue { entries = d.queue.entries ++ waiting_entry r.cells c n guessed speculative ∷ [] }
-    → Leaves r (set d.renamed k left) q (with_waiting now c o guessed speculative)
-rename_wait_leaves d now c k o found left n r guessed speculative q shows up h new younger left-is banks cells q-is =
+    → q ≡ record d.queue { entries = d.queue.entries ++ waiting_entry r.cells c n guessed load speculative ∷ [] }
+    → Leaves r (set d.renamed k left) q (with_waiting now c o guessed load speculative)
+rename_wait_leaves d now c k o found left n r guessed load speculative q shows up h new younger left-is banks cells q-is =
     let l = rename_leaves d now c k o found left n r shows up h new younger left-is banks cells in
     let buffers : List (Buffer Renamed) = set d.renamed k left in
     let there : get_or buffers c no_buffer ≡ buffer (found.items ++ n ∷ []) found.capacity =
     rw h.index (get_or-set_same d.renamed c left no_buffer h.in_buffers) ∙ left-is in
     let i : ℕ = length found.items in
-    let e : Entry = waiting_entry r.cells c n guessed speculative in
+    let e : Entry = waiting_entry r.cells c n guessed load speculative in
     let within : i < length (get_or buffers c no_buffer).items = rw there (omega (arith, length-append found.items (n ∷ []))) in
     let same : get_or (get_or buffers c no_buffer).items i no_renamed ≡ n = rw there (last_new found.items n) in
-    let w : Waiter = record { stamp = o.stamp; context = c; guessed = guessed; speculative = speculative; held = false } in
-    let entered : waiter_of e ≡ w = ap (λ (x : Operands). let v : Waiter = record { stamp = x.stamp; context = c; guessed = guessed; speculative = speculative; held = false } in v) new.operands in
+    let w : Waiter = record { stamp = o.stamp; context = c; guessed = guessed; load = load; speculative = speculative; held = false } in
+    let entered : waiter_of e ≡ w = ap (λ (x : Operands). let v : Waiter = record { stamp = x.stamp; context = c; guessed = guessed; load = load; speculative = speculative; held = false } in v) new.operands in
     let waiters : map waiter_of (d.queue.entries ++ e ∷ []) ≡ now.waiters ++ w ∷ [] = waiters_put d.queue.entries e ∙ ap (λ (f : Flow). f.waiters ++ waiter_of e ∷ []) shows ∙ ap (λ v. now.waiters ++ v ∷ []) entered in
     rw q-is (record {
       tied = l.tied;

@@ -95,6 +95,7 @@ pub record Waiter : Type 0 where
   pub stamp : ℕ
   pub context : ℕ
   pub guessed : Bool
+  pub load : Bool
   -- an older guessed entry of its context has not completed
   pub speculative : Bool
   -- a load that is not clear
@@ -134,6 +135,14 @@ is_waiter c k w = (w.context == c) && (w.stamp == k)
 abbrev pub waits_in : Flow → ℕ → ℕ → Bool
 waits_in f c k = list_any (is_waiter c k) f.waiters
 
+-- a load of a context and stamp, not held
+abbrev pub is_load_let_go : ℕ → ℕ → Waiter → Bool
+is_load_let_go c k w = is_waiter c k w && (w.load && not w.held)
+
+-- the instruction of a context and stamp is a load that waits for issue and is not held
+abbrev pub waits_to_load : Flow → ℕ → ℕ → Bool
+waits_to_load f c k = list_any (is_load_let_go c k) f.waiters
+
 -- an instruction of the context from a stamp on
 abbrev pub is_waiter_from : ℕ → ℕ → Waiter → Bool
 is_waiter_from c k w = (w.context == c) && nat_le k w.stamp
@@ -165,6 +174,7 @@ queued_waiter lanes w = record {
   stamp = w.stamp;
   context = w.context;
   guessed = w.guessed;
+  load = w.load;
   speculative = w.speculative;
   held = w.held;
   waits = waits_of (is_supplied (known (get_or lanes w.context no_lane).registers) (get_or lanes w.context no_lane).nodes w.stamp);

@@ -30,7 +30,7 @@ lanes_of cells (b ∷ bs) [] = []
 lanes_of cells (b ∷ bs) (n ∷ ns) = lane_of cells b n ∷ lanes_of cells bs ns
 
 abbrev pub waiter_of : Entry → Waiter
-waiter_of e = record { stamp = e.stamp; context = e.context; guessed = e.guessed; speculative = e.speculative; held = e.held }
+waiter_of e = record { stamp = e.stamp; context = e.context; guessed = e.guessed; load = e.load; speculative = e.speculative; held = e.held }
 
 abbrev pub flow : {A : Type 0} → Inside A → Flow
 flow d = record {
@@ -77,11 +77,12 @@ abbrev pub unready : List (Option ℕ) → ℕ → List ℕ
 unready cells p = if is_some (cell_of cells p) then [] else p ∷ []
 
 -- the entry of an instruction that waits for those of its registers
-abbrev pub waiting_entry : List (Option ℕ) → ℕ → Renamed → Bool → Bool → Entry
-waiting_entry cells c n guessed speculative = record {
+abbrev pub waiting_entry : List (Option ℕ) → ℕ → Renamed → Bool → Bool → Bool → Entry
+waiting_entry cells c n guessed load speculative = record {
   stamp = n.operands.stamp;
   context = c;
   guessed = guessed;
+  load = load;
   speculative = speculative;
   held = false;
   waits = unready cells n.first ++ unready cells n.second;

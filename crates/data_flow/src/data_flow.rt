@@ -1,15 +1,16 @@
 //! The data flow of eight contexts: registers, renaming, and the queue of what waits for its sources.
 
-ghost use Rattle.std.specs.Prelude.{◌≡◌, ℕ, ◌+◌, ◌-◌, ◌<◌, ◌≤◌, ◌↔◌, [], ◌∷◌, ◌++◌, false, length, map, All, IfOk, OnErr, IsOk, IsSome, IsTrue, Err, not, is_some, slice_set, count_by, ◌==◌, ◌&&◌};
+ghost use Rattle.std.specs.Prelude.{◌≡◌, ℕ, ◌+◌, ◌-◌, ◌<◌, ◌≤◌, ◌↔◌, [], ◌∷◌, ◌++◌, true, false, None, length, map, All, IfOk, OnErr, IsOk, IsSome, IsTrue, Err, not, is_some, slice_set, count_by, ◌==◌, ◌&&◌};
 ghost use Rattle.std.specs.List.{list_any};
-ghost use Rattle.issue_queue.specs.Entry.{is_named};
+ghost use Rattle.word_mask.specs.Mask.{has};
+ghost use Rattle.issue_queue.specs.Entry.{is_named, is_ready_load};
 ghost use Rattle.issue_queue.specs.Views.{view_of};
 ghost use Rattle.issue_queue.specs.IsSelected.{IsSelected};
 ghost use Rattle.issue_queue.specs.Stamps.{place_of_oldest};
 ghost use Rattle.rename_file.specs.File.{IsFile, bank};
 ghost use Rattle.data_flow.specs.Banks.{bank_with, CellsWith, IsNamed};
 ghost use Rattle.data_flow.specs.Wired.{cell_of, waiting_entry};
-ghost use Rattle.data_flow.specs.Flow.{lane, node_at, sources_at, with_lane, with_register, with_node, with_result, without_oldest, without_newest, kept, cut_flow, left_in, takes, taken, waits_in, with_speculative, with_held, released, queued, first_flow};
+ghost use Rattle.data_flow.specs.Flow.{lane, node_at, sources_at, with_lane, with_register, with_node, with_result, without_oldest, without_newest, kept, cut_flow, left_in, takes, taken, waits_in, waits_to_load, with_speculative, with_held, released, queued, first_flow};
 
 use crate::active_list::{ActiveList, first_lists};
 use crate::operands::{Operands, Renamed};
@@ -109,6 +110,7 @@ impl<A: Allocator> DataFlow<A> {
         context: Ctx,
         operands: Operands,
         guessed: bool,
+        load: bool,
         speculative: bool,
     )
         requires younger { All (λ n. n.operands.stamp < operands.stamp) (lane self.old context).nodes }
@@ -121,6 +123,7 @@ impl<A: Allocator> DataFlow<A> {
             stamp = operands.stamp;
             context = context;
             guessed = guessed;
+            load = load;
             speculative = speculative;
             held = false;
           } ∷ [];
@@ -135,6 +138,7 @@ impl<A: Allocator> DataFlow<A> {
             context,
             &newest,
             guessed,
+            load,
             speculative,
         );
     }
@@ -250,6 +254,17 @@ impl<A: Allocator> DataFlow<A> {
         self.queue.guessed_count(context)
     }
 
+    /// The contexts that have a load that waits, has the values of its sources and isn't held, as the bits of a word.
+    #[inline(always)]
+    pub fn contexts_with_ready_load(&self) -> u64
+        ensures known { (c : ℕ) → has result c ≡ true → c < 8 }
+        ensures value { (c : ℕ) → has result c ≡ list_any (is_ready_load c) (queued self.now) }
+        ensures lacking { (c place : ℕ) → has result c ≡ false → place < length (lane self.now c).nodes →
+            waits_to_load self.now c (node_at (lane self.now c) place).operands.stamp ≡ true → sources_at (lane self.now c) place ≡ None }
+    {
+        self.queue.contexts_with_ready_load()
+    }
+
     /// How many instructions that wait are older than the oldest of a context, or `None` where none of it waits.
     pub fn oldest_place(&self, context: Ctx) -> Option<usize>
         ensures { result ≡ place_of_oldest context (queued self.now) }
@@ -301,13 +316,14 @@ fn put_in<A: Allocator>(
     context: Ctx,
     renamed: &Renamed,
     guessed: bool,
+    load: bool,
     speculative: bool,
 )
     requires first { renamed.now.first < length registers.now.cells }
     requires second { renamed.now.second < length registers.now.cells }
     requires fresh { list_any (is_named context renamed.now.operands.stamp) queue.old.entries ≡ false }
     requires room { length queue.old.entries < queue.old.capacity }
-    ensures { queue.new ≡ record queue.old { entries = queue.old.entries ++ waiting_entry registers.now.cells context renamed.now guessed speculative ∷ [] } }
+    ensures { queue.new ≡ record queue.old { entries = queue.old.entries ++ waiting_entry registers.now.cells context renamed.now guessed load speculative ∷ [] } }
 {
     let first = source_in(registers, renamed.first);
     let second = source_in(registers, renamed.second);
@@ -315,6 +331,7 @@ fn put_in<A: Allocator>(
         context,
         stamp: renamed.operands.stamp,
         guessed,
+        load,
         speculative,
         first,
         second,

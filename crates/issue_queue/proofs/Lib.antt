@@ -10,3 +10,4 @@ pub mod Best
 pub mod Chosen
 pub mod ByStamp
 pub mod Oldest
+pub mod Gathered

@@ -19,7 +19,7 @@ use Rattle.issue_queue.specs.declared.slots.Slots.{Slots}
 use Rattle.issue_queue.specs.declared.selecting.Candidate.{Candidate}
 use Rattle.issue_queue.specs.Candidates.{is_at}
 use Rattle.word_mask.specs.Mask.{has}
-use Rattle.issue_queue.specs.Board.{slot, narrowed, is_waiter, InStep, IsMask, waits_for, is_of}
+use Rattle.issue_queue.specs.Board.{slot, narrowed, is_waiter, unflagged, InStep, IsMask, IsOffWhereFree, waits_for, is_of}
 use Rattle.issue_queue.specs.Entries.{AreWide, entry_at}
 use Rattle.issue_queue.specs.Entry.{Entry, is_ready, is_supplied, is_named, waits_for_two, are_two}
 use Rattle.issue_queue.specs.IssueQueue.{awake, is_from}
@@ -108,12 +108,14 @@ slot_put s t place q r is entries held let_go waiters free alike p =
     ]
 
 -- the bits of one place left words: what stands at the others is as it was
-pub slot_forgotten : (s t : Slots) (place guesses : ℕ) (ws : List ℕ) → t.entries ≡ record s.entries { guesses = guesses } → t.held ≡ s.held → ((p : ℕ) → has guesses p ≡ cond (eqb p place) false (has s.entries.guesses p))
+pub slot_forgotten : (s t : Slots) (place guesses loads : ℕ) (ws : List ℕ) → t.entries ≡ record s.entries { guesses = guesses; loads = loads } → t.held ≡ s.held
+    → ((p : ℕ) → has guesses p ≡ cond (eqb p place) false (has s.entries.guesses p)) → ((p : ℕ) → has loads p ≡ cond (eqb p place) false (has s.entries.loads p))
     → ((r p : ℕ) → has (slice_index t.waiters r) p ≡ cond (eqb p place && list_any (λ w. eqb w r) ws) false (has (slice_index s.waiters r) p))
     → (p : ℕ) → eqb p place ≡ false → slot t p ≡ slot s p
-slot_forgotten s t place guesses ws entries held bits waiters p other =
-    let kept : has guesses p ≡ has s.entries.guesses p = bits p ∙ rw other refl in
-    rw (entries, held, kept) (narrowed_same t.waiters s.waiters p (as_entry (has s.held p) (entry_at s.entries p)) (λ r. waiters r p ∙ rw other refl))
+slot_forgotten s t place guesses loads ws entries held guess_bits load_bits waiters p other =
+    let guessed : has guesses p ≡ has s.entries.guesses p = guess_bits p ∙ rw other refl in
+    let load : has loads p ≡ has s.entries.loads p = load_bits p ∙ rw other refl in
+    rw (entries, held, guessed, load) (narrowed_same t.waiters s.waiters p (as_entry (has s.held p) (entry_at s.entries p)) (λ r. waiters r p ∙ rw other refl))
 
 is_waiter_without : (w : List ℕ) (r p k : ℕ) → r < length w → is_waiter (set w r 0) p k ≡ (is_waiter w p k && not (eqb k r))
 is_waiter_without w r p k lt = elim (eqb_tells k r) [
@@ -145,18 +147,20 @@ let_go_at true e f (inl free) h = free
 let_go_at true e f (inr never) h = absurd (true≢false never)
 let_go_at false e f either h = h
 
-guessed_at : (b : Bool) (e f : Entry) → e.guessed ≡ f.guessed → (cond b e f).guessed ≡ f.guessed
-guessed_at true e f h = h
-guessed_at false e f h = refl
+-- a flag that stays as it is
+off_kept : (flag : Entry → Bool) (b c : Places) → c.valid ≡ b.valid → ((p : ℕ) → flag (slot c.slots p) ≡ flag (slot b.slots p)) → IsOffWhereFree flag b.valid b.slots → IsOffWhereFree flag c.valid c.slots
+off_kept flag b c valid same h p free = same p ∙ h p (ap (λ v. has v p) (sym valid) ∙ free)
 
 -- a change of entries that no test sees keeps all words in step, where it holds none that is free
-pub unseen_in_step : (g : Entry → Entry) → ((e : Entry) → (g e).waits ≡ e.waits) → ((e : Entry) → (g e).guessed ≡ e.guessed) → ((e : Entry) → (g e).context ≡ e.context)
+pub unseen_in_step : (g : Entry → Entry) → ((e : Entry) → (g e).waits ≡ e.waits) → ((e : Entry) → (g e).guessed ≡ e.guessed) → ((e : Entry) → (g e).load ≡ e.load) → ((e : Entry) → (g e).context ≡ e.context)
     → (here : ℕ → Bool) (b c : Places) → c.valid ≡ b.valid → c.supplied ≡ b.supplied → c.contexts ≡ b.contexts → c.slots.waiters ≡ b.slots.waiters → c.two ≡ b.two
     → ((p : ℕ) → slot c.slots p ≡ cond (here p) (g (slot b.slots p)) (slot b.slots p)) → ((p : ℕ) → has b.valid p ≡ false → ((g (slot b.slots p)).held ≡ false) ⊎ (here p ≡ false)) → InStep b → InStep c
-unseen_in_step g waits guessed context here b c valid supplied contexts waiters two slots let_go h =
+unseen_in_step g waits guessed load context here b c valid supplied contexts waiters two slots let_go h =
     let kept : (test : Entry → Bool) → ((e : Entry) → test (g e) ≡ test e) → (word : ℕ) → IsMask test b.valid b.slots word → IsMask test b.valid c.slots word =
     λ test same word m. mask_kept test b.valid b.slots c.slots word
     (λ p. ap test (slots p) ∙ test_at test (here p) (g (slot b.slots p)) (slot b.slots p) (λ t. same (slot b.slots p))) m in
+    let off : (flag : Entry → Bool) → ((e : Entry) → flag (g e) ≡ flag e) → IsOffWhereFree flag b.valid b.slots → IsOffWhereFree flag c.valid c.slots =
+    λ flag same. off_kept flag b c valid (λ p. ap flag (slots p) ∙ test_at flag (here p) (g (slot b.slots p)) (slot b.slots p) (λ t. same (slot b.slots p))) in
     record {
       supplied = rw (valid, supplied) (kept is_supplied (λ e. ap (λ ws. eqb (length ws) 0) (waits e)) b.supplied h.supplied);
       contexts = λ k below. rw (valid, contexts) (kept (is_of k) (λ e. ap (λ x. eqb x k) (context e)) (slice_index b.contexts k) (h.contexts k below));
@@ -166,13 +170,13 @@ unseen_in_step g waits guessed context here b c valid supplied contexts waiters 
       let_go = λ p free.
           let was : has b.valid p ≡ false = ap (λ v. has v p) (sym valid) ∙ free in
           ap (λ e. e.held) (slots p) ∙ let_go_at (here p) (g (slot b.slots p)) (slot b.slots p) (let_go p was) (h.let_go p was);
-      unguessed = λ p free.
-          ap (λ e. e.guessed) (slots p) ∙ guessed_at (here p) (g (slot b.slots p)) (slot b.slots p) (guessed (slot b.slots p)) ∙ h.unguessed p (ap (λ v. has v p) (sym valid) ∙ free);
+      unguessed = off (λ e. e.guessed) guessed h.unguessed;
+      no_load = off (λ e. e.load) load h.no_load;
     }
 
 -- nothing is in step with nothing
-pub none_in_step : (b : Places) → b.valid ≡ 0 → b.supplied ≡ 0 → b.slots.entries.guesses ≡ 0 → ((c : ℕ) → c < 8 → slice_index b.contexts c ≡ 0) → ((r : ℕ) → r < 480 → slice_index b.slots.waiters r ≡ 0) → b.two ≡ 0 → b.slots.held ≡ 0 → InStep b
-none_in_step b valid supplied guesses contexts waiters two held =
+pub none_in_step : (b : Places) → b.valid ≡ 0 → b.supplied ≡ 0 → b.slots.entries.guesses ≡ 0 → b.slots.entries.loads ≡ 0 → ((c : ℕ) → c < 8 → slice_index b.contexts c ≡ 0) → ((r : ℕ) → r < 480 → slice_index b.slots.waiters r ≡ 0) → b.two ≡ 0 → b.slots.held ≡ 0 → InStep b
+none_in_step b valid supplied guesses loads contexts waiters two held =
     let none : (test : Entry → Bool) (word : ℕ) → word ≡ 0 → IsMask test b.valid b.slots word =
     λ test word zero p. rw (zero, valid) (rw has_zero refl) in
     record {
@@ -182,13 +186,14 @@ none_in_step b valid supplied guesses contexts waiters two held =
       two = none waits_for_two b.two two;
       let_go = λ p free. ap (λ w. has w p) held ∙ has_zero p;
       unguessed = λ p free. ap (λ w. has w p) guesses ∙ has_zero p;
+      no_load = λ p free. ap (λ w. has w p) loads ∙ has_zero p;
     }
 
--- those of a mask that are guessed
-pub mask_guessed : (test : Entry → Bool) (valid : ℕ) (slots : Slots) (word guesses both : ℕ) → ((p : ℕ) → has both p ≡ (has word p && has guesses p)) → ((p : ℕ) → has guesses p ≡ (slot slots p).guessed)
-    → IsMask test valid slots word → IsMask (λ e. test e && e.guessed) valid slots both
-mask_guessed test valid slots word guesses both bits marks m p =
-    bits p ∙ ap₂ (λ x y. x && y) (m p) (marks p) ∙ and_assoc (has valid p) (test (slot slots p)) (slot slots p).guessed
+-- those of a mask that have a flag
+pub mask_flagged : (test flag : Entry → Bool) (valid : ℕ) (slots : Slots) (word flags both : ℕ) → ((p : ℕ) → has both p ≡ (has word p && has flags p)) → ((p : ℕ) → has flags p ≡ flag (slot slots p))
+    → IsMask test valid slots word → IsMask (λ e. test e && flag e) valid slots both
+mask_flagged test flag valid slots word flags both bits marks m p =
+    bits p ∙ ap₂ (λ x y. x && y) (m p) (marks p) ∙ and_assoc (has valid p) (test (slot slots p)) (flag (slot slots p))
 
 -- what waits for nothing and is not held is ready
 pub mask_ready : (valid : ℕ) (slots : Slots) (supplied held ready : ℕ) → ((p : ℕ) → has ready p ≡ (has supplied p && not (has held p))) → ((p : ℕ) → has held p ≡ (slot slots p).held)
@@ -337,8 +342,9 @@ woken_in_step b c r below lt valid contexts waiters slots supplied two h =
     let kept : (test : Entry → Bool) → ((e : Entry) → test (awake r e) ≡ test e) → (w : ℕ) → IsMask test b.valid b.slots w → IsMask test b.valid c.slots w =
     λ test same w m. mask_kept test b.valid b.slots c.slots w (λ p. ap test (slots p) ∙ same (slot b.slots p)) m in
     record {
-      let_go = λ p free. ap (λ e. e.held) (slots p) ∙ h.let_go p (ap (λ v. has v p) (sym valid) ∙ free);
-      unguessed = λ p free. ap (λ e. e.guessed) (slots p) ∙ h.unguessed p (ap (λ v. has v p) (sym valid) ∙ free);
+      let_go = off_kept (λ e. e.held) b c valid (λ p. ap (λ e. e.held) (slots p)) h.let_go;
+      unguessed = off_kept (λ e. e.guessed) b c valid (λ p. ap (λ e. e.guessed) (slots p)) h.unguessed;
+      no_load = off_kept (λ e. e.load) b c valid (λ p. ap (λ e. e.load) (slots p)) h.no_load;
       supplied = λ p.
           let e : Entry = slot b.slots p in
           supplied p
@@ -388,6 +394,19 @@ or_added true false = refl
 or_added false true = refl
 or_added false false = refl
 
+-- an entry enters: a place that is still free has no flag
+off_put : (flag : Entry → Bool) (b c : Places) (place : ℕ) (e : Entry) → ((p : ℕ) → has c.valid p ≡ cond (eqb p place) true (has b.valid p)) → ((p : ℕ) → slot c.slots p ≡ cond (eqb p place) e (slot b.slots p))
+    → IsOffWhereFree flag b.valid b.slots → IsOffWhereFree flag c.valid c.slots
+off_put flag b c place e valid slots h p none = elim (eqb_tells p place) [
+  | inl t ↦
+      let taken : has c.valid p ≡ true = valid p ∙ rw t.0 refl in
+      absurd (true≢false (sym taken ∙ none))
+  | inr t ↦
+      let was : has c.valid p ≡ has b.valid p = valid p ∙ rw t.0 refl in
+      let kept : slot c.slots p ≡ slot b.slots p = slots p ∙ rw t.0 refl in
+      ap flag kept ∙ h p (sym was ∙ none)
+]
+
 pub put_in_step : (b c : Places) (place : ℕ) (e : Entry) → place < 64 → has b.valid place ≡ false → e.context < 8 → ((p : ℕ) → has c.valid p ≡ cond (eqb p place) true (has b.valid p))
     → ((p : ℕ) → slot c.slots p ≡ cond (eqb p place) e (slot b.slots p))
     → ((p : ℕ) → has c.supplied p ≡ (has b.supplied p || (eqb p place && is_supplied e))) → ((p : ℕ) → has c.two p ≡ (has b.two p || (eqb p place && waits_for_two e)))
@@ -395,24 +414,9 @@ pub put_in_step : (b c : Places) (place : ℕ) (e : Entry) → place < 64 → ha
     → ((r p : ℕ) → has (slice_index c.slots.waiters r) p ≡ cond (eqb p place && waits_for r e) true (has (slice_index b.slots.waiters r) p))
     → InStep b → InStep c
 put_in_step b c place e bound free context valid slots supplied two contexts waiters h = record {
-  let_go = λ p none. elim (eqb_tells p place) [
-    | inl t ↦
-        let taken : has c.valid p ≡ true = valid p ∙ rw t.0 refl in
-        absurd (true≢false (sym taken ∙ none))
-    | inr t ↦
-        let was : has c.valid p ≡ has b.valid p = valid p ∙ rw t.0 refl in
-        let kept : slot c.slots p ≡ slot b.slots p = slots p ∙ rw t.0 refl in
-        ap (λ e. e.held) kept ∙ h.let_go p (sym was ∙ none)
-  ];
-  unguessed = λ p none. elim (eqb_tells p place) [
-    | inl t ↦
-        let taken : has c.valid p ≡ true = valid p ∙ rw t.0 refl in
-        absurd (true≢false (sym taken ∙ none))
-    | inr t ↦
-        let was : has c.valid p ≡ has b.valid p = valid p ∙ rw t.0 refl in
-        let kept : slot c.slots p ≡ slot b.slots p = slots p ∙ rw t.0 refl in
-        ap (λ e. e.guessed) kept ∙ h.unguessed p (sym was ∙ none)
-  ];
+  let_go = off_put (λ f. f.held) b c place e valid slots h.let_go;
+  unguessed = off_put (λ f. f.guessed) b c place e valid slots h.unguessed;
+  no_load = off_put (λ f. f.load) b c place e valid slots h.no_load;
   supplied = put_at is_supplied b c.slots c.valid place b.supplied c.supplied e free valid slots (λ p. supplied p ∙ or_added (has b.supplied p) (eqb p place && is_supplied e)) h.supplied;
   two = put_at waits_for_two b c.slots c.valid place b.two c.two e free valid slots (λ p. two p ∙ or_added (has b.two p) (eqb p place && waits_for_two e)) h.two;
   contexts = λ k below. put_at (is_of k) b c.slots c.valid place (slice_index b.contexts k) (slice_index c.contexts k) e free valid slots (λ p. contexts k p ∙ rw (eqb_swap k e.context) refl) (h.contexts k below);
@@ -441,30 +445,31 @@ free_at test b s new place word newer valid slots others here m p = elim (eqb_te
   | inr t ↦ rw (valid p, t.0, slots p t.0) (others p t.0 ∙ m p ∙ ap (λ x. x && test (slot b.slots p)) (sym (and-true (has b.valid p))))
 ]
 
+-- a place is freed that has lost the flag
+off_freed : (flag : Entry → Bool) (b c : Places) (place : ℕ) → ((p : ℕ) → has c.valid p ≡ (has b.valid p && not (eqb p place))) → ((p : ℕ) → eqb p place ≡ false → slot c.slots p ≡ slot b.slots p)
+    → flag (slot c.slots place) ≡ false → IsOffWhereFree flag b.valid b.slots → IsOffWhereFree flag c.valid c.slots
+off_freed flag b c place valid slots off h p free = elim (eqb_tells p place) [
+  | inl t ↦ rw t.1 off
+  | inr t ↦
+      let was : has b.valid p ≡ false = sym (valid p ∙ rw t.0 (and-true (has b.valid p))) ∙ free in
+      ap flag (slots p t.0) ∙ h p was
+]
+
 pub free_in_step : (b c : Places) (place : ℕ) (q : Queued) (context : ℕ) → has b.valid place ≡ true → q ≡ entry_at b.slots.entries place → context ≡ q.context → context < 8
     → ((p : ℕ) → has c.valid p ≡ (has b.valid p && not (eqb p place)))
     → ((p : ℕ) → eqb p place ≡ false → slot c.slots p ≡ slot b.slots p)
     → ((p : ℕ) → has c.supplied p ≡ cond (eqb p place) false (has b.supplied p)) → ((p : ℕ) → has c.two p ≡ cond (eqb p place) false (has b.two p))
     → ((i p : ℕ) → has (slice_index c.contexts i) p ≡ cond (eqb p place && eqb i context) false (has (slice_index b.contexts i) p))
     → ((r p : ℕ) → has (slice_index c.slots.waiters r) p ≡ cond (eqb p place && list_any (λ w. eqb w r) (reads_of (entry_at b.slots.entries place))) false (has (slice_index b.slots.waiters r) p))
-    → has c.slots.held place ≡ false → has c.slots.entries.guesses place ≡ false → InStep b → InStep c
-free_in_step b c place q context taken is own bound valid slots supplied two contexts waiters held unguessed h =
+    → (slot c.slots place).held ≡ false → (slot c.slots place).guessed ≡ false → (slot c.slots place).load ≡ false → InStep b → InStep c
+free_in_step b c place q context taken is own bound valid slots supplied two contexts waiters held unguessed no_load h =
     let same : eqb place place ≡ true = eq-eqb place place refl in
     let word : (test : Entry → Bool) (old new : ℕ) → ((p : ℕ) → has new p ≡ cond (eqb p place) false (has old p)) → IsMask test b.valid b.slots old → IsMask test c.valid c.slots new =
     λ test old new bits m. free_at test b c.slots c.valid place old new valid slots (λ p t. bits p ∙ rw t refl) (bits place ∙ rw same refl) m in
     record {
-      let_go = λ p free. elim (eqb_tells p place) [
-        | inl t ↦ rw t.1 held
-        | inr t ↦
-            let was : has b.valid p ≡ false = sym (valid p ∙ rw t.0 (and-true (has b.valid p))) ∙ free in
-            ap (λ e. e.held) (slots p t.0) ∙ h.let_go p was
-      ];
-      unguessed = λ p free. elim (eqb_tells p place) [
-        | inl t ↦ rw t.1 unguessed
-        | inr t ↦
-            let was : has b.valid p ≡ false = sym (valid p ∙ rw t.0 (and-true (has b.valid p))) ∙ free in
-            ap (λ e. e.guessed) (slots p t.0) ∙ h.unguessed p was
-      ];
+      let_go = off_freed (λ e. e.held) b c place valid slots held h.let_go;
+      unguessed = off_freed (λ e. e.guessed) b c place valid slots unguessed h.unguessed;
+      no_load = off_freed (λ e. e.load) b c place valid slots no_load h.no_load;
       supplied = word is_supplied b.supplied c.supplied supplied h.supplied;
       two = word waits_for_two b.two c.two two h.two;
       contexts = λ k below. free_at (is_of k) b c.slots c.valid place (slice_index b.contexts k) (slice_index c.contexts k) valid slots (λ p t. contexts k p ∙ rw t refl)
@@ -506,35 +511,42 @@ freed_held true false held gone free ready = absurd (true≢false gone)
 freed_held false false held gone free ready = free refl
 
 -- a place that is freed was free, or is in the word
-freed_guess : (valid word guessed : Bool) → (valid && not word) ≡ false → (valid ≡ false → guessed ≡ false) → (guessed && not word) ≡ false
-freed_guess valid true guessed gone free = and_right guessed false refl
-freed_guess true false guessed gone free = absurd (true≢false gone)
-freed_guess false false guessed gone free = ap (λ g. g && true) (free refl)
+freed_flag : (valid word flag : Bool) → (valid && not word) ≡ false → (valid ≡ false → flag ≡ false) → (flag && not word) ≡ false
+freed_flag valid true flag gone free = and_right flag false refl
+freed_flag true false flag gone free = absurd (true≢false gone)
+freed_flag false false flag gone free = ap (λ g. g && true) (free refl)
+
+-- the places of a word are freed, and lose the flag
+off_freed_all : (flag : Entry → Bool) (b c : Places) (word : ℕ) → ((p : ℕ) → flag (slot c.slots p) ≡ (flag (slot b.slots p) && not (has word p))) → ((p : ℕ) → has c.valid p ≡ (has b.valid p && not (has word p)))
+    → IsOffWhereFree flag b.valid b.slots → IsOffWhereFree flag c.valid c.slots
+off_freed_all flag b c word flags valid h p free = flags p ∙ freed_flag (has b.valid p) (has word p) (flag (slot b.slots p)) (sym (valid p) ∙ free) (h p)
 
 -- what is left at a place that is not freed
-pub unguessed_elsewhere : (s t : Slots) (valid less word : ℕ) → ((p : ℕ) → slot t p ≡ record (slot s p) { guessed = (slot s p).guessed && not (has word p) })
+pub unflagged_elsewhere : (s t : Slots) (valid less word : ℕ) → ((p : ℕ) → slot t p ≡ unflagged (has word p) (slot s p))
     → ((p : ℕ) → has less p ≡ (has valid p && not (has word p))) → (p : ℕ) → has less p ≡ true → slot t p ≡ slot s p
-unguessed_elsewhere s t valid less word slots fewer p taken =
+unflagged_elsewhere s t valid less word slots fewer p taken =
+    let e : Entry = slot s p in
     let out : has word p ≡ false = not-true (has word p) (and_parts (has valid p) (not (has word p)) (sym (fewer p) ∙ taken)).1 in
-    slots p ∙ ap (λ g. record (slot s p) { guessed = g }) (ap (λ w. (slot s p).guessed && not w) out ∙ and-true (slot s p).guessed)
+    slots p ∙ ap (λ w. unflagged w e) out ∙ ap₂ (λ g l. record e { guessed = g; load = l }) (and-true e.guessed) (and-true e.load)
 
 -- ready places are freed: no register's word has their bits, and they are not held
-pub freed_in_step : (b c : Places) (word : ℕ) → ((p : ℕ) → slot c.slots p ≡ record (slot b.slots p) { guessed = (slot b.slots p).guessed && not (has word p) }) → c.slots.waiters ≡ b.slots.waiters
+pub freed_in_step : (b c : Places) (word : ℕ) → ((p : ℕ) → slot c.slots p ≡ unflagged (has word p) (slot b.slots p)) → c.slots.waiters ≡ b.slots.waiters
     → ((p : ℕ) → has word p ≡ true → is_ready (slot b.slots p) ≡ true) → ((p : ℕ) → has c.valid p ≡ (has b.valid p && not (has word p)))
     → ((p : ℕ) → has c.supplied p ≡ (has b.supplied p && not (has word p)))
     → ((i p : ℕ) → i < 8 → has (slice_index c.contexts i) p ≡ (has (slice_index b.contexts i) p && not (has word p))) → ((p : ℕ) → has c.two p ≡ (has b.two p && not (has word p))) → InStep b → InStep c
 freed_in_step b c word slots waiters ready valid supplied contexts two h =
-    let less : (test : Entry → Bool) → ((e : Entry) (g : Bool) → test (record e { guessed = g }) ≡ test e) → (old new : ℕ) → ((p : ℕ) → has new p ≡ (has old p && not (has word p))) → IsMask test b.valid b.slots old → IsMask test c.valid c.slots new =
-    λ test unseen old new bits m. mask_kept test c.valid b.slots c.slots new (λ p. ap test (slots p) ∙ unseen (slot b.slots p) ((slot b.slots p).guessed && not (has word p))) (mask_without test b.valid c.valid b.slots word old new valid bits m) in
+    let less : (test : Entry → Bool) → ((gone : Bool) (e : Entry) → test (unflagged gone e) ≡ test e) → (old new : ℕ) → ((p : ℕ) → has new p ≡ (has old p && not (has word p))) → IsMask test b.valid b.slots old → IsMask test c.valid c.slots new =
+    λ test unseen old new bits m. mask_kept test c.valid b.slots c.slots new (λ p. ap test (slots p) ∙ unseen (has word p) (slot b.slots p)) (mask_without test b.valid c.valid b.slots word old new valid bits m) in
     record {
       let_go = λ p free.
           ap (λ e. e.held) (slots p)
           ∙ freed_held (has b.valid p) (has word p) (has b.slots.held p) (sym (valid p) ∙ free) (h.let_go p)
           (λ t. (and_parts (is_supplied (slot b.slots p)) (not (has b.slots.held p)) (ready p t)).1);
-      unguessed = λ p free. ap (λ e. e.guessed) (slots p) ∙ freed_guess (has b.valid p) (has word p) (slot b.slots p).guessed (sym (valid p) ∙ free) (h.unguessed p);
-      two = less waits_for_two (λ e g. refl) b.two c.two two h.two;
-      supplied = less is_supplied (λ e g. refl) b.supplied c.supplied supplied h.supplied;
-      contexts = λ k below. less (is_of k) (λ e g. refl) (slice_index b.contexts k) (slice_index c.contexts k) (λ p. contexts k p below) (h.contexts k below);
+      unguessed = off_freed_all (λ e. e.guessed) b c word (λ p. ap (λ e. e.guessed) (slots p)) valid h.unguessed;
+      no_load = off_freed_all (λ e. e.load) b c word (λ p. ap (λ e. e.load) (slots p)) valid h.no_load;
+      two = less waits_for_two (λ gone e. refl) b.two c.two two h.two;
+      supplied = less is_supplied (λ gone e. refl) b.supplied c.supplied supplied h.supplied;
+      contexts = λ k below. less (is_of k) (λ gone e. refl) (slice_index b.contexts k) (slice_index c.contexts k) (λ p. contexts k p below) (h.contexts k below);
       waiters = λ r below p.
           ap (λ ws. has (slice_index ws r) p) waiters
           ∙ h.waiters r below p

@@ -41,3 +41,10 @@ pub record IsLeast (slots : Slots) (word left least : ℕ) : Type 0 where
 pub record IsOlder (slots : Slots) (word left older stamp : ℕ) : Type 0 where
   pub within : (p : ℕ) → has left p ≡ true → has word p ≡ true
   pub bits : (p : ℕ) → has older p ≡ ((has word p && not (has left p)) && nat_lt (stamp_at slots p) stamp)
+
+-- the word has the contexts of the places of another that are not left, and no other
+pub record AreGathered (slots : Slots) (word left contexts : ℕ) : Type 0 where
+  pub within : (p : ℕ) → has left p ≡ true → has word p ≡ true
+  pub known : (c : ℕ) → has contexts c ≡ true → c < 8
+  pub found : (c : ℕ) → has contexts c ≡ true → (p : ℕ) × (has word p ≡ true) × ((slot slots p).context ≡ c)
+  pub all : (p : ℕ) → has word p ≡ true → (has left p ≡ true) ⊎ (has contexts (slot slots p).context ≡ true)

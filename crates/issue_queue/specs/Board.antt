@@ -1,5 +1,5 @@
 -- Sixty-four places, and words with a bit for each.
-use Rattle.std.specs.Prelude.{◌≡◌, ℕ, ◌<◌, ◌≤◌, Bool, true, false, List, map, filter, length, ◌&&◌, ◌==◌, slice_index, AllPairs}
+use Rattle.std.specs.Prelude.{◌≡◌, ℕ, ◌<◌, ◌≤◌, Bool, true, false, not, List, map, filter, length, ◌&&◌, ◌==◌, slice_index, AllPairs}
 use Rattle.std.specs.List.{list_any}
 use Rattle.issue_queue.specs.declared.places.Places.{Places}
 use Rattle.issue_queue.specs.declared.arrivals.Arrivals.{Arrivals}
@@ -33,14 +33,23 @@ is_of context e = e.context == context
 abbrev pub IsMask : (Entry → Bool) → ℕ → Slots → ℕ → Type 0
 IsMask test valid slots word = (p : ℕ) → has word p ≡ (has valid p && test (slot slots p))
 
--- each word is the mask of its test, and no free place is held or guessed
+-- no free place has the flag
+abbrev pub IsOffWhereFree : (Entry → Bool) → ℕ → Slots → Type 0
+IsOffWhereFree flag valid slots = (p : ℕ) → has valid p ≡ false → flag (slot slots p) ≡ false
+
+-- the entry, neither guessed nor a load where told so
+abbrev pub unflagged : Bool → Entry → Entry
+unflagged flag e = record e { guessed = e.guessed && not flag; load = e.load && not flag }
+
+-- each word is the mask of its test, and no free place is held, guessed or a load
 pub record InStep (b : Places) : Type 0 where
   pub supplied : IsMask is_supplied b.valid b.slots b.supplied
   pub two : IsMask waits_for_two b.valid b.slots b.two
   pub contexts : (c : ℕ) → c < 8 → IsMask (is_of c) b.valid b.slots (slice_index b.contexts c)
   pub waiters : (r : ℕ) → r < 480 → IsMask (waits_for r) b.valid b.slots (slice_index b.slots.waiters r)
-  pub let_go : (p : ℕ) → has b.valid p ≡ false → has b.slots.held p ≡ false
-  pub unguessed : (p : ℕ) → has b.valid p ≡ false → has b.slots.entries.guesses p ≡ false
+  pub let_go : IsOffWhereFree (λ e. e.held) b.valid b.slots
+  pub unguessed : IsOffWhereFree (λ e. e.guessed) b.valid b.slots
+  pub no_load : IsOffWhereFree (λ e. e.load) b.valid b.slots
 
 -- the entries of these places
 abbrev pub listed : Slots → List ℕ → List Entry

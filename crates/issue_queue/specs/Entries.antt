@@ -20,5 +20,6 @@ entry_at s i = record {
   first = slice_index s.firsts i;
   second = slice_index s.seconds i;
   guessed = has s.guesses i;
+  load = has s.loads i;
   speculative = slice_index_or s.speculative i false;
 }

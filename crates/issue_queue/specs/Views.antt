@@ -15,7 +15,7 @@ reads_of q = q.first ∷ q.second ∷ []
 
 -- the entry that stands at a place, held or not, were it to wait for each register that it reads
 abbrev pub as_entry : Bool → Queued → Entry
-as_entry held q = record { stamp = q.stamp; context = q.context; guessed = q.guessed; speculative = q.speculative; held = held; waits = reads_of q }
+as_entry held q = record { stamp = q.stamp; context = q.context; guessed = q.guessed; load = q.load; speculative = q.speculative; held = held; waits = reads_of q }
 
 -- what an order sees
 abbrev pub view_of : Entry → QueueView
@@ -27,7 +27,7 @@ name_of e = record { context = e.context; stamp = e.stamp }
 
 -- a new entry waits for each of its sources that is not ready, and is not held
 abbrev pub entry_of : Waiting → Entry
-entry_of w = record { stamp = w.stamp; context = w.context; guessed = w.guessed; speculative = w.speculative; held = false; waits = filter_map (λ source. source) w.sources }
+entry_of w = record { stamp = w.stamp; context = w.context; guessed = w.guessed; load = w.load; speculative = w.speculative; held = false; waits = filter_map (λ source. source) w.sources }
 
 -- the register of a source, if it has no value yet
 abbrev pub awaited_of : Source → List ℕ
@@ -35,11 +35,11 @@ awaited_of s = if s.awaited then s.register ∷ [] else []
 
 -- a new entry waits for each of its sources that has no value yet, and is not held
 abbrev pub entered : Reading → Entry
-entered r = record { stamp = r.stamp; context = r.context; guessed = r.guessed; speculative = r.speculative; held = false; waits = awaited_of r.first ++ awaited_of r.second }
+entered r = record { stamp = r.stamp; context = r.context; guessed = r.guessed; load = r.load; speculative = r.speculative; held = false; waits = awaited_of r.first ++ awaited_of r.second }
 
 -- what is kept of it at its place
 abbrev pub queued_of : Reading → Queued
-queued_of r = record { stamp = r.stamp; context = r.context; guessed = r.guessed; speculative = r.speculative; first = r.first.register; second = r.second.register }
+queued_of r = record { stamp = r.stamp; context = r.context; guessed = r.guessed; load = r.load; speculative = r.speculative; first = r.first.register; second = r.second.register }
 
 -- one register has a value for both sources or for none
 abbrev pub AreAlike : Reading → Type 0

@@ -18,13 +18,16 @@ pub(crate) struct Entries {
     pub seconds: [PhysicalRegister; 64],
     /// The places of conditional branches and JALRs. None of them is free, so that an entry that enters has no bit to clear.
     pub guesses: u64,
+    /// The places of loads. None of them is free.
+    pub loads: u64,
     pub speculative: [bool; 64],
 }
 
 impl Entries {
     /// Blank entries.
     pub(crate) fn new() -> Entries
-        ensures { result.guesses ≡ 0 }
+        ensures guesses { result.guesses ≡ 0 }
+        ensures loads { result.loads ≡ 0 }
     {
         let [context, ..] = Ctx::all();
         let register = PhysicalRegister::default();
@@ -34,6 +37,7 @@ impl Entries {
             firsts: [register; 64],
             seconds: [register; 64],
             guesses: 0,
+            loads: 0,
             speculative: [false; 64],
         }
     }
@@ -50,15 +54,17 @@ impl Entries {
             first: self.firsts[place],
             second: self.seconds[place],
             guessed: word_mask::has(self.guesses, place),
+            load: word_mask::has(self.loads, place),
             speculative: self.speculative[place],
         }
     }
 
-    /// An entry enters at a place that isn't guessed.
+    /// An entry enters at a place that is neither guessed nor a load.
     #[inline(always)]
     pub(crate) fn write(&mut self, place: usize, entry: Queued)
         requires bound { place < 64 }
         requires unguessed { has self.old.guesses place ≡ false }
+        requires no_load { has self.old.loads place ≡ false }
         ensures { (p : ℕ) → entry_at self.new p ≡ (if p == place then entry else entry_at self.old p) }
     {
         self.stamps[place] = entry.stamp;
@@ -66,6 +72,7 @@ impl Entries {
         self.firsts[place] = entry.first;
         self.seconds[place] = entry.second;
         self.guesses = word_mask::added(self.guesses, place, entry.guessed);
+        self.loads = word_mask::added(self.loads, place, entry.load);
         self.speculative[place] = entry.speculative;
     }
 

@@ -19,6 +19,8 @@ pub struct Waiting {
     pub stamp: u64,
     /// Whether it is a conditional branch or a JALR.
     pub guessed: bool,
+    /// Whether it is a load.
+    pub load: bool,
     /// Whether an older guessed entry of its context has not completed.
     pub speculative: bool,
     /// The physical registers of its sources that are not ready.
@@ -43,6 +45,8 @@ pub struct Reading {
     pub stamp: u64,
     /// Whether it is a conditional branch or a JALR.
     pub guessed: bool,
+    /// Whether it is a load.
+    pub load: bool,
     /// Whether an older guessed entry of its context has not completed.
     pub speculative: bool,
     /// Its first source.
@@ -62,6 +66,7 @@ impl Waiting {
             context: self.context,
             stamp: self.stamp,
             guessed: self.guessed,
+            load: self.load,
             speculative: self.speculative,
             first: source_beside(&first, &second),
             second: source_beside(&second, &first),
@@ -120,6 +125,7 @@ pub(crate) struct Queued {
     pub first: PhysicalRegister,
     pub second: PhysicalRegister,
     pub guessed: bool,
+    pub load: bool,
     pub speculative: bool,
 }
 
@@ -135,6 +141,7 @@ impl Queued {
             second: reading.second.register,
             context: reading.context,
             guessed: reading.guessed,
+            load: reading.load,
             speculative: reading.speculative,
         }
     }

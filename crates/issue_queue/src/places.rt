@@ -238,6 +238,15 @@ impl Places {
         word_mask::without(self.supplied, self.slots.held())
     }
 
+    /// The places of loads that are ready.
+    #[inline(always)]
+    pub(crate) fn ready_loads(&self) -> u64
+        requires { InStep self.now }
+        ensures { IsMask (λ e. is_ready e && e.load) self.now.valid self.now.slots result }
+    {
+        word_mask::both(self.ready(), self.slots.loads())
+    }
+
     /// How many entries are older than the oldest entry of a context, or `None` where it has none.
     pub(crate) fn oldest_place(&self, context: Ctx) -> Option<usize>
         requires { InStep self.now }
@@ -285,6 +294,6 @@ impl Places {
         self.supplied = word_mask::without(self.supplied, word);
         self.two = word_mask::without(self.two, word);
         word_mask::without_each(&mut self.contexts, word);
-        self.slots.unguess(word);
+        self.slots.forget_flags(word);
     }
 }

@@ -1,8 +1,9 @@
 //! The queue.
 
-ghost use Rattle.std.specs.Prelude.{◌≡◌, ◌↔◌, ◌<◌, ◌≤◌, ◌==◌, ◌&&◌, false, [], ◌∷◌, ◌++◌, length, map, filter, not, count_by, IsTrue, IfSome, IsOk, OnOk, OnErr, IfErr};
+ghost use Rattle.std.specs.Prelude.{◌≡◌, ◌↔◌, ℕ, ◌<◌, ◌≤◌, ◌==◌, ◌&&◌, true, false, [], ◌∷◌, ◌++◌, length, map, filter, not, count_by, IsTrue, IfSome, IsOk, OnOk, OnErr, IfErr};
 ghost use Rattle.std.specs.List.{list_any};
-ghost use Rattle.issue_queue.specs.Entry.{is_named};
+ghost use Rattle.word_mask.specs.Mask.{has};
+ghost use Rattle.issue_queue.specs.Entry.{is_named, is_ready_load};
 ghost use Rattle.issue_queue.specs.Board.{waits_for};
 ghost use Rattle.issue_queue.specs.IssueQueue.{awake, with_speculative, with_held, released, is_from};
 ghost use Rattle.issue_queue.specs.IsSelected.{IsSelected};
@@ -217,6 +218,15 @@ impl Queue {
         ensures { result ≡ count_by (λ e. (e.context == context) && e.guessed) self.now.entries }
     {
         self.places.guessed_count(context)
+    }
+
+    /// The contexts that have a ready load, as the bits of a word.
+    #[inline(always)]
+    pub fn contexts_with_ready_load(&self) -> u64
+        ensures known { (c : ℕ) → has result c ≡ true → c < 8 }
+        ensures value { (c : ℕ) → has result c ≡ list_any (is_ready_load c) self.now.entries }
+    {
+        self.places.slots.contexts_of(self.places.ready_loads())
     }
 
     /// How many entries are older than the oldest entry of a context, or `None` where it has none.

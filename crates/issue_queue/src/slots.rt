@@ -3,7 +3,7 @@
 ghost use Rattle.std.specs.Prelude.{◌≡◌, ℕ, ◌<◌, ◌==◌, ◌&&◌, not, true, false, length, slice_index, slice_set, if◌then◌else◌};
 ghost use Rattle.std.specs.List.{list_any};
 ghost use Rattle.word_mask.specs.Mask.{has};
-ghost use Rattle.issue_queue.specs.Board.{slot, waits_for};
+ghost use Rattle.issue_queue.specs.Board.{slot, unflagged, waits_for};
 ghost use Rattle.issue_queue.specs.Entries.{entry_at};
 ghost use Rattle.issue_queue.specs.IssueQueue.{awake, released};
 ghost use Rattle.issue_queue.specs.Views.{AreAlike, awaited_of, entered, reads_of};
@@ -19,7 +19,7 @@ use rename_file::PhysicalRegister;
 pub(crate) struct Slots {
     /// The places of loads that are held. None of them is free, so that an entry that enters has no bit to clear.
     held: u64,
-    /// What entered at each place; at one that is free, what stood there last, as an entry that is not guessed.
+    /// What entered at each place; at one that is free, what stood there last, as an entry that is neither guessed nor a load.
     entries: Entries,
     /// The places that wait for each physical register.
     waiters: [u64; 480],
@@ -72,6 +72,7 @@ impl Slots {
     pub(crate) fn new() -> Slots
         ensures held { result.held ≡ 0 }
         ensures guesses { result.entries.guesses ≡ 0 }
+        ensures loads { result.entries.loads ≡ 0 }
         ensures waiters { (r : ℕ) → r < 480 → slice_index result.waiters r ≡ 0 }
     {
         Slots {
@@ -104,6 +105,31 @@ impl Slots {
         self.entries.guesses
     }
 
+    /// The places whose entries are loads.
+    pub(crate) fn loads(&self) -> u64
+        ensures { (p : ℕ) → has result p ≡ (slot self.now p).load }
+    {
+        self.entries.loads
+    }
+
+    /// The contexts of the entries at the places of a word, as the bits of one.
+    #[inline(always)]
+    pub(crate) fn contexts_of(&self, word: u64) -> u64
+        ensures known { (c : ℕ) → has result c ≡ true → c < 8 }
+        ensures found { (c : ℕ) → has result c ≡ true → (p : ℕ) × (has word p ≡ true) × ((slot self.now p).context ≡ c) }
+        ensures all { (p : ℕ) → has word p ≡ true → has result (slot self.now p).context ≡ true }
+    {
+        let mut contexts = 0u64;
+        let mut left = word;
+        while left != 0 {
+            let place = word_mask::lowest(left);
+            left = word_mask::cleared(left, place);
+            let context = self.at(place).context();
+            contexts = word_mask::assigned(contexts, context.index(), true);
+        }
+        contexts
+    }
+
     /// An entry enters at a place that no word has.
     #[inline(always)]
     pub(crate) fn put(&mut self, place: usize, reading: &Reading)
@@ -111,6 +137,7 @@ impl Slots {
         requires free { (r : ℕ) → has (slice_index self.old.waiters r) place ≡ false }
         requires let_go { has self.old.held place ≡ false }
         requires unguessed { has self.old.entries.guesses place ≡ false }
+        requires no_load { has self.old.entries.loads place ≡ false }
         requires alike { AreAlike reading.now }
         ensures slots { (p : ℕ) → slot self.new p ≡ (if p == place then entered reading.now else slot self.old p) }
         ensures waiters { (r p : ℕ) → has (slice_index self.new.waiters r) p ≡ (if (p == place) && waits_for r (entered reading.now) then true else has (slice_index self.old.waiters r) p) }
@@ -119,24 +146,27 @@ impl Slots {
         add_sources(&mut self.waiters, reading, place);
     }
 
-    /// The bit of a place leaves the word of each register that its entry reads, and that of guessed entries.
+    /// The bit of a place leaves the word of each register that its entry reads, and those of guessed entries and of loads.
     pub(crate) fn forget(&mut self, place: usize)
         requires { place < 64 }
         ensures slots { (p : ℕ) → (p == place) ≡ false → slot self.new p ≡ slot self.old p }
         ensures unguessed { (slot self.new place).guessed ≡ false }
+        ensures no_load { (slot self.new place).load ≡ false }
         ensures waiters { (r p : ℕ) → has (slice_index self.new.waiters r) p ≡ (if (p == place) && list_any (λ w. w == r) (reads_of (entry_at self.old.entries place)) then false else has (slice_index self.old.waiters r) p) }
     {
         let entry = self.entries.read(place);
         clear_sources(&mut self.waiters, &entry, place);
         self.entries.guesses = word_mask::assigned(self.entries.guesses, place, false);
+        self.entries.loads = word_mask::assigned(self.entries.loads, place, false);
     }
 
-    /// The bits of a word leave that of guessed entries.
-    pub(crate) fn unguess(&mut self, word: u64)
-        ensures slots { (p : ℕ) → slot self.new p ≡ record (slot self.old p) { guessed = (slot self.old p).guessed && not (has word p) } }
+    /// The bits of a word leave those of guessed entries and of loads.
+    pub(crate) fn forget_flags(&mut self, word: u64)
+        ensures slots { (p : ℕ) → slot self.new p ≡ unflagged (has word p) (slot self.old p) }
         ensures waiters { self.new.waiters ≡ self.old.waiters }
     {
         self.entries.guesses = word_mask::without(self.entries.guesses, word);
+        self.entries.loads = word_mask::without(self.entries.loads, word);
     }
 
     /// No entry waits for a register any more. Gives the places of those that did.

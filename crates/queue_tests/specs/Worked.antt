@@ -15,20 +15,20 @@ abbrev pub with_x1 : Flow
 with_x1 = set_x1 (set_x1 (first_flow 32 4 8) 0 10) 1 20
 
 -- one more instruction, which waits
-abbrev pub entered : Flow → ℕ → Operands → Bool → Flow
-entered f c o guessed = record (with_lane f c (with_node (lane f c) o)) { waiters = f.waiters ++ record { stamp = o.stamp; context = c; guessed = guessed; speculative = false; held = false } ∷ [] }
+abbrev pub entered : Flow → ℕ → Operands → Bool → Bool → Flow
+entered f c o guessed load = record (with_lane f c (with_node (lane f c) o)) { waiters = f.waiters ++ record { stamp = o.stamp; context = c; guessed = guessed; load = load; speculative = false; held = false } ∷ [] }
 
 -- one of context 0 makes x5 of x1
 abbrev pub of_one : Flow
-of_one = entered with_x1 0 (named 1 5 1 0) false
+of_one = entered with_x1 0 (named 1 5 1 0) false false
 
 -- the next makes x5 of that
 abbrev pub of_two : Flow
-of_two = entered of_one 0 (named 2 5 5 1) true
+of_two = entered of_one 0 (named 2 5 5 1) true false
 
--- one of context 1 makes x6 of x1
+-- a load of context 1 makes x6 of x1
 abbrev pub of_three : Flow
-of_three = entered of_two 1 (named 3 6 1 1) false
+of_three = entered of_two 1 (named 3 6 1 1) false true
 
 -- an instruction has its result
 abbrev pub given : Flow → ℕ → ℕ → ℕ → Flow

@@ -38,15 +38,15 @@ fn with_x1(alloc: Global) -> Result<DataFlow, AllocError>
     Ok(flow)
 }
 
-// In context 0 an instruction makes x5 of x1, and the next makes x5 of that. One of context 1 makes x6 of x1.
+// In context 0 an instruction makes x5 of x1, and the next makes x5 of that. A load of context 1 makes x6 of x1.
 fn of_three(alloc: Global) -> Result<DataFlow, AllocError>
     ensures { IfOk result (λ d. d ≡ of_three) }
 {
     let mut flow = with_x1(alloc)?;
     let [first, second, ..] = Ctx::all();
-    flow.rename_waiting(first, named(1, 5, 1, 0), false, false);
-    flow.rename_waiting(first, named(2, 5, 5, 1), true, false);
-    flow.rename_waiting(second, named(3, 6, 1, 1), false, false);
+    flow.rename_waiting(first, named(1, 5, 1, 0), false, false, false);
+    flow.rename_waiting(first, named(2, 5, 5, 1), true, false, false);
+    flow.rename_waiting(second, named(3, 6, 1, 1), false, true, false);
     Ok(flow)
 }
 
@@ -160,7 +160,9 @@ fn leaves_a_held_one(rt: HostRuntime) {
         panic!(rt; "out of memory");
     };
     let [_, second, ..] = Ctx::all();
+    let let_go = flow.contexts_with_ready_load();
     flow.hold(second, 3, true);
+    assert_eq!(rt; [let_go, flow.contexts_with_ready_load()], [0b10, 0]);
     assert_selected(&rt, &mut flow, &OldestFirst, &[1]);
     flow.hold(second, 3, false);
     assert_selected(&rt, &mut flow, &OldestFirst, &[3]);

@@ -23,6 +23,7 @@ fn waiting(context: Ctx, stamp: u64, sources: [Option<PhysicalRegister>; 2]) -> 
         context,
         stamp,
         guessed: false,
+        load: false,
         speculative: false,
         sources,
     }
@@ -35,6 +36,19 @@ fn put(rt: &impl Abort, queue: &mut Queue, entry: Waiting) {
 
 fn put_ready(rt: &impl Abort, queue: &mut Queue, number: usize, stamp: u64) {
     put(rt, queue, waiting(context(rt, number), stamp, [None, None]));
+}
+
+// A load that waits for a register, or for none.
+fn put_load(
+    rt: &impl Abort,
+    queue: &mut Queue,
+    number: usize,
+    stamp: u64,
+    source: Option<PhysicalRegister>,
+) {
+    let mut load = waiting(context(rt, number), stamp, [source, None]);
+    load.load = true;
+    put(rt, queue, load);
 }
 
 // By an order these are taken, first to last, at most eight.
@@ -154,12 +168,32 @@ fn refuses_where_full(rt: HostRuntime) {
 #[test]
 fn leaves_a_held_entry(rt: HostRuntime) {
     let mut queue = Queue::new(8);
-    put_ready(&rt, &mut queue, 0, 1);
+    put_load(&rt, &mut queue, 0, 1, None);
     put_ready(&rt, &mut queue, 0, 2);
     queue.hold(context(&rt, 0), 1, true);
     assert_selected(&rt, &mut queue, &OldestFirst, &[2]);
     queue.hold(context(&rt, 0), 1, false);
     assert_selected(&rt, &mut queue, &OldestFirst, &[1]);
+}
+
+#[test]
+fn tells_which_contexts_have_a_ready_load(rt: HostRuntime) {
+    let mut queue = Queue::new(8);
+    let address = register(&rt, 40);
+    put_ready(&rt, &mut queue, 0, 1);
+    put_load(&rt, &mut queue, 2, 2, None);
+    put_load(&rt, &mut queue, 6, 3, Some(address));
+    let of_one = queue.contexts_with_ready_load();
+    queue.wake(address);
+    let of_both = queue.contexts_with_ready_load();
+    queue.hold(context(&rt, 2), 2, true);
+    let of_other = queue.contexts_with_ready_load();
+    assert_selected(&rt, &mut queue, &OldestFirst, &[1, 3]);
+    let of_none = queue.contexts_with_ready_load();
+    assert_eq!(rt;
+        [of_one, of_both, of_other, of_none],
+        [0b100, 0b100_0100, 0b100_0000, 0]
+    );
 }
 
 // Five ready entries, by stamp of contexts 2, 2, 5, 0 and 5, the last of them guessed.

@@ -1,21 +1,16 @@
 use Rattle.std.proofs.Common.{true, sym, ap, ◌∙◌}
 use Rattle.core_view.specs.declared.entry.Entry.{Entry}
 use Rattle.core_view.specs.View.{entry_at}
-use Rattle.data_flow.specs.Flow.{lane, sources_at}
 use Rattle.core_context.specs.Issuable.{must_wait}
-use Rattle.core_context.proofs.HeldLoads.{held_remarked, held_waiting, free_waiting, held_other, plain_wait}
+use Rattle.core_context.proofs.HeldLoads.{held_remarked, held_waiting, free_waiting, held_other}
 use Rattle.core_context.proofs.events.hold_load.Goals as goal
 
-pub returns-then-not-is_queued_load-clause-held : goal.returns-then-not-is_queued_load-clause-held
-returns-then-not-is_queued_load-clause-held g c stage =
-    free_waiting c.args.flow.now c.args.context c.args.track.now c.args.place (plain_wait c.args.track.now.context c.args.place (c.is_queued_load.ensures.no c.if-not-is_queued_load.true stage) (sources_at (lane c.args.flow.now c.args.context) c.args.place)) c.requires.let_go
-
 pub returns-in_default-clause-held : goal.returns-in_default-clause-held
-returns-in_default-clause-held g c stage =
+returns-in_default-clause-held g c =
     free_waiting c.args.flow.now c.args.context c.args.track.now c.args.place (ap (must_wait c.args.track.now.context c.args.place) (sym c.sources.ensures ∙ c.in_default.is)) c.requires.let_go
 
 pub returns-then-not-must_wait-clause-held : goal.returns-then-not-must_wait-clause-held
-returns-then-not-must_wait-clause-held g c stage =
+returns-then-not-must_wait-clause-held g c =
     free_waiting c.args.flow.now c.args.context c.args.track.now c.args.place
     (ap (must_wait c.args.track.now.context c.args.place) (sym c.sources.ensures ∙ c.in-Some.is) ∙ sym c.must_wait.ensures ∙ c.if-not-must_wait.true) c.requires.let_go
 
@@ -23,7 +18,7 @@ pub returns-clause-flow : goal.returns-clause-flow
 returns-clause-flow g c = held_remarked c.args.flow.now c.hold.new.self c.args.context c.entry_at-entry.result.stamp true c.hold.ensures
 
 pub returns-clause-held : goal.returns-clause-held
-returns-clause-held g c stage =
+returns-clause-held g c =
     held_waiting c.args.flow.now c.hold.new.self c.args.context c.args.track.now c.args.place c.in-Some.first c.in-Some.second c.must_wait.result c.entry_at-entry.result c.sources.result c.entry_at-entry.ensures c.sources.ensures c.in-Some.is c.must_wait.ensures c.if-not-must_wait.false c.hold.ensures
 
 pub returns-clause-others : goal.returns-clause-others

@@ -3,7 +3,13 @@ use Rattle.std.specs.Prelude.{MatchOption}
 use Rattle.flight.specs.Marked.{is_waiting_load}
 use Rattle.flight.specs.Flights.{NoneFrom, IsNext}
 use Rattle.data_flow.specs.Flow.{Lane}
-use Rattle.core_context.proofs.HeldLoads.{remarked_lane, held_first, held_next, held_skip, held_all}
+use Rattle.core_context.proofs.HeldLoads.{remarked_lane, held_first, held_next, held_skip, held_all, none_stored_held}
+use Rattle.core_context.proofs.WaiterMarks.{remark_none}
+use Rattle.std.proofs.lemmas.Bool.{and_parts}
+use Rattle.core_view.specs.Flight.{is_queued}
+use Rattle.core_view.specs.Operations.{is_load}
+use Rattle.core_view.specs.View.{entry_at}
+use Rattle.core_context.proofs.Waiting.{queued_stage}
 use Rattle.core_context.proofs.events.hold_loads.Goals as goal
 use Rattle.core_context.proofs.events.hold_loads.Goals.{then-holds, else-holds}
 
@@ -23,7 +29,7 @@ loop-turn-preserved g c =
     let here = held_skip c.args.flow.now c.loop-turn.flow c.args.context c.args.track.now c.loop-turn.from c.in-Some.place c.loop-turn.holds c.loop-turn.invariant.below next.after next.first in
     record {
       below = held_next c.args.flow.now c.loop-turn.flow c.hold_load-held.new.flow c.args.context c.args.track.now c.in-Some.place c.loop-turn.holds c.hold_load-held.result c.if-holds.holds here next.within (c.requires.answered c.in-Some.place renamed).growing
-          c.hold_load-held.ensures.flow c.hold_load-held.ensures.held c.hold_load-held.ensures.others c.hold_load-held.ensures.none (elim c.if-holds.branch [
+          c.hold_load-held.ensures.flow (λ stage. c.hold_load-held.ensures.held) c.hold_load-held.ensures.others c.hold_load-held.ensures.none (elim c.if-holds.branch [
             | then-holds w ↦ w.holds-is ∙ w.if-holds.true ∙ sym (ap (λ b. b || c.hold_load-held.result) w.if-holds.true)
             | else-holds w ↦ w.holds-is ∙ sym (ap (λ b. b || c.hold_load-held.result) w.if-holds.false)
           ]);
@@ -58,3 +64,14 @@ returns-clause-others g c = c.loop-turn.invariant.below.others
 
 pub returns-clause-none : goal.returns-clause-none
 returns-clause-none g c = c.loop-turn.invariant.below.none
+
+pub returns-then-has_no_store-clause-held : goal.returns-then-has_no_store-clause-held
+returns-then-has_no_store-clause-held g c = none_stored_held c.args.flow.now c.args.context c.args.track.now c.requires.answered c.requires.let_go (c.has_no_store.ensures c.if-has_no_store.true)
+
+pub returns-then-has_no_store-clause-flow : goal.returns-then-has_no_store-clause-flow
+returns-then-has_no_store-clause-flow g c = remark_none c.args.flow.now
+
+pub hold_load-held-requires-clause-queued : goal.hold_load-held-requires-clause-queued
+hold_load-held-requires-clause-queued g c =
+    let e = entry_at c.args.track.now.context c.in-Some.place in
+    queued_stage e.stage (and_parts (is_queued e.stage) (is_load e.operation) c.in-Some.ensures.next.passes).0

@@ -12,6 +12,6 @@ returns-clause-flow g c =
     let f = c.args.flow.now in
     let r = c.args.track.now in
     let spec = c.has_uncompleted_guess-speculative.result in
-    renamed_waiting f c.rename_waiting-2.new.self c.args.context c.entry_at-entry.result c.operands.result spec c.is_guessed-guessed.result c.operands.ensures (ap (λ (e : Entry). stops_at_fetch e.operation) here ∙ c.requires.goes) c.is_guessed-guessed.ensures c.rename_waiting-2.ensures
+    renamed_waiting f c.rename_waiting-2.new.self c.args.context c.entry_at-entry.result c.operands.result spec c.is_guessed-guessed.result c.is_load-load.result c.operands.ensures (ap (λ (e : Entry). stops_at_fetch e.operation) here ∙ c.requires.goes) c.is_guessed-guessed.ensures c.is_load-load.ensures c.rename_waiting-2.ensures
     ∙ ap (λ (x : Entry). renamed_flow f c.args.context x spec) here
     ∙ ap (λ (b : Bool). renamed_flow f c.args.context (entry_at r.context r.renamed) b) c.has_uncompleted_guess-speculative.ensures

@@ -1,9 +1,7 @@
-use Rattle.std.proofs.Common.{◌≡◌, ℕ, ◌<◌, get_or, ◌||◌, sym, ap, subst, arith, refl, ◌∙◌, false}
+use Rattle.std.proofs.Common.{◌≡◌, ℕ, ◌||◌, sym, ap, subst, arith, refl, ◌∙◌}
 use Rattle.std.specs.Prelude.{◌==◌, ◌&&◌, not}
 use Rattle.word_mask.specs.Mask.{has}
 use Rattle.core_context.proofs.Laws.{core_answered}
-use Rattle.core_context.specs.Issuable.{HoldsNone}
-use Rattle.core_back.specs.Machine.{no_track}
 use Rattle.core_back.proofs.MachineIssues.{held_first, context_next, held_nodes, held_next, selected_machine, selected_shown, selected_choice}
 use Rattle.core_back.proofs.machine.Machine.select.Goals as goal
 use Rattle.core_back.proofs.machine.Machine.select.Goals.{then-self, else-self}
@@ -16,8 +14,7 @@ loop-left-init g c = record {
   machine = c.self.inside;
   shows = c.self.view_is;
   ok = c.self.invariant;
-  so_far = held_first c.self.inside _ c.holding-left.result c.self.invariant c.release.ensures c.holding-left.ensures.known
-      (subst (λ ts. (d : ℕ) → d < 8 → has c.holding-left.result d ≡ false → HoldsNone (get_or ts d no_track)) c.as_slice.ensures.value c.holding-left.ensures.none) refl refl refl refl refl refl;
+  so_far = held_first c.self.inside _ c.args.self.now c.contexts_with_ready_load-left.result c.self.view_is c.self.invariant c.requires.idle c.release.ensures c.contexts_with_ready_load-left.ensures.known c.contexts_with_ready_load-left.ensures.lacking refl refl refl refl refl refl;
 }
 
 pub first_context-context-requires-clause-known : goal.first_context-context-requires-clause-known

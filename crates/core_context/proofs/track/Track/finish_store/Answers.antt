@@ -1,11 +1,10 @@
-use Rattle.std.proofs.Common.{List, ◌≡◌, ◌<◌, ap, sym, refl, subst, ◌∙◌, length, get_or, slice_get, Some}
+use Rattle.std.proofs.Common.{List, ◌≡◌, ◌<◌, ap, sym, refl, subst, ◌∙◌, length, get_or}
 use Rattle.std.specs.Prelude.{set}
 use Rattle.std.proofs.lemmas.Option.{slice_get-get_or}
 use Rattle.flight.specs.Flights.{Flight, execution_of}
 use Rattle.core_view.specs.declared.entry.Stage.TheVariants.{Issued}
 use Rattle.core_view.specs.declared.entry.Entry.{Entry}
 use Rattle.core_view.specs.Outcomes.{image_of}
-use Rattle.core_view.specs.Operations.{is_store}
 use Rattle.core_view.specs.Flight.{seen_of, IsSound}
 use Rattle.core_view.specs.Events.{completed_entry}
 use Rattle.core_view.specs.View.{no_entry, entry_at}

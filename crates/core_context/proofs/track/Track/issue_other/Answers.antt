@@ -1,13 +1,8 @@
-use Rattle.std.proofs.Common.{List, ◌≡◌, ap, sym, refl, ◌∙◌, false}
+use Rattle.std.proofs.Common.{◌≡◌, ap, refl}
 use Rattle.std.specs.Prelude.{set}
-use Rattle.std.proofs.lemmas.Option.{slice_get-get_or}
 use Rattle.flight.specs.Flights.{Flight, entry_in}
-use Rattle.core_view.specs.declared.entry.Stage.TheVariants.{Queued, Issued}
-use Rattle.core_view.specs.declared.entry.Entry.{Entry}
-use Rattle.core_view.specs.Operations.{is_load}
-use Rattle.core_view.specs.Queues.{loads_of, stores_of}
+use Rattle.core_view.specs.declared.entry.Stage.TheVariants.{Issued}
 use Rattle.core_view.specs.Events.{with_stage}
-use Rattle.core_view.specs.View.{no_entry}
 use Rattle.core_context.proofs.Ends.{end_set}
 use Rattle.core_context.proofs.track.Track.issue_other.Goals as goal
 

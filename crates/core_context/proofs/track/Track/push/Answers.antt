@@ -1,7 +1,6 @@
-use Rattle.std.proofs.Common.{List, ◌≡◌, true, ap, sym, ◌∙◌}
+use Rattle.std.proofs.Common.{◌≡◌, true, ap, ◌∙◌}
 use Rattle.std.specs.Prelude.{not, ◌&&◌}
 use Rattle.flight.specs.Flights.{Flight}
-use Rattle.core_view.specs.declared.entry.Entry.{Entry}
 use Rattle.core_view.specs.Operations.{stops_at_fetch}
 use Rattle.core_view.specs.Flight.{is_open}
 use Rattle.core_context.proofs.Ends.{end_push}

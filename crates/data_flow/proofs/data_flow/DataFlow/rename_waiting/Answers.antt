@@ -30,7 +30,7 @@ pub invariant_of-self : goal.invariant_of-self
 invariant_of-self g c =
     let h = here c.self.inside c.args.self.now c.args.context c.index.result c.index-self-index.result c.self.view_is c.self.invariant c.index.ensures.value c.index.ensures.bound in
     let found = get_or c.self.inside.renamed c.index.result c.index-self-index.result in
-    let k = rename_wait_leaves c.self.inside c.args.self.now c.args.context c.index.result c.args.operands found c.push.new.self c.named-newest.result c.named-newest.new.registers c.args.guessed c.args.speculative c.put_in.new.queue
+    let k = rename_wait_leaves c.self.inside c.args.self.now c.args.context c.index.result c.args.operands found c.push.new.self c.named-newest.result c.named-newest.new.registers c.args.guessed c.args.load c.args.speculative c.put_in.new.queue
     c.self.view_is c.self.invariant h c.named-newest.ensures.new c.requires.younger c.push.ensures c.named-newest.ensures.banks c.named-newest.ensures.cells c.put_in.ensures in
     record { file = c.named-newest.ensures.file c.self.invariant.file; tied = k.tied; waiting = k.waiting }
 
@@ -38,6 +38,6 @@ pub returns : goal.returns
 returns g c =
     let h = here c.self.inside c.args.self.now c.args.context c.index.result c.index-self-index.result c.self.view_is c.self.invariant c.index.ensures.value c.index.ensures.bound in
     let found = get_or c.self.inside.renamed c.index.result c.index-self-index.result in
-    let k = rename_wait_leaves c.self.inside c.args.self.now c.args.context c.index.result c.args.operands found c.push.new.self c.named-newest.result c.named-newest.new.registers c.args.guessed c.args.speculative c.put_in.new.queue
+    let k = rename_wait_leaves c.self.inside c.args.self.now c.args.context c.index.result c.args.operands found c.push.new.self c.named-newest.result c.named-newest.new.registers c.args.guessed c.args.load c.args.speculative c.put_in.new.queue
     c.self.view_is c.self.invariant h c.named-newest.ensures.new c.requires.younger c.push.ensures c.named-newest.ensures.banks c.named-newest.ensures.cells c.put_in.ensures in
     k.shows

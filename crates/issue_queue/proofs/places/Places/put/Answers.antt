@@ -14,6 +14,9 @@ put-requires-clause-let_go c = c.requires.step.let_go c.args.place c.requires.fr
 pub put-requires-clause-unguessed : goal.put-requires-clause-unguessed
 put-requires-clause-unguessed c = c.requires.step.unguessed c.args.place c.requires.free
 
+pub put-requires-clause-no_load : goal.put-requires-clause-no_load
+put-requires-clause-no_load c = c.requires.step.no_load c.args.place c.requires.free
+
 pub returns-clause-step : goal.returns-clause-step
 returns-clause-step c =
     let b = c.args.self.now in

@@ -8,5 +8,5 @@ pub returns-clause-step : goal.returns-clause-step
 returns-clause-step c =
     let b = c.args.self.now in
     let other : (p : ℕ) → has b.valid p ≡ false → (p == c.args.place) ≡ false = λ p free. ne_eqb p c.args.place (λ same. true≢false (sym c.requires.set ∙ ap (has b.valid) (sym same) ∙ free)) in
-    unseen_in_step (λ e. record e { held = c.args.held }) (λ e. refl) (λ e. refl) (λ e. refl) (λ p. p == c.args.place) b _ refl refl refl c.set_held.ensures.waiters refl c.set_held.ensures.slots
+    unseen_in_step (λ e. record e { held = c.args.held }) (λ e. refl) (λ e. refl) (λ e. refl) (λ e. refl) (λ p. p == c.args.place) b _ refl refl refl c.set_held.ensures.waiters refl c.set_held.ensures.slots
     (λ p free. inr (other p free)) c.requires.step
