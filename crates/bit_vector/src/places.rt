@@ -54,12 +54,12 @@ pub fn without_first(word: u64) -> u64
     word >> 1
 }
 
-/// Four words without their first bits.
+/// Eight words without their first bits.
 #[inline(always)]
-pub fn without_first_of_each(words: [u64; 4]) -> [u64; 4]
-    ensures { (i : ℕ) (bits : List Bool) → i < 4 → slice_index words i ≡ mask_l bits → slice_index result i ≡ mask_l (drop 1 bits) }
+pub fn without_first_of_each(words: [u64; 8]) -> [u64; 8]
+    ensures { (i : ℕ) (bits : List Bool) → i < 8 → slice_index words i ≡ mask_l bits → slice_index result i ≡ mask_l (drop 1 bits) }
 {
-    let shifted = u64x4::from_array(words) >> u64x4::splat(1);
+    let shifted = u64x8::from_array(words) >> u64x8::splat(1);
     shifted.to_array()
 }
 

@@ -1,5 +1,5 @@
 -- The words of the kinds.
-use Rattle.std.proofs.Common.{◌≡◌, ◌≢◌, ℕ, zero, suc, ◌<◌, ◌≤◌, Bool, true, List, [], ◌∷◌, ◌++◌, length, take, map, set, get_or, refl, sym, ◌∙◌, ap, arith, bit_and}
+use Rattle.std.proofs.Common.{◌≡◌, ◌≢◌, ℕ, zero, suc, ◌<◌, ◌≤◌, Bool, true, List, [], ◌∷◌, ◌++◌, length, map, set, get_or, refl, sym, ◌∙◌, ap, arith, bit_and}
 use Rattle.std.specs.Prelude.{◌==◌, ◌&&◌, not}
 use Rattle.std.specs.Int.{bit_not, w64}
 use Rattle.std.specs.Simd.Lanes.{mask_l}
@@ -8,24 +8,24 @@ use Rattle.core_view.specs.declared.entry.Entry.{Entry}
 use Rattle.core_view.specs.Kinds.{kind_index, kind_of}
 use Rattle.core_view.proofs.KindTests.{load-kind}
 use Rattle.core_view.specs.Flight.{is_queued}
-use Rattle.flight.specs.declared.marks.Marks.{Marks}
-use Rattle.flight.specs.Marked.{word_of, kinds_of, marks_of, is_of_kind, is_waiting, is_waiting_load}
+use Rattle.flight.specs.Marked.{word_of, kinds_of, is_of_kind, is_waiting, is_waiting_load}
 use Rattle.flight.specs.Flights.{entry_in}
-use Rattle.flight.proofs.Words.{word-push, word-unset, word-same, word-take, word-both, word-without}
+use Rattle.flight.proofs.Words.{word-push, word-unset, word-same, word-both, word-without}
 
 -- ---- six words
 
 abbrev six : (ℕ → ℕ) → List ℕ
 six f = map f (0 ∷ 1 ∷ 2 ∷ 3 ∷ 4 ∷ 5 ∷ [])
 
-at : (f : ℕ → ℕ) (k : ℕ) → k < 6 → get_or (six f) k 0 ≡ f k
-at f zero lt = refl
-at f (suc zero) lt = refl
-at f (suc (suc zero)) lt = refl
-at f (suc (suc (suc zero))) lt = refl
-at f (suc (suc (suc (suc zero)))) lt = refl
-at f (suc (suc (suc (suc (suc zero))))) lt = refl
-at f (suc (suc (suc (suc (suc (suc k)))))) lt = absurd (omega arith)
+-- the word of a place, with more words after the six
+at : (f : ℕ → ℕ) (more : List ℕ) (k : ℕ) → k < 6 → get_or (six f ++ more) k 0 ≡ f k
+at f more zero lt = refl
+at f more (suc zero) lt = refl
+at f more (suc (suc zero)) lt = refl
+at f more (suc (suc (suc zero))) lt = refl
+at f more (suc (suc (suc (suc zero)))) lt = refl
+at f more (suc (suc (suc (suc (suc zero))))) lt = refl
+at f more (suc (suc (suc (suc (suc (suc k)))))) lt = absurd (omega arith)
 
 each : (f g : ℕ → ℕ) → ((k : ℕ) → f k ≡ g k) → six f ≡ six g
 each f g h = rw (h 0) (rw (h 1) (rw (h 2) (rw (h 3) (rw (h 4) (rw (h 5) refl)))))
@@ -37,15 +37,15 @@ with_word f zero r (suc j) = f (suc j)
 with_word f (suc k) r zero = f zero
 with_word f (suc k) r (suc j) = with_word (λ i. f (suc i)) k r j
 
-put : (f : ℕ → ℕ) (k r : ℕ) → k < 6 → set (six f) k r ≡ six (with_word f k r)
+put : (f : ℕ → ℕ) (more : List ℕ) (k r : ℕ) → k < 6 → set (six f ++ more) k r ≡ six (with_word f k r) ++ more
 unfolding with_word
-put f zero r lt = refl
-put f (suc zero) r lt = refl
-put f (suc (suc zero)) r lt = refl
-put f (suc (suc (suc zero))) r lt = refl
-put f (suc (suc (suc (suc zero)))) r lt = refl
-put f (suc (suc (suc (suc (suc zero))))) r lt = refl
-put f (suc (suc (suc (suc (suc (suc k)))))) r lt = absurd (omega arith)
+put f more zero r lt = refl
+put f more (suc zero) r lt = refl
+put f more (suc (suc zero)) r lt = refl
+put f more (suc (suc (suc zero))) r lt = refl
+put f more (suc (suc (suc (suc zero)))) r lt = refl
+put f more (suc (suc (suc (suc (suc zero))))) r lt = refl
+put f more (suc (suc (suc (suc (suc (suc k)))))) r lt = absurd (omega arith)
 
 with_word-is : (f g : ℕ → ℕ) (k r : ℕ) → r ≡ g k → ((j : ℕ) → j ≢ k → f j ≡ g j) → (j : ℕ) → with_word f k r j ≡ g j
 unfolding with_word
@@ -57,39 +57,26 @@ with_word-is f g (suc k) r here other (suc j) = with_word-is (λ i. f (suc i)) (
 -- ---- events
 
 -- the word of a kind
-pub kind-word : (es : List Entry) (ks : List ℕ) (k : ℕ) → ks ≡ kinds_of es → k < 6 → get_or ks k 0 ≡ word_of (is_of_kind k) es
-kind-word es ks k is lt = ap (λ ws. get_or ws k 0) is ∙ at (λ j. word_of (is_of_kind j) es) k lt
+pub kind-word : (es : List Entry) (more ws : List ℕ) (k : ℕ) → ws ≡ kinds_of es ++ more → k < 6 → get_or ws k 0 ≡ word_of (is_of_kind k) es
+kind-word es more ws k is lt = ap (λ vs. get_or vs k 0) is ∙ at (λ j. word_of (is_of_kind j) es) more k lt
 
 -- one more entry has its bit in the word of its kind
-pub kinds-push : (es : List Entry) (e : Entry) (ks : List ℕ) (k place r : ℕ) → ks ≡ kinds_of es → place ≡ length es → k ≡ kind_index (kind_of e.operation) → k < 6 →
-    ((ms : List Bool) → get_or ks k 0 ≡ mask_l ms → place ≡ length ms → r ≡ mask_l (ms ++ true ∷ [])) → set ks k r ≡ kinds_of (es ++ e ∷ [])
-kinds-push es e ks k place r is end kind lt h =
-    let here = word-push (is_of_kind k) es e (get_or ks k 0) r place true (kind-word es ks k is lt) end (sym (eq-eqb _ _ (sym kind))) h in
-    ap (λ ws. set ws k r) is ∙ put (λ j. word_of (is_of_kind j) es) k r lt
-    ∙ each _ _ (with_word-is (λ j. word_of (is_of_kind j) es) (λ j. word_of (is_of_kind j) (es ++ e ∷ [])) k r here
-    (λ j ne. word-unset (is_of_kind j) es e _ refl (ne_eqb _ j (λ same. ne (sym same ∙ sym kind)))))
-
--- the oldest entries
-abbrev Takes : ℕ → ℕ → ℕ → Type 0
-Takes n w r = (ms : List Bool) → w ≡ mask_l ms → length ms ≤ 64 → r ≡ mask_l (take n ms)
-
-pub kinds-take : (es : List Entry) (ks : List ℕ) (n a b c d e f : ℕ) → ks ≡ kinds_of es → length es ≤ 64 →
-    Takes n (get_or ks 0 0) a → Takes n (get_or ks 1 0) b → Takes n (get_or ks 2 0) c → Takes n (get_or ks 3 0) d → Takes n (get_or ks 4 0) e → Takes n (get_or ks 5 0) f →
-    (a ∷ b ∷ c ∷ d ∷ e ∷ f ∷ []) ≡ kinds_of (take n es)
-kinds-take es ks n a b c d e f is short pa pb pc pd pe pf =
-    rw (one 0 a (omega arith) pa) (rw (one 1 b (omega arith) pb) (rw (one 2 c (omega arith) pc) (rw (one 3 d (omega arith) pd) (rw (one 4 e (omega arith) pe) (rw (one 5 f (omega arith) pf) refl)))))
-  where
-    one : (k r : ℕ) → k < 6 → Takes n (get_or ks k 0) r → r ≡ word_of (is_of_kind k) (take n es)
-    one k r lt h = word-take (is_of_kind k) es (get_or ks k 0) r n (kind-word es ks k is lt) short h
+pub kinds-push : (es : List Entry) (e : Entry) (more ws : List ℕ) (k place r : ℕ) → ws ≡ kinds_of es ++ more → place ≡ length es → k ≡ kind_index (kind_of e.operation) → k < 6 →
+    ((ms : List Bool) → get_or ws k 0 ≡ mask_l ms → place ≡ length ms → r ≡ mask_l (ms ++ true ∷ [])) → set ws k r ≡ kinds_of (es ++ e ∷ []) ++ more
+kinds-push es e more ws k place r is end kind lt h =
+    let here = word-push (is_of_kind k) es e (get_or ws k 0) r place true (kind-word es more ws k is lt) end (sym (eq-eqb _ _ (sym kind))) h in
+    ap (λ vs. set vs k r) is ∙ put (λ j. word_of (is_of_kind j) es) more k r lt
+    ∙ ap (λ ks. ks ++ more) (each _ _ (with_word-is (λ j. word_of (is_of_kind j) es) (λ j. word_of (is_of_kind j) (es ++ e ∷ [])) k r here
+    (λ j ne. word-unset (is_of_kind j) es e _ refl (ne_eqb _ j (λ same. ne (sym same ∙ sym kind))))))
 
 -- another entry with the operation of the one that it replaces
-pub kinds-same : (es : List Entry) (e : Entry) (ks : List ℕ) (place : ℕ) → ks ≡ kinds_of es → (entry_in es place).operation ≡ e.operation → ks ≡ kinds_of (set es place e)
-kinds-same es e ks place is same = is ∙ each _ _ (λ k. word-same (is_of_kind k) es e _ place refl (ap (λ o. kind_index (kind_of o) == k) (sym same)))
+pub kinds-same : (es : List Entry) (e : Entry) (place : ℕ) → (entry_in es place).operation ≡ e.operation → kinds_of es ≡ kinds_of (set es place e)
+kinds-same es e place same = each _ _ (λ k. word-same (is_of_kind k) es e _ place refl (ap (λ o. kind_index (kind_of o) == k) (sym same)))
 
 -- ---- what waits and what is open
 
-pub waiting-loads : (m : Marks) (es : List Entry) (w : ℕ) → m ≡ marks_of es → w ≡ word_of (is_of_kind 3) es → bit_and m.waiting w ≡ word_of is_waiting_load es
-waiting-loads m es w is loads = ap (λ v. bit_and m.waiting v) loads ∙ ap (λ (n : Marks). bit_and n.waiting (word_of (is_of_kind 3) es)) is
+pub waiting-loads : (es : List Entry) (v w : ℕ) → v ≡ word_of is_waiting es → w ≡ word_of (is_of_kind 3) es → bit_and v w ≡ word_of is_waiting_load es
+waiting-loads es v w waits loads = ap (bit_and v) loads ∙ ap (λ n. bit_and n (word_of (is_of_kind 3) es)) waits
     ∙ word-both is_waiting (is_of_kind 3) is_waiting_load (λ e. ap (λ b. is_queued e.stage && b) (load-kind e.operation)) es
 
 -- those of a kind that pass a test, and those that don't

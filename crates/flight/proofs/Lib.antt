@@ -4,3 +4,4 @@ mod Freed
 mod Kept
 mod Ahead
 mod KindWords
+mod EightWords

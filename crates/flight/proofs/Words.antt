@@ -22,10 +22,6 @@ use Rattle.flight.specs.declared.marks.Marks.{Marks}
 use Rattle.flight.specs.Marked.{word_of, marks_of, missed_at_issue, is_load_that_missed, has_completed}
 use Rattle.flight.specs.Flights.{entry_in}
 
-pub four : (k k' : List ℕ) (a b c a' b' c' : ℕ) → k ≡ k' → a ≡ a' → b ≡ b' → c ≡ c' →
-    ◌≡◌ {A = Marks} record { kinds = k; waiting = a; missed_loads = b; done = c } record { kinds = k'; waiting = a'; missed_loads = b'; done = c' }
-four k k' a b c a' b' c' pk pa pb pc = rw pk (rw pa (rw pb (rw pc refl)))
-
 bit-entry : (p : Entry → Bool) (es : List Entry) (i : ℕ) → i < length es → get_or (map p es) i false ≡ p (entry_in es i)
 bit-entry p [] i lt = absurd (omega arith)
 bit-entry p (e ∷ es) zero lt = refl
@@ -181,8 +177,8 @@ missed-is e = go (is_load e.operation) e.stage
     go true (Issued x) = sym (and-all x.miss)
     go true (Done x) = sym (and-none x.miss)
 
-pub missed-word : (m : Marks) (es : List Entry) → m ≡ marks_of es → length es ≤ 64 → bit_and m.missed_loads (bit_not w64 m.done) ≡ word_of is_missed_load es
-missed-word m es is short = ap (λ (n : Marks). bit_and n.missed_loads (bit_not w64 n.done)) is ∙ word-without is_load_that_missed has_completed is_missed_load missed-is es short
+pub missed-word : (m : Marks) (es : List Entry) → m ≡ marks_of es → length es ≤ 64 → bit_and (get_or m.words 7 0) (bit_not w64 m.done) ≡ word_of is_missed_load es
+missed-word m es is short = ap (λ (n : Marks). bit_and (get_or n.words 7 0) (bit_not w64 n.done)) is ∙ word-without is_load_that_missed has_completed is_missed_load missed-is es short
 
 pub count-tests : (p : Entry → Bool) (es : List Entry) → count_by (λ b. b) (map p es) ≡ count_by p es
 count-tests p [] = refl

@@ -313,7 +313,7 @@ impl<A: Allocator> Flight<A> {
         ensures next { MatchOption result (NoneFrom is_waiting self.now.entries from) (λ place. IsNext is_waiting self.now.entries from place) }
         ensures renamed { IfSome result (λ place. place < self.now.renamed) }
     {
-        self.next_marked(self.marks.waiting, from)
+        self.next_marked(self.marks.waiting(), from)
     }
 
     /// The first place from one on whose entry is a load that waits for issue.
@@ -323,15 +323,6 @@ impl<A: Allocator> Flight<A> {
         ensures renamed { IfSome result (λ place. place < self.now.renamed) }
     {
         self.next_marked(self.marks.waiting_loads(), from)
-    }
-
-    /// Whether a renamed entry is a load that waits for issue.
-    #[inline(always)]
-    pub fn has_waiting_load(&self) -> bool
-        ensures value { result ≡ list_any is_waiting_load (take self.now.renamed self.now.entries) }
-        ensures none { result ≡ false → NoneFrom is_waiting_load self.now.entries 0 }
-    {
-        self.marks.waiting_loads() != 0
     }
 
     /// How many renamed entries are of a kind.
@@ -448,7 +439,7 @@ impl<A: Allocator> Flight<A> {
         ensures waits { (i : ℕ) → bit_at result i ≡ 1 → is_waiting (entry_in self.now.entries i) ≡ true }
         ensures none_open { (i : ℕ) → bit_at result i ≡ 1 → NoneOpenBelow self.now.entries i }
     {
-        both(self.marks.waiting, up_to_first(self.marks.open_guesses()))
+        both(self.marks.waiting(), up_to_first(self.marks.open_guesses()))
     }
 
     /// The first place from one on whose entry is due in a cycle. Bits of what was cut are cleared on the way.

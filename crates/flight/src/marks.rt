@@ -1,6 +1,6 @@
 //! The words of a flight.
 
-ghost use Rattle.std.specs.Prelude.{◌≡◌, false, ◌&&◌, ◌<◌, ◌≤◌, List, [], ◌∷◌, ◌++◌, length, take, drop, slice_set, count_by};
+ghost use Rattle.std.specs.Prelude.{◌≡◌, ℕ, false, ◌&&◌, ◌<◌, ◌≤◌, List, [], ◌∷◌, ◌++◌, length, take, drop, slice_set, count_by};
 ghost use Rattle.core_view.specs.declared.entry.Entry.{Entry};
 ghost use Rattle.core_view.specs.declared.entry.Execution.{Execution};
 ghost use Rattle.core_view.specs.declared.entry.Stage.TheVariants.{Queued, Issued, Done};
@@ -13,15 +13,17 @@ ghost use Rattle.flight.specs.Flights.{entry_in};
 use bit_vector::{assign, count, first, push, without_first, without_first_of_each};
 use core_view::{Entry, OperationKind, Stage};
 
+/// The word after those of the six kinds: it waits for issue.
+const WAITING: usize = 6;
+/// The one after that: it is a load that was issued and missed, done or not.
+const MISSED_LOADS: usize = 7;
+
 /// A bit a renamed entry, bit 0 for the oldest.
 #[derive(Clone, Copy)]
 pub(crate) struct Marks {
-    /// A word a kind of operation: it is of this kind.
-    pub(crate) kinds: [u64; 6],
-    /// It waits for issue.
-    pub(crate) waiting: u64,
-    /// It is a load that was issued and missed, done or not.
-    pub(crate) missed_loads: u64,
+    // A word a kind of operation: it is of this kind. Then the two named above. They stand side by side since a retirement
+    // shifts them as whole vectors: what is stored in halves and read back whole waits in the processor.
+    words: [u64; 8],
     /// It is done.
     pub(crate) done: u64,
 }
@@ -32,9 +34,7 @@ impl Marks {
         ensures { result ≡ marks_of [] }
     {
         Marks {
-            kinds: [0; 6],
-            waiting: 0,
-            missed_loads: 0,
+            words: [0; 8],
             done: 0,
         }
     }
@@ -45,9 +45,10 @@ impl Marks {
         requires { place < 64 }
         ensures { (es : List Entry) → self.old ≡ marks_of es → place ≡ length es → self.new ≡ marks_of (es ++ entry.now ∷ []) }
     {
-        push_kind(&mut self.kinds, place, entry);
-        self.waiting = push(self.waiting, place, is_waiting(entry));
-        self.missed_loads = push(self.missed_loads, place, is_load_that_missed(entry));
+        push_kind(&mut self.words, place, entry);
+        self.words[WAITING] = push(self.words[WAITING], place, is_waiting(entry));
+        let missed = is_load_that_missed(entry);
+        self.words[MISSED_LOADS] = push(self.words[MISSED_LOADS], place, missed);
         self.done = push(self.done, place, entry.stage.is_done());
     }
 
@@ -58,8 +59,8 @@ impl Marks {
         ensures { (es : List Entry) → self.old ≡ marks_of es → place ≡ length es → entry.now.stage ≡ Queued → self.new ≡ marks_of (es ++ entry.now ∷ []) }
     {
         // The other bits at the place are clear already.
-        push_kind(&mut self.kinds, place, entry);
-        self.waiting = push(self.waiting, place, true);
+        push_kind(&mut self.words, place, entry);
+        self.words[WAITING] = push(self.words[WAITING], place, true);
     }
 
     /// With an entry at a place that has issued, where it waited.
@@ -69,8 +70,9 @@ impl Marks {
         ensures { (es : List Entry) (x : Execution) → self.old ≡ marks_of es → (entry_in es place).stage ≡ Queued → (entry_in es place).operation ≡ entry.now.operation → entry.now.stage ≡ Issued x →
             place < length es → length es ≤ 64 → self.new ≡ marks_of (slice_set es place entry.now) }
     {
-        self.waiting = assign(self.waiting, place, false);
-        self.missed_loads = assign(self.missed_loads, place, is_load_that_missed(entry));
+        self.words[WAITING] = assign(self.words[WAITING], place, false);
+        let missed = is_load_that_missed(entry);
+        self.words[MISSED_LOADS] = assign(self.words[MISSED_LOADS], place, missed);
     }
 
     /// With another entry at a place, which is no load and has issued, where it waited.
@@ -80,8 +82,8 @@ impl Marks {
         ensures { (es : List Entry) (e : Entry) (x : Execution) → self.old ≡ marks_of es → (entry_in es place).stage ≡ Queued → (entry_in es place).operation ≡ e.operation → is_load e.operation ≡ false → e.stage ≡ Issued x →
             place < length es → length es ≤ 64 → self.new ≡ marks_of (slice_set es place e) }
     {
-        let waiting = self.waiting;
-        self.waiting = assign(waiting, place, false);
+        let waiting = self.words[WAITING];
+        self.words[WAITING] = assign(waiting, place, false);
     }
 
     /// With another entry at a place, which was issued and is done now: it waits neither before nor after.
@@ -99,17 +101,7 @@ impl Marks {
     pub(crate) fn retire(&mut self)
         ensures { (es : List Entry) → self.old ≡ marks_of es → self.new ≡ marks_of (drop 1 es) }
     {
-        let [plain, jump, guessed, load, store, stop] = self.kinds;
-        let [plain, jump, guessed, load] = without_first_of_each([plain, jump, guessed, load]);
-        let [store, stop, waiting, missed_loads] = without_first_of_each([
-            store,
-            stop,
-            self.waiting,
-            self.missed_loads,
-        ]);
-        self.kinds = [plain, jump, guessed, load, store, stop];
-        self.waiting = waiting;
-        self.missed_loads = missed_loads;
+        self.words = without_first_of_each(self.words);
         self.done = without_first(self.done);
     }
 
@@ -118,17 +110,17 @@ impl Marks {
     pub(crate) fn keep(&mut self, count: usize)
         ensures { (es : List Entry) → self.old ≡ marks_of es → length es ≤ 64 → self.new ≡ marks_of (take count es) }
     {
-        let [plain, jump, guessed, load, store, stop] = self.kinds;
-        self.kinds = [
+        let [plain, jump, guessed, load, store, stop, waiting, missed] = self.words;
+        self.words = [
             first(plain, count),
             first(jump, count),
             first(guessed, count),
             first(load, count),
             first(store, count),
             first(stop, count),
+            first(waiting, count),
+            first(missed, count),
         ];
-        self.waiting = first(self.waiting, count);
-        self.missed_loads = first(self.missed_loads, count);
         self.done = first(self.done, count);
     }
 
@@ -137,7 +129,15 @@ impl Marks {
     pub(crate) fn of_kind(&self, kind: OperationKind) -> u64
         ensures { (es : List Entry) → self.now ≡ marks_of es → result ≡ word_of (is_of_kind (kind_index kind)) es }
     {
-        self.kinds[kind.index()]
+        self.words[kind.index()]
+    }
+
+    /// A word of those that wait for issue.
+    #[inline(always)]
+    pub(crate) fn waiting(&self) -> u64
+        ensures { (es : List Entry) → self.now ≡ marks_of es → result ≡ word_of is_waiting es }
+    {
+        self.words[WAITING]
     }
 
     /// A word of the loads that wait for issue.
@@ -145,7 +145,7 @@ impl Marks {
     pub(crate) fn waiting_loads(&self) -> u64
         ensures { (es : List Entry) → self.now ≡ marks_of es → length es ≤ 64 → result ≡ word_of is_waiting_load es }
     {
-        self.waiting & self.of_kind(OperationKind::Load)
+        self.waiting() & self.of_kind(OperationKind::Load)
     }
 
     /// A word of the loads that have issued.
@@ -153,7 +153,7 @@ impl Marks {
     pub(crate) fn issued_loads(&self) -> u64
         ensures { (es : List Entry) → self.now ≡ marks_of es → length es ≤ 64 → result ≡ word_of is_issued_load es }
     {
-        self.of_kind(OperationKind::Load) & !self.waiting
+        self.of_kind(OperationKind::Load) & !self.waiting()
     }
 
     /// A word of the stores that have completed.
@@ -177,18 +177,19 @@ impl Marks {
     pub(crate) fn missed_count(&self) -> usize
         ensures { (es : List Entry) → self.now ≡ marks_of es → length es ≤ 64 → result ≡ count_by is_missed_load es }
     {
-        count(self.missed_loads & !self.done)
+        count(self.words[MISSED_LOADS] & !self.done)
     }
 }
 
-/// The word of an entry's kind gets its bit, the youngest. The bits of the other kinds at its place are clear already.
+/// The word of an entry's kind gets its bit, the youngest. The bits of the other kinds at its place are clear already, and
+/// the words after those of the kinds stay.
 #[inline(always)]
-fn push_kind(kinds: &mut [u64; 6], place: usize, entry: &Entry)
+fn push_kind(words: &mut [u64; 8], place: usize, entry: &Entry)
     requires { place < 64 }
-    ensures { (es : List Entry) → kinds.old ≡ kinds_of es → place ≡ length es → kinds.new ≡ kinds_of (es ++ entry.now ∷ []) }
+    ensures { (es : List Entry) (others : List ℕ) → words.old ≡ kinds_of es ++ others → place ≡ length es → words.new ≡ kinds_of (es ++ entry.now ∷ []) ++ others }
 {
     let kind = entry.operation.kind().index();
-    kinds[kind] = push(kinds[kind], place, true);
+    words[kind] = push(words[kind], place, true);
 }
 
 /// Whether an entry waits for issue.

@@ -1,13 +1,16 @@
-use Rattle.std.proofs.Common.{ap}
+use Rattle.std.proofs.Common.{[], ◌∷◌, ◌++◌, set, get_or, ap, refl}
 use Rattle.flight.specs.declared.marks.Marks.{Marks}
-use Rattle.flight.specs.Marked.{is_waiting, is_load_that_missed, has_completed}
-use Rattle.flight.proofs.Words.{four, word-push}
+use Rattle.flight.specs.Marked.{word_of, is_waiting, is_load_that_missed, has_completed}
+use Rattle.flight.proofs.EightWords.{marks-of-parts}
+use Rattle.flight.proofs.Words.{word-push}
 use Rattle.flight.proofs.marks.Marks.push.Goals as goal
 
 pub returns : goal.returns
 returns c es e at =
-    four _ _ _ _ _ _ _ _
-    (c.push_kind.ensures es (ap (λ (m : Marks). m.kinds) e) at)
-    (word-push is_waiting es c.args.entry.now _ _ _ _ (ap (λ (m : Marks). m.waiting) e) at c.is_waiting.ensures c.push-self.ensures)
-    (word-push is_load_that_missed es c.args.entry.now _ _ _ _ (ap (λ (m : Marks). m.missed_loads) e) at c.is_load_that_missed.ensures c.push-self-2.ensures)
-    (word-push has_completed es c.args.entry.now _ _ _ _ (ap (λ (m : Marks). m.done) e) at c.is_done.ensures c.push-self-3.ensures)
+    let pushed = c.push_kind.ensures es (word_of is_waiting es ∷ word_of is_load_that_missed es ∷ []) (ap (λ (m : Marks). m.words) e) at in
+    marks-of-parts (es ++ c.args.entry.now ∷ []) _ _ _ _ _
+    (ap (λ ws. set (set ws 6 c.push.result) 7 c.push-2.result) pushed)
+    refl
+    (word-push is_waiting es c.args.entry.now _ _ _ _ (ap (λ ws. get_or ws 6 0) pushed) at c.is_waiting.ensures c.push.ensures)
+    (word-push is_load_that_missed es c.args.entry.now _ _ _ _ (ap (λ ws. get_or (set ws 6 c.push.result) 7 0) pushed) at c.is_load_that_missed-missed.ensures c.push-2.ensures)
+    (word-push has_completed es c.args.entry.now _ _ _ _ (ap (λ (m : Marks). m.done) e) at c.is_done.ensures c.push-self.ensures)
