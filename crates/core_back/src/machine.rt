@@ -1,6 +1,6 @@
 //! Eight contexts, and the data flow that they share.
 
-ghost use Rattle.std.specs.Prelude.{◌≡◌, ℕ, ◌+◌, ◌-◌, ◌<◌, ◌≤◌, ◌^◌, ◌&&◌, ◌==◌, false, not, length, drop, count_by, slice_get, slice_index, slice_index_or, [], IfOk, IfSome, IsSome, MatchOption, Some, None, true, is_some, option_map, IsTrue, ◌↔◌};
+ghost use Rattle.std.specs.Prelude.{◌≡◌, ℕ, ◌+◌, ◌-◌, ◌<◌, ◌≤◌, ◌^◌, ◌&&◌, ◌==◌, false, not, length, drop, count_by, slice_get, slice_index, [], IfOk, IfSome, IsSome, MatchOption, Some, None, true, is_some, option_map, IsTrue, ◌↔◌};
 ghost use Rattle.core_view.specs.declared.outcome.Outcome.TheVariants.{Stops};
 ghost use Rattle.core_view.specs.Events.{retire_event, stop_event, complete_event};
 ghost use Rattle.core_view.specs.Operations.{is_guessed};
@@ -9,7 +9,7 @@ ghost use Rattle.lawful_cycle.specs.Rename.{CanRename, of_all, oldest_fetched};
 ghost use Rattle.core_view.specs.Flight.{is_queued, is_missed_load, is_open};
 ghost use Rattle.lawful_cycle.specs.Fetch.{is_fetched, is_eligible, oldest_place};
 ghost use Rattle.origin_set.specs.Start.{start};
-ghost use Rattle.core_back.specs.Machine.{IsAlike, context_at, in_flight, with_context, with_cycle, no_track, IsNextOf};
+ghost use Rattle.core_back.specs.Machine.{IsAlike, context_at, in_flight, with_context, with_cycle, IsNextOf};
 ghost use Rattle.flight.specs.Flights.{execution_of, IsIssued as IsIssuedStage, is_due, NoneFrom, IsNext};
 ghost use Rattle.core_context.specs.Heads.{IsGoing, first_done, step_on};
 ghost use Rattle.core_back.specs.Selected.{IsChosen};
@@ -33,6 +33,7 @@ use core_view::{Entry, EntryId, Issue, Outcome, Status};
 use data_flow::DataFlow;
 use data_tags::{Delay, Lag};
 use hart_step::Stop;
+use hint::unwrap_unchecked;
 use issue_queue::Order;
 use join_law::{Ctx, Eight};
 use listing::Listing;
@@ -589,7 +590,7 @@ pub(crate) fn first_context(word: u64) -> Ctx
     requires known { (c : ℕ) → has word c ≡ true → c < 8 }
     ensures { has word result ≡ true }
 {
-    Ctx::new(word_mask::lowest(word)).unwrap()
+    unwrap_unchecked(Ctx::new(word_mask::lowest(word)))
 }
 
 /// An entry that issued, and its lag.

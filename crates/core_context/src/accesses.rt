@@ -15,6 +15,7 @@ use core_view::{loads_at, stores_at};
 use data_tags::{Delay, Kind, Lag};
 use entry_stages::{ONE_CYCLE, due_after, lag_of, refused, span_of};
 use hart_step::Effect;
+use hint::assert_unchecked;
 use join_law::Ctx;
 use load_store_queue::LoadAnswer;
 use rv64_decode::{LoadKind, StoreWidth};
@@ -51,7 +52,9 @@ pub(crate) fn perform_load<A: Allocator, D: Delay>(
             return ONE_CYCLE;
         }
     };
-    let LoadAnswer::Ready { value } = track.ask(place, span_of(kind, address), number) else {
+    let answer = track.ask(place, span_of(kind, address), number);
+    assert_unchecked(matches!(answer, LoadAnswer::Ready { .. }));
+    let LoadAnswer::Ready { value } = answer else {
         unreachable!();
     };
     let outcome = loads_at(pc, kind, address, value);

@@ -442,7 +442,7 @@ fn issue_at<A: Allocator, D: Delay>(
     ensures keeps { D.may_answer delay.new ≡ D.may_answer delay.old }
     ensures keeps_greatest { D.greatest_lag delay.new ≡ D.greatest_lag delay.old }
 {
-    let values = flow.sources(context, place).unwrap();
+    let values = flow.read_sources(context, place);
     perform(track, place, values, context, cycle, delay)
 }
 
@@ -462,7 +462,7 @@ fn issue_apart<A: Allocator, D: Delay>(
     ensures keeps { D.may_answer delay.new ≡ D.may_answer delay.old }
     ensures keeps_greatest { D.greatest_lag delay.new ≡ D.greatest_lag delay.old }
 {
-    let values = flow.sources(context, place).unwrap();
+    let values = flow.read_sources(context, place);
     let entry = track.entry_at(place);
     let operation = *entry.operation.operation();
     perform_apart(

@@ -8,6 +8,7 @@ use core_back::Machine;
 use join_law::Ctx;
 use std::alloc::Allocator;
 use std::marker::Model;
+use std::simd::prelude::*;
 use word_mask::{added, cleared, lowest};
 
 /// The stamps of the contexts' oldest fetched entries: no others can be renamed. The greatest number, which is no entry's
@@ -72,8 +73,8 @@ impl Fronts {
         ensures least { (d stamp : ℕ) → d < 8 → get_or self.new d None ≡ Some stamp → result ≤ stamp }
         ensures above { (h : IsLeast self.old context) → h.stamp ≤ result }
     {
+        let left = least(&without(&self.stamps, context));
         self.stamps[context.index()] = u64::MAX;
-        let left = least(&self.stamps);
         left.number
     }
 
@@ -118,6 +119,18 @@ pub(crate) fn has_stop<A: Allocator>(machine: &Machine<A>) -> bool
         left = cleared(left, place);
     }
     false
+}
+
+/// Eight numbers, with the greatest of 64 bits in place of a context's.
+// Made beside what is kept: to read eight numbers as vectors right after one of them is written waits for it.
+#[inline(always)]
+fn without(numbers: &[u64; 8], context: Ctx) -> [u64; 8]
+    ensures { result ≡ slice_set numbers.now context 18446744073709551615 }
+{
+    let places = u64x8::from_array([0, 1, 2, 3, 4, 5, 6, 7]);
+    let here = places.simd_eq(u64x8::splat(context.index() as u64));
+    let left = here.select(u64x8::splat(u64::MAX), u64x8::from_array(*numbers));
+    left.to_array()
 }
 
 /// A number among eight, and its place.

@@ -1,5 +1,6 @@
 -- What the sources of an instruction at a place give.
 use Rattle.std.proofs.Common.{◌≡◌, ℕ, ◌<◌, Bool, true, false, not, List, length, get_or, slice_get, Option, Some, None, refl, sym, ap, subst, ◌∙◌}
+use Rattle.std.specs.Prelude.{IsSome}
 use Rattle.std.specs.Option.{option_map}
 use Rattle.std.proofs.lemmas.Option.{get_or_from_slice_get, slice_get_within}
 use Rattle.rename_file.specs.File.{bank}
@@ -10,10 +11,10 @@ use Rattle.data_flow.specs.declared.operands.Slot.{Slot}
 use Rattle.data_flow.specs.declared.data_flow.DataFlow.TheInside.{Inside}
 use Rattle.data_flow.specs.Flow.{Lane, Flow, lane, seen_at, both, sources_at}
 use Rattle.data_flow.specs.Slots.{slot_of}
-use Rattle.data_flow.specs.Wired.{cell_of, IsWiredUp}
+use Rattle.data_flow.specs.Wired.{cell_of, flow, IsWiredUp}
 use Rattle.data_flow.proofs.Ties.{Reads, reads}
 use Rattle.data_flow.proofs.Cells.{sources_used, used_is_cell}
-use Rattle.data_flow.proofs.Places.{Here}
+use Rattle.data_flow.proofs.Places.{Here, here}
 
 -- ---- an instruction that was found
 
@@ -73,6 +74,11 @@ has_sources d now c k i found s up h slot =
       given = given d.registers.cells (lane now c) i n (rw h.lane_is (rw at.is at read));
     })
 
+-- the same of a call that finds the instruction by the context's number
+pub sources_found : {A : Type 0} (d : Inside A) (now : Flow) (c k i : ℕ) (e : Buffer Renamed) (s : Slot) → flow d ≡ now → IsWiredUp d → k ≡ c → k < 8 → option_map slot_of (slice_get (get_or d.renamed k e).items i) ≡ Some s → HasSources d.registers.cells (lane now c) i s
+sources_found d now c k i e s shows up index below there =
+    has_sources d now c k i (get_or d.renamed k e) s up (here d now c k e shows up index below) (read_at (get_or d.renamed k e) i s there)
+
 both_none : (a : Option ℕ) → both a None ≡ None
 both_none None = refl
 both_none (Some v) = refl
@@ -85,6 +91,15 @@ none_second cells l i s has e = has.given ∙ ap (both (cell_of cells s.first)) 
 
 some_both : (cells : List (Option ℕ)) (l : Lane) (i a b : ℕ) (s : Slot) → HasSources cells l i s → cell_of cells s.first ≡ Some a → cell_of cells s.second ≡ Some b → sources_at l i ≡ Some (a, b)
 some_both cells l i a b s has e f = has.given ∙ ap (λ x. both x (cell_of cells s.second)) e ∙ ap (both (Some a)) f
+
+both_there : (a b : Option ℕ) → IsSome (both a b) → IsSome a × IsSome b
+both_there None b some = absurd cc
+both_there (Some a) None some = absurd cc
+both_there (Some a) (Some b) some = (refl, refl)
+
+-- where both values are there, each register has its own
+pub each_there : (cells : List (Option ℕ)) (l : Lane) (i : ℕ) (s : Slot) → HasSources cells l i s → IsSome (sources_at l i) → IsSome (cell_of cells s.first) × IsSome (cell_of cells s.second)
+each_there cells l i s has some = both_there (cell_of cells s.first) (cell_of cells s.second) (subst IsSome has.given some)
 
 -- the same of what was answered
 pub missing_first : (cells : List (Option ℕ)) (l : Lane) (i : ℕ) (s : Slot) (answer : Option (ℕ × ℕ)) → HasSources cells l i s → None ≡ cell_of cells s.first → answer ≡ None → answer ≡ sources_at l i

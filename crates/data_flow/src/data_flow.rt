@@ -92,6 +92,20 @@ impl<A: Allocator> DataFlow<A> {
         Some((first, second))
     }
 
+    /// The values of the sources of the instruction at a place, which are both there.
+    // Without a test, which every instruction that issues would take.
+    #[inline(always)]
+    pub fn read_sources(&self, context: Ctx, place: usize) -> (u64, u64)
+        requires place { place < length (lane self.now context).nodes }
+        requires supplied { IsSome (sources_at (lane self.now context) place) }
+        ensures { Some result ≡ sources_at (lane self.now context) place }
+    {
+        let renamed = self.renamed[context.index()].at(place);
+        let first = self.registers.read(renamed.first);
+        let second = self.registers.read(renamed.second);
+        (first, second)
+    }
+
     /// One more instruction of a context, the youngest.
     pub fn rename(&mut self, context: Ctx, operands: Operands)
         requires younger { All (λ n. n.operands.stamp < operands.stamp) (lane self.old context).nodes }

@@ -6,6 +6,7 @@ ghost use Rattle.entry_stages.specs.Mispredicted.{is_mispredicted_by};
 
 use core_view::{Entry, Outcome, Stage};
 use flight::Flight;
+use hint::assert_unchecked;
 use std::alloc::Allocator;
 
 /// Whether the next pc of an issued entry was guessed, and wrongly: then nothing younger is kept.
@@ -13,6 +14,7 @@ pub fn is_mispredicted(entry: &Entry) -> bool
     requires { IsIssued entry.now.stage }
     ensures { result ≡ is_mispredicted_by entry.now (execution_of entry.now.stage).outcome }
 {
+    assert_unchecked(matches!(entry.stage, Stage::Issued { .. }));
     let Stage::Issued { execution } = entry.stage else {
         unreachable!();
     };

@@ -7,6 +7,7 @@ ghost use Rattle.entry_stages.specs.Heads.{IsGoing, done_outcome, step_on};
 
 use core_view::{Entry, Outcome, Stage, Step};
 use hart_step::Stop;
+use hint::assert_unchecked;
 use rv64_decode::Register;
 
 /// The step of an entry that is done with one.
@@ -15,9 +16,11 @@ pub fn step_of(entry: &Entry) -> &Step
     requires { IsGoing (done_outcome entry.now.stage) }
     ensures { result.now ≡ step_on (done_outcome entry.now.stage) }
 {
+    assert_unchecked(matches!(entry.stage, Stage::Done { .. }));
     let Stage::Done { execution } = &entry.stage else {
         unreachable!();
     };
+    assert_unchecked(matches!(execution.outcome, Outcome::Goes { .. }));
     let Outcome::Goes { step } = &execution.outcome else {
         unreachable!();
     };
@@ -31,6 +34,7 @@ pub fn stop_of(entry: &Entry) -> Option<Stop>
     ensures goes { result ≡ None → IsGoing (done_outcome entry.now.stage) }
     ensures stops { IfSome result (λ why. done_outcome entry.now.stage ≡ Some (Stops why)) }
 {
+    assert_unchecked(matches!(entry.stage, Stage::Done { .. }));
     let Stage::Done { execution } = &entry.stage else {
         unreachable!();
     };

@@ -1,6 +1,5 @@
 -- Eight ranks as the lanes of a vector.
 use Rattle.std.proofs.Common.{◌≡◌, ℕ, zero, suc, ◌+◌, ◌*◌, ◌-◌, ◌%◌, ◌<◌, ◌≤◌, inl, inr, true, false, cond, nat_eq, nat_lt, nat_le, List, [], ◌∷◌, ◌++◌, map, length, get_or, bit_and, refl, sym, ap, subst, ◌∙◌, arith, w16}
-use Rattle.std.specs.Prelude.{set}
 use Rattle.std.specs.Simd.Lanes.{zip2, sel_l, top}
 use Rattle.std.proofs.lemmas.Simd.{get_or-zip2, get_or-replicate, get_or-sel_l, tops_compared, length-zip2}
 use Rattle.std.proofs.lemmas.Nat.{and_mask}
@@ -89,34 +88,6 @@ rank_at xs cycle c eight lt small =
     get_or-zip2 (λ a b. (a + b) % 65536) (zip2 mul xs (8 ∷ 8 ∷ 8 ∷ 8 ∷ 8 ∷ 8 ∷ 8 ∷ 8 ∷ [])) (bit_and ((8 + (65536 - cycle % 8)) % 65536) 7 ∷ bit_and ((9 + (65536 - cycle % 8)) % 65536) 7 ∷ bit_and ((10 + (65536 - cycle % 8)) % 65536) 7 ∷ bit_and ((11 + (65536 - cycle % 8)) % 65536) 7 ∷ bit_and ((12 + (65536 - cycle % 8)) % 65536) 7 ∷ bit_and ((13 + (65536 - cycle % 8)) % 65536) 7 ∷ bit_and ((14 + (65536 - cycle % 8)) % 65536) 7 ∷ bit_and ((15 + (65536 - cycle % 8)) % 65536) 7 ∷ []) c 0 0 0 (omega (arith, long, lt)) lt
     ∙ ap (λ n. (n + get_or (bit_and ((8 + (65536 - cycle % 8)) % 65536) 7 ∷ bit_and ((9 + (65536 - cycle % 8)) % 65536) 7 ∷ bit_and ((10 + (65536 - cycle % 8)) % 65536) 7 ∷ bit_and ((11 + (65536 - cycle % 8)) % 65536) 7 ∷ bit_and ((12 + (65536 - cycle % 8)) % 65536) 7 ∷ bit_and ((13 + (65536 - cycle % 8)) % 65536) 7 ∷ bit_and ((14 + (65536 - cycle % 8)) % 65536) 7 ∷ bit_and ((15 + (65536 - cycle % 8)) % 65536) 7 ∷ []) c 0) % 65536) scaled
     ∙ rank_in (key_in xs c) c (cycle % 8) (get_or (bit_and ((8 + (65536 - cycle % 8)) % 65536) 7 ∷ bit_and ((9 + (65536 - cycle % 8)) % 65536) 7 ∷ bit_and ((10 + (65536 - cycle % 8)) % 65536) 7 ∷ bit_and ((11 + (65536 - cycle % 8)) % 65536) 7 ∷ bit_and ((12 + (65536 - cycle % 8)) % 65536) 7 ∷ bit_and ((13 + (65536 - cycle % 8)) % 65536) 7 ∷ bit_and ((14 + (65536 - cycle % 8)) % 65536) 7 ∷ bit_and ((15 + (65536 - cycle % 8)) % 65536) 7 ∷ []) c 0) small lt (below_8 cycle) (turns_at cycle c lt)
-
--- ---- without one
-
-eight_of : (xs : List ℕ) → length xs ≡ 8 → xs ≡ get_or xs 0 0 ∷ get_or xs 1 0 ∷ get_or xs 2 0 ∷ get_or xs 3 0 ∷ get_or xs 4 0 ∷ get_or xs 5 0 ∷ get_or xs 6 0 ∷ get_or xs 7 0 ∷ []
-eight_of [] long = absurd cc
-eight_of (a ∷ []) long = absurd cc
-eight_of (a ∷ b ∷ []) long = absurd cc
-eight_of (a ∷ b ∷ c ∷ []) long = absurd cc
-eight_of (a ∷ b ∷ c ∷ d ∷ []) long = absurd cc
-eight_of (a ∷ b ∷ c ∷ d ∷ e ∷ []) long = absurd cc
-eight_of (a ∷ b ∷ c ∷ d ∷ e ∷ f ∷ []) long = absurd cc
-eight_of (a ∷ b ∷ c ∷ d ∷ e ∷ f ∷ g ∷ []) long = absurd cc
-eight_of (a ∷ b ∷ c ∷ d ∷ e ∷ f ∷ g ∷ h ∷ []) long = refl
-eight_of (a ∷ b ∷ c ∷ d ∷ e ∷ f ∷ g ∷ h ∷ i ∷ xs) long = absurd (omega (arith, long))
-
-pub without_one : (xs : List ℕ) (n : ℕ) → length xs ≡ 8 → n < 8 → sel_l (top 15 (cond (nat_eq 0 n) 65535 0) ∷ top 15 (cond (nat_eq 1 n) 65535 0) ∷ top 15 (cond (nat_eq 2 n) 65535 0) ∷ top 15 (cond (nat_eq 3 n) 65535 0) ∷ top 15 (cond (nat_eq 4 n) 65535 0) ∷ top 15 (cond (nat_eq 5 n) 65535 0) ∷ top 15 (cond (nat_eq 6 n) 65535 0) ∷ top 15 (cond (nat_eq 7 n) 65535 0) ∷ []) (65528 ∷ 65528 ∷ 65528 ∷ 65528 ∷ 65528 ∷ 65528 ∷ 65528 ∷ 65528 ∷ []) xs ≡ set xs n 65528
-without_one xs n eight lt = subst (λ ys. sel_l (top 15 (cond (nat_eq 0 n) 65535 0) ∷ top 15 (cond (nat_eq 1 n) 65535 0) ∷ top 15 (cond (nat_eq 2 n) 65535 0) ∷ top 15 (cond (nat_eq 3 n) 65535 0) ∷ top 15 (cond (nat_eq 4 n) 65535 0) ∷ top 15 (cond (nat_eq 5 n) 65535 0) ∷ top 15 (cond (nat_eq 6 n) 65535 0) ∷ top 15 (cond (nat_eq 7 n) 65535 0) ∷ []) (65528 ∷ 65528 ∷ 65528 ∷ 65528 ∷ 65528 ∷ 65528 ∷ 65528 ∷ 65528 ∷ []) ys ≡ set ys n 65528) (sym (eight_of xs eight)) (here n lt)
-  where
-    here : (n : ℕ) → n < 8 → sel_l (top 15 (cond (nat_eq 0 n) 65535 0) ∷ top 15 (cond (nat_eq 1 n) 65535 0) ∷ top 15 (cond (nat_eq 2 n) 65535 0) ∷ top 15 (cond (nat_eq 3 n) 65535 0) ∷ top 15 (cond (nat_eq 4 n) 65535 0) ∷ top 15 (cond (nat_eq 5 n) 65535 0) ∷ top 15 (cond (nat_eq 6 n) 65535 0) ∷ top 15 (cond (nat_eq 7 n) 65535 0) ∷ []) (65528 ∷ 65528 ∷ 65528 ∷ 65528 ∷ 65528 ∷ 65528 ∷ 65528 ∷ 65528 ∷ []) (get_or xs 0 0 ∷ get_or xs 1 0 ∷ get_or xs 2 0 ∷ get_or xs 3 0 ∷ get_or xs 4 0 ∷ get_or xs 5 0 ∷ get_or xs 6 0 ∷ get_or xs 7 0 ∷ []) ≡ set (get_or xs 0 0 ∷ get_or xs 1 0 ∷ get_or xs 2 0 ∷ get_or xs 3 0 ∷ get_or xs 4 0 ∷ get_or xs 5 0 ∷ get_or xs 6 0 ∷ get_or xs 7 0 ∷ []) n 65528
-    here zero lt = refl
-    here (suc zero) lt = refl
-    here (suc (suc zero)) lt = refl
-    here (suc (suc (suc zero))) lt = refl
-    here (suc (suc (suc (suc zero)))) lt = refl
-    here (suc (suc (suc (suc (suc zero))))) lt = refl
-    here (suc (suc (suc (suc (suc (suc zero)))))) lt = refl
-    here (suc (suc (suc (suc (suc (suc (suc zero))))))) lt = refl
-    here (suc (suc (suc (suc (suc (suc (suc (suc n)))))))) lt = absurd (omega (arith, lt))
 
 -- ---- without those of full front lists
 

@@ -5,6 +5,7 @@ pub mod Leasts
 pub mod Looks
 pub mod NextBelow
 pub mod Picked
+pub mod WithoutOne
 pub mod WithoutPlaces
 pub mod Alike
 pub mod Laws

@@ -24,6 +24,7 @@ use bit_vector::{
     both, clear_slot, count, has_from, has_more, last, lowest, next, set_slot, turn, up_to_first,
 };
 use core_view::{Entry, Execution, OperationKind, Outcome, Stage};
+use hint::{assert_unchecked, unwrap_unchecked};
 use reorder_buffer::Ring;
 use std::alloc::{AllocError, Allocator, Global};
 use std::marker::Model;
@@ -230,9 +231,7 @@ impl<A: Allocator> Flight<A> {
         requires { 0 < self.old.renamed }
         ensures { self.new ≡ retired_one self.old }
     {
-        let Some(_oldest) = self.ring.retire() else {
-            unreachable!();
-        };
+        let _oldest = unwrap_unchecked(self.ring.retire());
         self.marks.retire();
         self.renamed -= 1;
         self.base = self.base.wrapping_add(1);
@@ -541,10 +540,7 @@ fn at<A: Allocator>(ring: &Ring<Entry, A>, place: usize) -> &Entry
     requires { place < length ring.now.items }
     ensures { result.now ≡ entry_in ring.now.items place }
 {
-    let Some(entry) = ring.get(place) else {
-        unreachable!();
-    };
-    entry
+    unwrap_unchecked(ring.get(place))
 }
 
 /// An entry as it is renamed, where it doesn't stop at fetch.
@@ -565,9 +561,8 @@ fn push_in<A: Allocator>(ring: &mut Ring<Entry, A>, entry: Entry)
     requires younger { All (λ e. e.stamp < entry.stamp) ring.old.items }
     ensures { ring.new ≡ buffer (ring.old.items ++ entry ∷ []) ring.old.capacity }
 {
-    let Ok(_pushed) = ring.push(entry) else {
-        unreachable!();
-    };
+    let pushed = ring.push(entry);
+    assert_unchecked(pushed.is_ok());
 }
 
 /// An entry takes the place of one with its stamp.
@@ -591,6 +586,7 @@ fn complete_in<A: Allocator>(ring: &mut Ring<Entry, A>, place: usize) -> u64
     ensures due { result ≡ (execution_of (entry_in ring.old.items place).stage).due }
 {
     let entry = *at(ring, place);
+    assert_unchecked(matches!(entry.stage, Stage::Issued { .. }));
     let Stage::Issued { execution } = entry.stage else {
         unreachable!();
     };

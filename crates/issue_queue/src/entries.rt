@@ -9,17 +9,18 @@ use join_law::Ctx;
 use rename_file::PhysicalRegister;
 
 // An array for each field: an entry has no padding to clear, its place takes no multiplication, and what is read apart
-// is loaded alone.
+// is loaded alone. The words of loads and of guesses stand apart: side by side they are made a vector of at each entry,
+// which takes more than two words do.
 #[derive(Drop)]
 pub(crate) struct Entries {
     pub stamps: [u64; 64],
     pub contexts: [Ctx; 64],
+    /// The places of loads. None of them is free.
+    pub loads: u64,
     pub firsts: [PhysicalRegister; 64],
     pub seconds: [PhysicalRegister; 64],
     /// The places of conditional branches and JALRs. None of them is free, so that an entry that enters has no bit to clear.
     pub guesses: u64,
-    /// The places of loads. None of them is free.
-    pub loads: u64,
     pub speculative: [bool; 64],
 }
 
@@ -34,10 +35,10 @@ impl Entries {
         Entries {
             stamps: [0; 64],
             contexts: [context; 64],
+            loads: 0,
             firsts: [register; 64],
             seconds: [register; 64],
             guesses: 0,
-            loads: 0,
             speculative: [false; 64],
         }
     }

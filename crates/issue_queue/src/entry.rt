@@ -167,13 +167,6 @@ impl Queued {
         self.stamp
     }
 
-    /// Whether it is a conditional branch or a JALR.
-    pub(crate) fn is_guessed(&self) -> bool
-        ensures { result ≡ self.now.guessed }
-    {
-        self.guessed
-    }
-
     /// What an order sees of it.
     pub(crate) fn view(&self) -> QueueView
         ensures { result ≡ view_of (as_entry false self.now) }

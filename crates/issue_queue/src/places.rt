@@ -18,18 +18,21 @@ use join_law::Ctx;
 use rename_file::PhysicalRegister;
 
 /// Sixty-four places for entries, and of each word the bit of a place.
+// Apart from the others stands the word of those that wait for two registers: beside the word of those that wait for
+// nothing the two become a vector at each entry, which takes more than two words do, and behind the contexts' words it is
+// read with them right after it is written.
 #[derive(Drop)]
 pub(crate) struct Places {
     /// The places that are taken.
     pub(crate) valid: u64,
     /// Those that wait for nothing.
     pub(crate) supplied: u64,
-    /// Those that wait for two registers.
-    pub(crate) two: u64,
     /// Those of each context.
     pub(crate) contexts: [u64; 8],
     /// What stands at each place.
     pub(crate) slots: Slots,
+    /// Those that wait for two registers.
+    pub(crate) two: u64,
 }
 
 /// The bit of a place, where told so.
@@ -84,8 +87,8 @@ impl Places {
             slots: Slots::new(),
             valid: 0,
             supplied: 0,
-            two: 0,
             contexts: [0; 8],
+            two: 0,
         }
     }
 

@@ -68,6 +68,14 @@ fn counts(flow: &DataFlow, context: Ctx) -> [usize; 3] {
     ]
 }
 
+// The values of the sources of the instruction at a place, read where they are there.
+fn read(flow: &DataFlow, context: Ctx, place: usize) -> Option<(u64, u64)>
+    requires { place < length (lane flow.now context).nodes }
+{
+    flow.sources(context, place)?;
+    Some(flow.read_sources(context, place))
+}
+
 // Commits the oldest of a context of which none waits.
 fn commit(rt: &impl Abort, flow: &mut DataFlow, context: Ctx)
     requires some { 0 < length (lane flow.old context).nodes }
@@ -112,7 +120,7 @@ fn waits_for_an_older_result(rt: HostRuntime) {
     commit(&rt, &mut flow, first);
     let free = flow.free_count();
     flow.rename(first, named(4, 0, 5, 1));
-    assert_eq!(rt; (free, flow.sources(first, 0)), (31, Some((25, 10))));
+    assert_eq!(rt; (free, read(&flow, first, 0)), (31, Some((25, 10))));
 }
 
 #[test]

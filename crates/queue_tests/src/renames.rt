@@ -13,6 +13,18 @@ fn read(registers: &Registers, context: Ctx, rs: u8) -> Option<u64> {
     registers.value(register)
 }
 
+// The same, read where it is there.
+fn read_ready(registers: &Registers, context: Ctx, rs: u8) -> Option<u64> {
+    if rs >= 32 {
+        return None;
+    }
+    let register = registers.source(context, rs);
+    if !registers.ready(register) {
+        return None;
+    }
+    Some(registers.read(register))
+}
+
 // Renames rd of the context and writes the value. Tells whether a register was free.
 fn produce(registers: &mut Registers, context: Ctx, rd: u8, value: u64) -> bool {
     if rd == 0 || rd >= 32 {
@@ -43,7 +55,7 @@ fn seen(alloc: Global) -> Option<[(bool, Option<u64>); 2]> {
     let register = registers.rename(first, 5).ok()?;
     let before = (registers.ready(register), read(&registers, first, 5));
     registers.write(register, 71);
-    let after = (registers.ready(register), read(&registers, first, 5));
+    let after = (registers.ready(register), read_ready(&registers, first, 5));
     Some([before, after])
 }
 

@@ -37,6 +37,10 @@ valued_some : (b : Bool) (v : ℕ) → (IsTrue (not b) → IsSome (if b then Non
 valued_some true v = (λ e. e, λ e. e)
 valued_some false v = (λ _. refl, λ _. refl)
 
+some_is : (b : Bool) (v : ℕ) → IsSome (if b then None else Some v) → Some v ≡ (if b then None else Some v)
+some_is true v some = absurd cc
+some_is false v some = refl
+
 not_busy : (b : Bool) → IsTrue (not b) → b ≡ false
 not_busy true busy = sym busy
 not_busy false e = refl
@@ -49,6 +53,10 @@ module _ (vs : List ℕ) (bs : List Bool) (now : List (Option ℕ)) (is : cells_
 
   pub is_cell : (i : ℕ) → i < length now → (if get_or bs i false then None else Some (get_or vs i 0)) ≡ get_or now i None
   is_cell i lt = sym (cell_at vs bs i (omega (arith, few, wide)) (in_values i lt)) ∙ ap (λ (cs : List (Option ℕ)). get_or cs i None) is
+
+  -- what stands at a register that has its value
+  pub is_value : (i : ℕ) → i < length now → IsSome (get_or now i None) → Some (get_or vs i 0) ≡ get_or now i None
+  is_value i lt some = some_is (get_or bs i false) (get_or vs i 0) (rw (is_cell i lt) some) ∙ is_cell i lt
 
   pub is_valued : (i : ℕ) → i < length now → let b = get_or bs i false in (IsTrue (not b) → IsSome (get_or now i None)) × (IsSome (get_or now i None) → IsTrue (not b))
   is_valued i lt = rw (← is_cell i lt) (valued_some (get_or bs i false) (get_or vs i 0))

@@ -58,6 +58,16 @@ impl<A: Allocator> Cells<A> {
         }
     }
 
+    // The value of a register that has it: without a test, which every operand of an instruction that issues would take.
+    #[inline(always)]
+    pub(crate) fn at(&self, number: usize) -> u64
+        requires known { number < length self.now }
+        requires valued { IsSome (slice_index_or self.now number None) }
+        ensures { Some result ≡ slice_index_or self.now number None }
+    {
+        self.values[number]
+    }
+
     // Gives a register its value.
     #[inline(always)]
     pub(crate) fn write(&mut self, number: usize, value: u64)

@@ -103,6 +103,15 @@ impl<A: Allocator> Registers<A> {
         self.cells.read(register.index())
     }
 
+    /// The value of a register that has it.
+    pub fn read(&self, register: PhysicalRegister) -> u64
+        requires known { register < length self.now.cells }
+        requires valued { IsSome (cell self.now register) }
+        ensures { Some result ≡ cell self.now register }
+    {
+        self.cells.at(register.index())
+    }
+
     /// Whether a register has its value.
     pub fn ready(&self, register: PhysicalRegister) -> bool
         requires { register < length self.now.cells }
@@ -117,7 +126,7 @@ impl<A: Allocator> Registers<A> {
         ensures { Some result ≡ cell self.now (slice_index (bank self.now context).committed rs) }
     {
         let map = &self.maps[context.index()];
-        self.cells.read(map.committed(rs).index()).unwrap()
+        self.cells.at(map.committed(rs).index())
     }
 
     /// Gives a register its value. Registers 0 to 7 are the contexts' x0, which stay 0.

@@ -1,7 +1,7 @@
-use Rattle.std.proofs.Common.{get_or, arith}
+use Rattle.std.proofs.Common.{arith}
 use Rattle.data_flow.specs.Flow.{lane}
 use Rattle.data_flow.proofs.Places.{here}
-use Rattle.data_flow.proofs.Sources.{HasSources, read_at, has_sources, missing_first, missing_second, found_both}
+use Rattle.data_flow.proofs.Sources.{HasSources, sources_found, missing_first, missing_second, found_both}
 use Rattle.data_flow.proofs.data_flow.DataFlow.sources.Given.{Over}
 use Rattle.data_flow.proofs.data_flow.DataFlow.sources.Goals as goal
 use Rattle.data_flow.proofs.data_flow.DataFlow.sources.Goals.{After-at-renamed}
@@ -13,10 +13,7 @@ at-renamed-requires g c =
 
 has : (g : Over) (c : After-at-renamed g) → HasSources c.self.inside.registers.cells (lane c.args.self.now c.args.context) c.args.place c.at-renamed.result
 has g c =
-    let h = here c.self.inside c.args.self.now c.args.context c.index.result c.index-self-index.result c.self.view_is c.self.invariant c.index.ensures.value c.index.ensures.bound in
-    let found = get_or c.self.inside.renamed c.index.result c.index-self-index.result in
-    let at = read_at found c.args.place c.at-renamed.result c.at-renamed.ensures in
-    has_sources c.self.inside c.args.self.now c.args.context c.index.result c.args.place found c.at-renamed.result c.self.invariant h at
+    sources_found c.self.inside c.args.self.now c.args.context c.index.result c.args.place c.index-self-index.result c.at-renamed.result c.self.view_is c.self.invariant c.index.ensures.value c.index.ensures.bound c.at-renamed.ensures
 
 pub value-requires : goal.value-requires
 value-requires g c = (has g (goal.at.value-requires g c).After-at-renamed).first_is_cell
