@@ -1,6 +1,6 @@
 //! The events of a cycle, each on one context and the data flow.
 
-ghost use Rattle.std.specs.Prelude.{◌≡◌, ◌≢◌, ◌↔◌, ℕ, ◌+◌, ◌<◌, ◌≤◌, ◌^◌, ◌==◌, ◌&&◌, length, take, drop, IsSome, IsTrue, IfSome, Some, None, All, Bool, true, false, map, slice_get, option_map};
+ghost use Rattle.std.specs.Prelude.{◌≡◌, ◌≢◌, ◌↔◌, ℕ, ◌+◌, ◌<◌, ◌≤◌, ◌^◌, ◌==◌, ◌&&◌, length, take, drop, IsSome, IsTrue, IfSome, Some, None, not, All, Bool, true, false, map, slice_get, option_map};
 ghost use Rattle.std.specs.List.{list_any};
 ghost use Rattle.std.specs.Option.{option_map_or};
 ghost use Rattle.data_flow.specs.Flow.{lane, node_at, sources_at, taken, waits_in, cut_flow, released};
@@ -241,7 +241,7 @@ fn renamable<A: Allocator>(
         return None;
     }
     let operation = entry.operation;
-    if flow.free_count() == 0 && operation.destination().index() != 0 {
+    if flow.free_count() == 0 && needs_register(&operation) {
         return None;
     }
     if has_places(flow, track, &operation) {
@@ -256,7 +256,27 @@ fn renamable<A: Allocator>(
 fn has_places<A: Allocator>(flow: &DataFlow<A>, track: &Track<A>, operation: &Decoded) -> bool
     ensures { IsTrue result ↔ HasPlaces flow.now track.now operation.now }
 {
-    track.has_place(operation) && (flow.has_place() || operation.stops_at_fetch())
+    track.has_place(operation) && (flow.has_place() || needs_no_place(operation))
+}
+
+/// Whether a register has to be free for an operation: it has a destination.
+// It is asked where none is free alone, which is rare, and stays out of the way of what is common.
+#[cold]
+#[inline(never)]
+fn needs_register(operation: &Decoded) -> bool
+    ensures { result ≡ not (destination_of operation.now == 0) }
+{
+    operation.destination().index() != 0
+}
+
+/// Whether an operation needs no place of the issue queue: it stops at fetch.
+// It is asked where none is free alone, as above.
+#[cold]
+#[inline(never)]
+fn needs_no_place(operation: &Decoded) -> bool
+    ensures { result ≡ stops_at_fetch operation.now }
+{
+    operation.stops_at_fetch()
 }
 
 /// The oldest fetched entry is renamed in a cycle, if it can be and its stamp is no greater than a limit. Returns its stamp.
@@ -476,8 +496,18 @@ pub fn release<A: Allocator>(flow: &mut DataFlow<A>, holds: bool)
     ensures { flow.new ≡ record flow.old { waiters = map released flow.old.waiters } }
 {
     if holds {
-        flow.release();
+        release_all(flow);
     }
+}
+
+/// Lets all loads go.
+// Mostly none is held, so that it stays out of the way.
+#[cold]
+#[inline(never)]
+fn release_all<A: Allocator>(flow: &mut DataFlow<A>)
+    ensures { flow.new ≡ record flow.old { waiters = map released flow.old.waiters } }
+{
+    flow.release();
 }
 
 /// Tells the queue which loads of a context, which are all let go, have to wait for an older store. Returns whether one
