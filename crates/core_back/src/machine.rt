@@ -33,7 +33,7 @@ use core_view::{Entry, EntryId, Issue, Outcome, Status};
 use data_flow::DataFlow;
 use data_tags::{Delay, Lag};
 use hart_step::Stop;
-use hint::unwrap_unchecked;
+use hint::assert_unchecked;
 use issue_queue::Order;
 use join_law::{Ctx, Eight};
 use listing::Listing;
@@ -590,7 +590,11 @@ pub(crate) fn first_context(word: u64) -> Ctx
     requires known { (c : ℕ) → has word c ≡ true → c < 8 }
     ensures { has word result ≡ true }
 {
-    unwrap_unchecked(Ctx::new(word_mask::lowest(word)))
+    let Some(context) = Ctx::new(word_mask::lowest(word)) else {
+        assert_unchecked(false);
+        unreachable!();
+    };
+    context
 }
 
 /// An entry that issued, and its lag.

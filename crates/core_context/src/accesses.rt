@@ -52,9 +52,8 @@ pub(crate) fn perform_load<A: Allocator, D: Delay>(
             return ONE_CYCLE;
         }
     };
-    let answer = track.ask(place, span_of(kind, address), number);
-    assert_unchecked(matches!(answer, LoadAnswer::Ready { .. }));
-    let LoadAnswer::Ready { value } = answer else {
+    let LoadAnswer::Ready { value } = track.ask(place, span_of(kind, address), number) else {
+        assert_unchecked(false);
         unreachable!();
     };
     let outcome = loads_at(pc, kind, address, value);

@@ -14,8 +14,8 @@ pub fn is_mispredicted(entry: &Entry) -> bool
     requires { IsIssued entry.now.stage }
     ensures { result ≡ is_mispredicted_by entry.now (execution_of entry.now.stage).outcome }
 {
-    assert_unchecked(matches!(entry.stage, Stage::Issued { .. }));
     let Stage::Issued { execution } = entry.stage else {
+        assert_unchecked(false);
         unreachable!();
     };
     match execution.outcome {

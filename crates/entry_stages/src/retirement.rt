@@ -16,12 +16,12 @@ pub fn step_of(entry: &Entry) -> &Step
     requires { IsGoing (done_outcome entry.now.stage) }
     ensures { result.now ≡ step_on (done_outcome entry.now.stage) }
 {
-    assert_unchecked(matches!(entry.stage, Stage::Done { .. }));
     let Stage::Done { execution } = &entry.stage else {
+        assert_unchecked(false);
         unreachable!();
     };
-    assert_unchecked(matches!(execution.outcome, Outcome::Goes { .. }));
     let Outcome::Goes { step } = &execution.outcome else {
+        assert_unchecked(false);
         unreachable!();
     };
     step
@@ -34,8 +34,8 @@ pub fn stop_of(entry: &Entry) -> Option<Stop>
     ensures goes { result ≡ None → IsGoing (done_outcome entry.now.stage) }
     ensures stops { IfSome result (λ why. done_outcome entry.now.stage ≡ Some (Stops why)) }
 {
-    assert_unchecked(matches!(entry.stage, Stage::Done { .. }));
     let Stage::Done { execution } = &entry.stage else {
+        assert_unchecked(false);
         unreachable!();
     };
     match execution.outcome {

@@ -24,7 +24,7 @@ use bit_vector::{
     both, clear_slot, count, has_from, has_more, last, lowest, next, set_slot, turn, up_to_first,
 };
 use core_view::{Entry, Execution, OperationKind, Outcome, Stage};
-use hint::{assert_unchecked, unwrap_unchecked};
+use hint::assert_unchecked;
 use reorder_buffer::Ring;
 use std::alloc::{AllocError, Allocator, Global};
 use std::marker::Model;
@@ -231,7 +231,10 @@ impl<A: Allocator> Flight<A> {
         requires { 0 < self.old.renamed }
         ensures { self.new ≡ retired_one self.old }
     {
-        let _oldest = unwrap_unchecked(self.ring.retire());
+        let Some(_oldest) = self.ring.retire() else {
+            assert_unchecked(false);
+            unreachable!();
+        };
         self.marks.retire();
         self.renamed -= 1;
         self.base = self.base.wrapping_add(1);
@@ -540,7 +543,11 @@ fn at<A: Allocator>(ring: &Ring<Entry, A>, place: usize) -> &Entry
     requires { place < length ring.now.items }
     ensures { result.now ≡ entry_in ring.now.items place }
 {
-    unwrap_unchecked(ring.get(place))
+    let Some(entry) = ring.get(place) else {
+        assert_unchecked(false);
+        unreachable!();
+    };
+    entry
 }
 
 /// An entry as it is renamed, where it doesn't stop at fetch.
@@ -561,8 +568,10 @@ fn push_in<A: Allocator>(ring: &mut Ring<Entry, A>, entry: Entry)
     requires younger { All (λ e. e.stamp < entry.stamp) ring.old.items }
     ensures { ring.new ≡ buffer (ring.old.items ++ entry ∷ []) ring.old.capacity }
 {
-    let pushed = ring.push(entry);
-    assert_unchecked(pushed.is_ok());
+    let Ok(_pushed) = ring.push(entry) else {
+        assert_unchecked(false);
+        unreachable!();
+    };
 }
 
 /// An entry takes the place of one with its stamp.
@@ -586,8 +595,8 @@ fn complete_in<A: Allocator>(ring: &mut Ring<Entry, A>, place: usize) -> u64
     ensures due { result ≡ (execution_of (entry_in ring.old.items place).stage).due }
 {
     let entry = *at(ring, place);
-    assert_unchecked(matches!(entry.stage, Stage::Issued { .. }));
     let Stage::Issued { execution } = entry.stage else {
+        assert_unchecked(false);
         unreachable!();
     };
     let entry = entry.completed(execution);
