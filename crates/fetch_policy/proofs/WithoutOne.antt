@@ -39,4 +39,4 @@ module _ (top : ℕ → Bool) (all : ℕ) (ones : top all ≡ true) (zeros : top
   pub without_one : (k : ℕ) (xs : List ℕ) (n : ℕ) → length xs ≡ 8 → n < 8 → sel_l (marks n) (k ∷ k ∷ k ∷ k ∷ k ∷ k ∷ k ∷ k ∷ []) xs ≡ set xs n k
   without_one k xs n long lt =
       subst (λ ys. sel_l (marks n) (k ∷ k ∷ k ∷ k ∷ k ∷ k ∷ k ∷ k ∷ []) ys ≡ set ys n k) (sym (eight_of xs long))
-          (out_of_eight (get_or xs 0 0) (get_or xs 1 0) (get_or xs 2 0) (get_or xs 3 0) (get_or xs 4 0) (get_or xs 5 0) (get_or xs 6 0) (get_or xs 7 0) k n lt)
+      (out_of_eight (get_or xs 0 0) (get_or xs 1 0) (get_or xs 2 0) (get_or xs 3 0) (get_or xs 4 0) (get_or xs 5 0) (get_or xs 6 0) (get_or xs 7 0) k n lt)
