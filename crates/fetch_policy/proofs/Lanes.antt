@@ -1,5 +1,5 @@
 -- Eight ranks as the lanes of a vector.
-use Rattle.std.proofs.Common.{◌≡◌, ℕ, zero, suc, ◌+◌, ◌*◌, ◌-◌, ◌%◌, ◌<◌, ◌≤◌, inl, inr, true, false, cond, nat_eq, nat_lt, nat_le, List, [], ◌∷◌, ◌++◌, map, length, get_or, bit_and, refl, sym, ap, subst, ◌∙◌, arith, w16}
+use Rattle.std.proofs.Common.{◌≡◌, ℕ, zero, suc, ◌+◌, ◌*◌, ◌-◌, ◌%◌, ◌<◌, ◌≤◌, inl, inr, true, false, cond, nat_lt, nat_le, List, [], ◌∷◌, ◌++◌, map, length, get_or, bit_and, refl, sym, ap, subst, ◌∙◌, arith, w16}
 use Rattle.std.specs.Simd.Lanes.{zip2, sel_l, top}
 use Rattle.std.proofs.lemmas.Simd.{get_or-zip2, get_or-replicate, get_or-sel_l, tops_compared, length-zip2}
 use Rattle.std.proofs.lemmas.Nat.{and_mask}
