@@ -9,7 +9,8 @@ use Rattle.core_view.specs.declared.entry.Entry.{Entry}
 use Rattle.core_view.specs.View.{Context, no_entry}
 use Rattle.core_view.specs.Events.{with_flight, due_at, completed_by, completed_at, completed_from, complete_event}
 use Rattle.core_view.proofs.Completed.{from_step}
-use Rattle.flight.specs.Flights.{execution_of, is_due}
+use Rattle.core_view.specs.Stages.{execution_of}
+use Rattle.flight.specs.Flights.{is_due}
 use Rattle.core_back.specs.Machine.{Machine, no_context, context_at, with_context, due_in, with_contexts}
 
 pub due_some : (cycle : ℕ) (es : List Entry) (i : ℕ) (x : Execution) → due_in cycle es i ≡ Some x → (i < length es) × (due_at cycle (get_or es i no_entry).stage ≡ Some x)

@@ -6,7 +6,8 @@ use Rattle.core_view.specs.declared.entry.Entry.{Entry}
 use Rattle.core_view.specs.View.{Context, no_entry}
 use Rattle.core_view.specs.Events.{with_flight, due_at, completed_at, completed_from, complete_in, complete_event}
 use Rattle.core_view.proofs.Completed.{from_end}
-use Rattle.flight.specs.Flights.{execution_of, is_due, NoneFrom, IsNext}
+use Rattle.core_view.specs.Stages.{execution_of}
+use Rattle.flight.specs.Flights.{is_due, NoneFrom, IsNext}
 use Rattle.core_back.specs.Machine.{Machine, context_at, with_context, due_in}
 use Rattle.core_back.specs.Coming.{to_come, number_of}
 use Rattle.core_back.specs.Completing.{IsTurn}

@@ -14,7 +14,8 @@ ghost use Rattle.core_context.specs.Issuable.{HasIssued, IsAnswered, IsIssuable,
 ghost use Rattle.core_context.specs.Track.{is_last, retired, parked, stopped, completed, renamed_one};
 ghost use Rattle.core_context.specs.Cores.{operands_of};
 ghost use Rattle.entry_stages.specs.Heads.{IsGoing, first_done, step_on};
-ghost use Rattle.flight.specs.Flights.{execution_of, is_due, IsIssued};
+ghost use Rattle.core_view.specs.Stages.{execution_of, IsIssued};
+ghost use Rattle.flight.specs.Flights.{is_due};
 ghost use Rattle.core_context.specs.Left.{IsIdleCore, IsEventAt};
 ghost use Rattle.core_context.specs.Renamable.{HasPlaces, IsRenamable};
 ghost use Rattle.core_context.specs.Steps.{retired_flow, settled_flow, completed_flow, cut_by, renamed_flow, IsRemarked, AreTold};

@@ -1,6 +1,7 @@
 pub mod Spans
 pub mod Operations
 pub mod Outcomes
+pub mod Stages
 pub mod Flight
 pub mod View
 pub mod Events

@@ -1,14 +1,14 @@
 //! Entries in flight.
 ghost use Rattle.std.specs.Prelude.{◌≡◌};
-ghost use Rattle.core_view.specs.Flight.{result_of, bytes_done, span_read};
-ghost use Rattle.core_view.specs.Flight.{is_done as is_done_of};
-ghost use Rattle.core_view.specs.Events.{due_at, is_mispredicted as is_mispredicted_of, fetched_entry, renamed_stage, with_stage, completed_entry};
-ghost use Rattle.core_view.specs.declared.entry.Stage.TheVariants.{Issued};
+ghost use Rattle.core_view.specs.Stages.{IsIssued, execution_of};
+ghost use Rattle.core_view.specs.Flight.{GoesOnAt};
+ghost use Rattle.core_view.specs.Events.{is_mispredicted as is_mispredicted_of, fetched_entry, renamed_stage, with_stage, completed_entry};
+ghost use Rattle.core_view.specs.declared.entry.Stage.TheVariants.{Fetched, Queued, Issued};
 
 use crate::decoded::Decoded;
 use crate::operation::Operation;
 use crate::outcome::{Outcome, Step};
-use crate::span::{Bytes, Span};
+use crate::progress::Progress;
 use reorder_buffer::Stamped;
 
 /// What is known of an instruction from its issue on.
@@ -35,60 +35,6 @@ pub enum Stage {
     Done { execution: Execution },
 }
 
-impl Stage {
-    /// The result that entries after it may use: one that is done without a stop has one.
-    #[inline]
-    pub fn result(&self) -> Option<u64>
-        ensures { result ≡ result_of self.now }
-    {
-        match *self {
-            Stage::Fetched | Stage::Queued | Stage::Issued { .. } => None,
-            Stage::Done { execution } => execution.outcome.result(),
-        }
-    }
-
-    /// The bytes of a store that is done without a stop.
-    #[inline]
-    pub fn bytes(&self) -> Option<Bytes>
-        ensures { result ≡ bytes_done self.now }
-    {
-        match *self {
-            Stage::Fetched | Stage::Queued | Stage::Issued { .. } => None,
-            Stage::Done { execution } => execution.outcome.bytes(),
-        }
-    }
-
-    /// The span that a load read, from its issue on. One that stops read none.
-    #[inline]
-    pub fn span(&self) -> Option<Span>
-        ensures { result ≡ span_read self.now }
-    {
-        match *self {
-            Stage::Fetched | Stage::Queued => None,
-            Stage::Issued { execution } | Stage::Done { execution } => execution.outcome.span(),
-        }
-    }
-
-    /// Whether it has completed, with a stop or without.
-    #[inline]
-    pub fn is_done(&self) -> bool
-        ensures { result ≡ is_done_of self.now }
-    {
-        matches!(self, Stage::Done { .. })
-    }
-
-    /// What completes in a cycle, if it was issued and is due then.
-    #[inline]
-    pub fn due(&self, cycle: u64) -> Option<Execution>
-        ensures { result ≡ due_at cycle self.now }
-    {
-        match *self {
-            Stage::Issued { execution } if execution.due == cycle => Some(execution),
-            _ => None,
-        }
-    }
-}
-
 /// An instruction or a stop at fetch, in flight.
 #[derive(Clone, Copy, Debug, PartialEq, Eq)]
 pub struct Entry {
@@ -103,7 +49,7 @@ pub struct Entry {
     /// The pc at which fetch went on after it: a guess until it is done.
     pub followed: u64,
     /// How far it has come.
-    pub stage: Stage,
+    pub stage: Progress,
 }
 
 impl Entry {
@@ -118,7 +64,7 @@ impl Entry {
             operation,
             fetched: cycle,
             followed,
-            stage: Stage::Fetched,
+            stage: Progress::fetched(),
         }
     }
 
@@ -128,43 +74,64 @@ impl Entry {
         ensures { result ≡ with_stage self.now (renamed_stage cycle self.now.operation) }
     {
         let stage = match *self.operation.operation() {
-            Operation::Performs { .. } => Stage::Queued,
-            Operation::Stops { why } => Stage::Done {
-                execution: Execution {
+            Operation::Performs { .. } => Progress::queued(),
+            Operation::Stops { why } => {
+                let execution = Execution {
                     due: cycle,
                     miss: false,
                     outcome: Outcome::Stops { why },
-                },
-            },
+                };
+                Progress::issued(execution).complete()
+            }
         };
         Entry { stage, ..*self }
     }
 
-    /// The entry as it issues.
-    #[inline]
-    pub fn issued(&self, execution: Execution) -> Entry
-        ensures { result ≡ with_stage self.now (Issued execution) }
+    /// The entry, which is fetched and doesn't stop there, as it is renamed: it waits for issue.
+    #[inline(always)]
+    pub fn queued(&self) -> Entry
+        requires { self.now.stage ≡ Fetched }
+        ensures { result ≡ with_stage self.now Queued }
     {
         Entry {
-            stage: Stage::Issued { execution },
+            stage: self.stage.queue(),
             ..*self
         }
     }
 
-    /// The entry as it completes: fetch goes on at its true next pc, if it doesn't stop.
-    #[inline]
-    pub fn completed(&self, execution: Execution) -> Entry
-        ensures { result ≡ completed_entry self.now execution }
+    /// The entry as it issues.
+    #[inline(always)]
+    pub fn issued(&self, execution: Execution) -> Entry
+        ensures { result ≡ with_stage self.now (Issued execution) }
     {
-        let followed = match execution.outcome {
-            Outcome::Goes { step } => step.next,
-            Outcome::Stops { .. } => self.followed,
-        };
         Entry {
-            followed,
-            stage: Stage::Done { execution },
+            stage: Progress::issued(execution),
             ..*self
         }
+    }
+
+    /// The entry, which is issued, as it completes: fetch goes on at its true next pc, if it doesn't stop.
+    #[inline(always)]
+    pub fn completed(&self) -> Entry
+        requires { IsIssued self.now.stage }
+        ensures { result ≡ completed_entry self.now (execution_of self.now.stage) }
+    {
+        Entry {
+            followed: self.stage.next_after(self.followed),
+            stage: self.stage.complete(),
+            ..*self
+        }
+    }
+
+    /// The same where fetch went on there already, or it stops.
+    #[inline(always)]
+    pub fn settled(&self) -> Entry
+        requires issued { IsIssued self.now.stage }
+        requires followed { GoesOnAt self.now.followed (execution_of self.now.stage).outcome }
+        ensures { result ≡ completed_entry self.now (execution_of self.now.stage) }
+    {
+        let stage = self.stage.complete();
+        Entry { stage, ..*self }
     }
 
     /// Whether its next pc was guessed, and wrongly: then nothing younger is kept.

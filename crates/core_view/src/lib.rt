@@ -8,6 +8,8 @@ mod entry;
 mod note;
 mod operation;
 mod outcome;
+mod parts;
+mod progress;
 mod span;
 mod status;
 
@@ -17,5 +19,6 @@ pub use entry::{Entry, Execution, Stage};
 pub use note::{CycleNote, EntryId, Issue};
 pub use operation::Operation;
 pub use outcome::{Access, Outcome, Step, goes_to, loads_at, stores_at};
+pub use progress::Progress;
 pub use span::{Bytes, Span};
 pub use status::Status;

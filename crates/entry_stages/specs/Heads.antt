@@ -1,12 +1,12 @@
 -- What the oldest entry of a flight came to.
 use Rattle.std.specs.Prelude.{◌≡◌, List, [], ◌∷◌, Option, Some, None}
-use Rattle.core_view.specs.declared.outcome.Access.TheVariants.{Free}
 use Rattle.core_view.specs.declared.outcome.Step.{Step}
 use Rattle.core_view.specs.declared.outcome.Outcome.{Outcome}
 use Rattle.core_view.specs.declared.outcome.Outcome.TheVariants.{Goes, Stops}
 use Rattle.core_view.specs.declared.entry.Stage.{Stage}
 use Rattle.core_view.specs.declared.entry.Stage.TheVariants.{Fetched, Queued, Issued, Done}
 use Rattle.core_view.specs.declared.entry.Entry.{Entry}
+use Rattle.core_view.specs.Stages.{no_step}
 
 -- the outcome of an entry that is done
 abbrev pub done_outcome : Stage → Option Outcome
@@ -14,9 +14,6 @@ done_outcome Fetched = None
 done_outcome Queued = None
 done_outcome (Issued x) = None
 done_outcome (Done x) = Some x.outcome
-
-abbrev pub no_step : Step
-no_step = record { result = 0; next = 0; access = Free }
 
 -- the step of an outcome that goes on, of no use for another
 abbrev pub step_on : Option Outcome → Step

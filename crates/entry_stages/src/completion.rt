@@ -1,12 +1,12 @@
 //! What an entry comes to as it completes.
 
 ghost use Rattle.std.specs.Prelude.{◌≡◌, ◌+◌, ◌<◌, length};
-ghost use Rattle.flight.specs.Flights.{entry_in, execution_of, IsIssued};
+ghost use Rattle.core_view.specs.Stages.{execution_of, IsIssued};
+ghost use Rattle.flight.specs.Flights.{entry_in};
 ghost use Rattle.entry_stages.specs.Mispredicted.{is_mispredicted_by};
 
-use core_view::{Entry, Outcome, Stage};
+use core_view::Entry;
 use flight::Flight;
-use hint::assert_unchecked;
 use std::alloc::Allocator;
 
 /// Whether the next pc of an issued entry was guessed, and wrongly: then nothing younger is kept.
@@ -14,13 +14,9 @@ pub fn is_mispredicted(entry: &Entry) -> bool
     requires { IsIssued entry.now.stage }
     ensures { result ≡ is_mispredicted_by entry.now (execution_of entry.now.stage).outcome }
 {
-    let Stage::Issued { execution } = entry.stage else {
-        assert_unchecked(false);
-        unreachable!();
-    };
-    match execution.outcome {
-        Outcome::Goes { step } => entry.is_mispredicted(&step),
-        Outcome::Stops { .. } => false,
+    match entry.stage.step() {
+        Some(step) => entry.is_mispredicted(&step),
+        None => false,
     }
 }
 

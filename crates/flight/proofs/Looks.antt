@@ -13,7 +13,8 @@ use Rattle.core_view.specs.Events.{due_at}
 use Rattle.core_view.specs.Operations.{is_store}
 use Rattle.core_view.proofs.KindTests.{store-kind}
 use Rattle.flight.specs.Marked.{word_of, is_of_kind, is_issued_load}
-use Rattle.flight.specs.Flights.{Flight, entry_in, IsHinted, IsAhead, NoneFrom, IsNext, NoneRenamedFrom, IsNextRenamed, NoneRenamedBelow, IsLastRenamed, IsIssued, is_due}
+use Rattle.core_view.specs.Stages.{IsIssued}
+use Rattle.flight.specs.Flights.{Flight, entry_in, IsHinted, IsAhead, NoneFrom, IsNext, NoneRenamedFrom, IsNextRenamed, NoneRenamedBelow, IsLastRenamed, is_due}
 use Rattle.flight.proofs.Words.{bit-clear, bit-set, bit-within}
 
 -- ---- cases of places

@@ -3,13 +3,12 @@ use Rattle.std.specs.Prelude.{◌≡◌, ℕ, ◌+◌, ◌-◌, ◌%◌, ◌<◌
 use Rattle.std.specs.Int.{bit_at}
 use Rattle.reorder_buffer.specs.Growing.{below}
 use Rattle.core_view.specs.declared.entry.Execution.{Execution}
-use Rattle.hart_step.specs.declared.stop.Stop.TheVariants.{TargetMisaligned}
 use Rattle.core_view.specs.declared.outcome.Step.{Step}
-use Rattle.core_view.specs.declared.outcome.Outcome.TheVariants.{Goes, Stops}
-use Rattle.core_view.specs.declared.entry.Stage.{Stage}
-use Rattle.core_view.specs.declared.entry.Stage.TheVariants.{Fetched, Queued, Issued, Done}
+use Rattle.core_view.specs.declared.outcome.Outcome.TheVariants.{Goes}
+use Rattle.core_view.specs.declared.entry.Stage.TheVariants.{Fetched, Issued}
 use Rattle.core_view.specs.declared.entry.Entry.{Entry}
 use Rattle.core_view.specs.View.{no_entry}
+use Rattle.core_view.specs.Stages.{execution_of}
 use Rattle.core_view.specs.Operations.{is_guessed, is_store}
 use Rattle.core_view.specs.Flight.{result_in, is_open_guess}
 use Rattle.core_view.specs.Queues.{is_renamed}
@@ -27,22 +26,9 @@ pub record Flight : Type 0 where
 abbrev pub empty_flight : ℕ → Flight
 empty_flight capacity = record { entries = []; renamed = 0; capacity = capacity }
 
-abbrev pub no_execution : Execution
-no_execution = record { due = 0; miss = false; outcome = Stops TargetMisaligned }
-
 -- the entry at a place
 abbrev pub entry_in : List Entry → ℕ → Entry
 entry_in es i = slice_index_or es i no_entry
-
--- what is known of an issued entry from its issue on, of no use for one that waits
-abbrev pub execution_of : Stage → Execution
-execution_of Fetched = no_execution
-execution_of Queued = no_execution
-execution_of (Issued x) = x
-execution_of (Done x) = x
-
-abbrev pub IsIssued : Stage → Type 0
-IsIssued s = s ≡ Issued (execution_of s)
 
 -- ---- events
 

@@ -11,19 +11,20 @@ ghost use Rattle.core_view.specs.declared.entry.Entry.{Entry};
 ghost use Rattle.core_view.specs.declared.entry.Execution.{Execution};
 ghost use Rattle.core_view.specs.declared.outcome.Step.{Step};
 ghost use Rattle.core_view.specs.declared.outcome.Outcome.TheVariants.{Goes};
-ghost use Rattle.core_view.specs.Flight.{is_done, is_open_guess, is_missed_load, result_in};
+ghost use Rattle.core_view.specs.Flight.{GoesOnAt, is_done, is_open_guess, is_missed_load, result_in};
 ghost use Rattle.core_view.specs.Operations.{is_guessed, is_load, stops_at_fetch};
 ghost use Rattle.core_view.specs.Kinds.{kind_index};
 ghost use Rattle.core_view.specs.Queues.{is_renamed};
 ghost use Rattle.flight.specs.Marked.{is_of_kind, is_waiting, is_waiting_load, is_issued_load, is_completed_store, word_of};
-ghost use Rattle.flight.specs.Flights.{entry_in, empty_flight, fetched_one, renamed_one, issued_one, finished_one, retired_one, none_left, cut_at, execution_of, IsIssued, guesses_ahead, is_due, NoneFrom, IsNext, NoneRenamedFrom, IsNextRenamed, NoneRenamedBelow, IsLastRenamed, IsPlain, NoneOpenBelow, Frees};
+ghost use Rattle.core_view.specs.Stages.{execution_of, IsIssued};
+ghost use Rattle.flight.specs.Flights.{entry_in, empty_flight, fetched_one, renamed_one, issued_one, finished_one, retired_one, none_left, cut_at, guesses_ahead, is_due, NoneFrom, IsNext, NoneRenamedFrom, IsNextRenamed, NoneRenamedBelow, IsLastRenamed, IsPlain, NoneOpenBelow, Frees};
 
 use crate::finished::Finished;
 use crate::marks::{Marks, is_waiting};
 use bit_vector::{
     both, clear_slot, count, has_from, has_more, last, lowest, next, set_slot, turn, up_to_first,
 };
-use core_view::{Entry, Execution, OperationKind, Outcome, Stage};
+use core_view::{Entry, Execution, OperationKind};
 use hint::assert_unchecked;
 use reorder_buffer::Ring;
 use std::alloc::{AllocError, Allocator, Global};
@@ -175,8 +176,8 @@ impl<A: Allocator> Flight<A> {
     {
         let _len = self.ring.len();
         let place = self.renamed;
-        let entry = waiting(at(&self.ring, place));
-        set_in(&mut self.ring, place, entry);
+        let entry = at(&self.ring, place).queued();
+        queue_in(&mut self.ring, place);
         self.marks.push_queued(place, &entry);
         self.slots[(entry.stamp % 256) as usize] = slot_of(self.base, place) as u8;
         self.renamed = place + 1;
@@ -192,7 +193,7 @@ impl<A: Allocator> Flight<A> {
         ensures { self.new ≡ issued_one self.old place execution }
     {
         let entry = at(&self.ring, place).issued(execution);
-        set_in(&mut self.ring, place, entry);
+        issue_in(&mut self.ring, place, execution);
         self.marks.issue(place, &entry);
         let cycle = (execution.due % 64) as usize;
         self.hints[cycle] = set_slot(self.hints[cycle], slot_of(self.base, place));
@@ -206,8 +207,7 @@ impl<A: Allocator> Flight<A> {
         requires other { is_load (entry_in self.old.entries place).operation ≡ false }
         ensures { self.new ≡ issued_one self.old place execution }
     {
-        let issued = at(&self.ring, place).issued(execution);
-        set_in(&mut self.ring, place, issued);
+        issue_in(&mut self.ring, place, execution);
         self.marks.issue_other(place);
         let word = (execution.due % 64) as usize;
         self.hints[word] = set_slot(self.hints[word], slot_of(self.base, place));
@@ -220,7 +220,18 @@ impl<A: Allocator> Flight<A> {
         requires issued { IsIssued (entry_in self.old.entries place).stage }
         ensures { self.new ≡ finished_one self.old place (execution_of (entry_in self.old.entries place).stage) }
     {
-        let due = complete_in(&mut self.ring, place);
+        self.finish_where(place, false);
+    }
+
+    /// The same, where it may be known that fetch went on after it where it goes, or that it stops.
+    #[inline(always)]
+    fn finish_where(&mut self, place: usize, followed: bool)
+        requires place { place < length self.old.entries }
+        requires issued { IsIssued (entry_in self.old.entries place).stage }
+        requires followed { followed ≡ true → GoesOnAt (entry_in self.old.entries place).followed (execution_of (entry_in self.old.entries place).stage).outcome }
+        ensures { self.new ≡ finished_one self.old place (execution_of (entry_in self.old.entries place).stage) }
+    {
+        let due = done_in(&mut self.ring, place, followed);
         self.marks.finish(place);
         let cycle = (due % 64) as usize;
         self.hints[cycle] = clear_slot(self.hints[cycle], slot_of(self.base, place));
@@ -427,7 +438,7 @@ impl<A: Allocator> Flight<A> {
             return None;
         }
         let before = self.unguarded();
-        self.finish(place);
+        self.finish_where(place, true);
         let frees = has_more(self.unguarded(), before);
         let more = self.may_be_due(cycle);
         Some(Finished { value, frees, more })
@@ -471,7 +482,7 @@ impl<A: Allocator> Flight<A> {
         ensures renamed { IsTrue result → place < self.now.renamed }
         ensures within { IsTrue result → place < length self.now.entries }
     {
-        place < self.renamed_count() && at(&self.ring, place).stage.due(cycle).is_some()
+        place < self.renamed_count() && at(&self.ring, place).stage.is_due(cycle)
     }
 
     /// The first place from one on that may be due in a cycle, or 64.
@@ -550,17 +561,6 @@ fn at<A: Allocator>(ring: &Ring<Entry, A>, place: usize) -> &Entry
     entry
 }
 
-/// An entry as it is renamed, where it doesn't stop at fetch.
-#[inline(always)]
-fn waiting(entry: &Entry) -> Entry
-    ensures { result ≡ with_stage entry.now Queued }
-{
-    Entry {
-        stage: Stage::Queued,
-        ..*entry
-    }
-}
-
 /// An entry is pushed into a ring with room.
 #[inline]
 fn push_in<A: Allocator>(ring: &mut Ring<Entry, A>, entry: Entry)
@@ -584,9 +584,32 @@ fn set_in<A: Allocator>(ring: &mut Ring<Entry, A>, place: usize, entry: Entry)
     ring.set(place, entry);
 }
 
+// What these functions write is what stands there, but for the stage. So that no other part of an entry is written back,
+// the compiler has to see this before it is put in line where something is known of these parts: they aren't always put
+// in line at once.
+
+/// The entry at a place, which is fetched, waits for issue.
+#[inline]
+fn queue_in<A: Allocator>(ring: &mut Ring<Entry, A>, place: usize)
+    requires place { place < length ring.old.items }
+    requires fetched { (entry_in ring.old.items place).stage ≡ Fetched }
+    ensures { ring.new ≡ buffer (slice_set ring.old.items place (with_stage (entry_in ring.old.items place) Queued)) ring.old.capacity }
+{
+    let entry = at(ring, place).queued();
+    set_in(ring, place, entry);
+}
+
+/// The entry at a place issues.
+#[inline]
+fn issue_in<A: Allocator>(ring: &mut Ring<Entry, A>, place: usize, execution: Execution)
+    requires { place < length ring.old.items }
+    ensures { ring.new ≡ buffer (slice_set ring.old.items place (with_stage (entry_in ring.old.items place) (Issued execution))) ring.old.capacity }
+{
+    let entry = at(ring, place).issued(execution);
+    set_in(ring, place, entry);
+}
+
 /// The entry at a place, which is issued, is done. Returns the cycle in which it was due.
-// What is written is what stands there, but for the stage's name and the followed pc. So that no other part of it is
-// written back, the compiler has to see this before it is put in line where something is known of these parts.
 #[inline]
 fn complete_in<A: Allocator>(ring: &mut Ring<Entry, A>, place: usize) -> u64
     requires place { place < length ring.old.items }
@@ -594,28 +617,49 @@ fn complete_in<A: Allocator>(ring: &mut Ring<Entry, A>, place: usize) -> u64
     ensures ring { ring.new ≡ buffer (slice_set ring.old.items place (completed_entry (entry_in ring.old.items place) (execution_of (entry_in ring.old.items place).stage))) ring.old.capacity }
     ensures due { result ≡ (execution_of (entry_in ring.old.items place).stage).due }
 {
-    let entry = *at(ring, place);
-    let Stage::Issued { execution } = entry.stage else {
-        assert_unchecked(false);
-        unreachable!();
-    };
-    let entry = entry.completed(execution);
+    let entry = at(ring, place).completed();
     set_in(ring, place, entry);
-    execution.due
+    entry.stage.due()
+}
+
+/// The same where fetch went on after it where it goes, or it stops.
+#[inline]
+fn settle_in<A: Allocator>(ring: &mut Ring<Entry, A>, place: usize) -> u64
+    requires place { place < length ring.old.items }
+    requires issued { IsIssued (entry_in ring.old.items place).stage }
+    requires followed { GoesOnAt (entry_in ring.old.items place).followed (execution_of (entry_in ring.old.items place).stage).outcome }
+    ensures ring { ring.new ≡ buffer (slice_set ring.old.items place (completed_entry (entry_in ring.old.items place) (execution_of (entry_in ring.old.items place).stage))) ring.old.capacity }
+    ensures due { result ≡ (execution_of (entry_in ring.old.items place).stage).due }
+{
+    let entry = at(ring, place).settled();
+    set_in(ring, place, entry);
+    entry.stage.due()
+}
+
+/// The same, where it may be known that fetch went on after it where it goes, or that it stops.
+#[inline(always)]
+fn done_in<A: Allocator>(ring: &mut Ring<Entry, A>, place: usize, followed: bool) -> u64
+    requires place { place < length ring.old.items }
+    requires issued { IsIssued (entry_in ring.old.items place).stage }
+    requires followed { followed ≡ true → GoesOnAt (entry_in ring.old.items place).followed (execution_of (entry_in ring.old.items place).stage).outcome }
+    ensures ring { ring.new ≡ buffer (slice_set ring.old.items place (completed_entry (entry_in ring.old.items place) (execution_of (entry_in ring.old.items place).stage))) ring.old.capacity }
+    ensures due { result ≡ (execution_of (entry_in ring.old.items place).stage).due }
+{
+    if followed {
+        settle_in(ring, place)
+    } else {
+        complete_in(ring, place)
+    }
 }
 
 /// The result of an entry that is issued, if fetch went on after it where it goes.
 #[inline(always)]
 fn plain_result(entry: &Entry) -> Option<u64>
     ensures followed { IfSome result (λ _. (step : Step) → (execution_of entry.now.stage).outcome ≡ Goes step → entry.now.followed ≡ step.next) }
+    ensures goes_on { IfSome result (λ _. GoesOnAt entry.now.followed (execution_of entry.now.stage).outcome) }
     ensures result { IfSome result (λ value. result_in (execution_of entry.now.stage).outcome ≡ Some value) }
 {
-    let Stage::Issued { execution } = &entry.stage else {
-        return None;
-    };
-    let Outcome::Goes { step } = &execution.outcome else {
-        return None;
-    };
+    let step = entry.stage.step()?;
     if entry.followed != step.next {
         return None;
     }
@@ -638,8 +682,5 @@ fn guesses_from<A: Allocator>(ring: &Ring<Entry, A>, from: usize) -> usize
 fn is_due_in_round(entry: &Entry, cycle: u64) -> bool
     ensures { result ≡ false → (x : Execution) → entry.now.stage ≡ Issued x → x.due % 64 ≢ cycle % 64 }
 {
-    match entry.stage {
-        Stage::Issued { execution } => execution.due % 64 == cycle % 64,
-        _ => false,
-    }
+    entry.stage.due() % 64 == cycle % 64
 }

@@ -11,7 +11,7 @@ ghost use Rattle.flight.specs.Marked.{marks_of, kinds_of, word_of, is_of_kind, i
 ghost use Rattle.flight.specs.Flights.{entry_in};
 
 use bit_vector::{assign, count, first, push, without_first, without_first_of_each};
-use core_view::{Entry, OperationKind, Stage};
+use core_view::{Entry, OperationKind};
 
 /// The word after those of the six kinds: it waits for issue.
 const WAITING: usize = 6;
@@ -197,7 +197,7 @@ fn push_kind(words: &mut [u64; 8], place: usize, entry: &Entry)
 pub(crate) fn is_waiting(entry: &Entry) -> bool
     ensures { result ≡ is_waiting entry.now }
 {
-    matches!(entry.stage, Stage::Queued)
+    entry.stage.is_queued()
 }
 
 /// Whether an entry is a load that was issued and missed, done or not.
@@ -205,17 +205,5 @@ pub(crate) fn is_waiting(entry: &Entry) -> bool
 fn is_load_that_missed(entry: &Entry) -> bool
     ensures { result ≡ is_load_that_missed entry.now }
 {
-    entry.operation.is_load() && missed_at_issue(&entry.stage)
-}
-
-/// Whether a stage is that of an execution that missed, done or not.
-#[inline]
-fn missed_at_issue(stage: &Stage) -> bool
-    ensures { result ≡ missed_at_issue stage.now }
-{
-    match stage {
-        Stage::Issued { execution } => execution.miss,
-        Stage::Done { execution } => execution.miss,
-        _ => false,
-    }
+    entry.operation.is_load() && entry.stage.has_missed()
 }

@@ -10,7 +10,6 @@ mod fault;
 mod load_store_queue;
 mod reading;
 mod search;
-mod stored;
 
 pub use answer::LoadAnswer;
 pub use fault::QueueFault;

@@ -10,7 +10,8 @@ ghost use Rattle.core_view.specs.declared.entry.Stage.TheVariants.{Queued};
 ghost use Rattle.core_view.specs.Flight.{bytes_in, span_in};
 ghost use Rattle.core_view.specs.Operations.{is_load, is_store, stops_at_fetch};
 ghost use Rattle.core_view.specs.Queues.{loads_of, stores_of, is_clear_in, value_seen_in, conflict_in};
-ghost use Rattle.flight.specs.Flights.{entry_in, execution_of, IsIssued, IsPlain, Frees, is_due, renamed_one, issued_one, finished_one, retired_one, cut_at};
+ghost use Rattle.core_view.specs.Stages.{execution_of, IsIssued};
+ghost use Rattle.flight.specs.Flights.{entry_in, IsPlain, Frees, is_due, renamed_one, issued_one, finished_one, retired_one, cut_at};
 ghost use Rattle.load_store_queue.specs.Queues.{HasPlace, load_stamp, store_stamp, with_span, slot_with_bytes, without_oldest};
 ghost use Rattle.load_store_queue.specs.Answered.{number_answered};
 
@@ -18,7 +19,6 @@ use crate::answer::LoadAnswer;
 use crate::fault::QueueFault;
 use crate::reading::{number, span_of};
 use crate::search::{conflict, newest_sharing};
-use crate::stored::bytes_to_come;
 use core_view::{Decoded, Execution, OperationKind, Span};
 use flight::{Finished, Flight};
 use paged_memory::{Memory, Width};
@@ -180,11 +180,10 @@ impl LoadStoreQueue {
         // The stamps of the entries grow, and the renamed ones are the oldest.
         let _len = flight.len();
         let _renamed = flight.renamed_count();
-        let Some(stored) = bytes_to_come(flight.get(place).unwrap()) else {
+        let Some(stored) = flight.get(place).unwrap().stage.bytes_to_come() else {
             flight.finish(place);
             return None;
         };
-        let stored = *stored;
         flight.finish(place);
         conflict(flight, place, stored)
     }

@@ -115,7 +115,7 @@ impl Accesses {
         let place = self.place(rt, stamp);
         let load = self.entry(rt, place);
         assert!(rt; load.operation.is_load());
-        assert!(rt; matches!(load.stage, Stage::Queued));
+        assert!(rt; load.stage.is_queued());
         let access = span.map(|span| Access::Reads { span });
         let execution = execution_of(access, Stop::LoadAccess);
         self.queue.issue_load(&mut self.flight, place, execution);
@@ -131,13 +131,13 @@ impl Accesses {
         let place = self.place(rt, stamp);
         let store = self.entry(rt, place);
         assert!(rt; !store.operation.is_load());
-        assert!(rt; matches!(store.stage, Stage::Queued));
+        assert!(rt; store.stage.is_queued());
         let access = bytes.map(|bytes| Access::Writes { bytes });
         let execution = execution_of(access, Stop::StoreAccess);
         self.flight.issue_other(place, execution);
         let store = self.entry(rt, place);
         assert!(rt; store.operation.is_store());
-        assert!(rt; matches!(store.stage, Stage::Issued { .. }));
+        assert!(rt; matches!(store.stage.to_stage(), Stage::Issued { .. }));
         self.queue.resolve_store(&mut self.flight, place)
     }
 

@@ -2,8 +2,8 @@
 ghost use Rattle.std.specs.Prelude.{◌≡◌};
 
 use core_view::{
-    Access, Bytes, CycleNote, Decoded, Entry, Execution, Operation, OperationKind, Outcome, Span,
-    Stage, Status, Step, access_fault, write_access,
+    Access, Bytes, CycleNote, Decoded, Entry, Execution, Operation, OperationKind, Outcome,
+    Progress, Span, Stage, Status, Step, access_fault, goes_to, write_access,
 };
 use hart_step::{Effect, Environment, Stop, execute};
 use paged_memory::{Fault, Memory, Width};
@@ -324,22 +324,34 @@ fn due_in(due: u64, outcome: Outcome) -> Execution {
 /// The first instruction of the countdown is fetched in cycle 0, renamed and issued in cycle 2, and done in 3.
 #[test]
 fn stages_of_the_first(rt: HostRuntime) {
-    let execution = due_in(3, goes(10, 0x10004));
+    let execution = Execution {
+        due: 3,
+        miss: false,
+        outcome: goes_to(10, 0x10004),
+    };
     let fetched = Entry::new(0, 0, 0x10000, Decoded::new(performs(ADDI_X5_10)), 0x10004);
     let renamed = fetched.renamed(2);
     let issued = renamed.issued(execution);
-    let done = issued.completed(execution);
+    let done = issued.completed();
+    assert_eq!(rt; fetched.queued(), renamed);
+    assert_eq!(rt; issued.settled(), done);
     assert_eq!(rt;
-        [fetched.stage, renamed.stage, issued.stage],
-        [Stage::Fetched, Stage::Queued, Stage::Issued { execution }]
+        [fetched, renamed, issued, done].map(|entry| entry.stage.to_stage()),
+        [
+            Stage::Fetched,
+            Stage::Queued,
+            Stage::Issued { execution },
+            Stage::Done { execution }
+        ]
     );
     assert_eq!(rt;
-        [issued.stage.due(2), issued.stage.due(3)],
-        [None, Some(execution)]
+        [2, 3].map(|cycle| issued.stage.is_due(cycle)),
+        [false, true]
     );
+    assert_eq!(rt; (issued.stage.due(), issued.stage.has_missed()), (3, false));
     assert_eq!(rt;
-        [issued.stage.result(), done.stage.result()],
-        [None, Some(10)]
+        (done.stage.step(), done.stage.stop()),
+        (Some(value_and_next(10, 0x10004)), None)
     );
     assert!(rt; !issued.stage.is_done() && done.stage.is_done() && done.followed == 0x10004);
 }
@@ -351,13 +363,13 @@ fn branch_and_end_of_countdown(rt: HostRuntime) {
     let back = entry.is_mispredicted(&value_and_next(0, 0x10004));
     let on = entry.is_mispredicted(&value_and_next(0, 0x1000C));
     assert_eq!(rt; [back, on], [true, false]);
-    let turned = entry.completed(due_in(5, goes(0, 0x10004)));
+    let turned = entry.issued(due_in(5, goes(0, 0x10004))).completed();
     let stop = Decoded::new(Operation::Stops { why: Stop::Ecall });
     let done = Entry::new(3, 0, 0x1000C, stop, 0x10010).renamed(2);
     let execution = due_in(2, Outcome::Stops { why: Stop::Ecall });
     assert_eq!(rt;
-        (done.stage, done.stage.result()),
-        (Stage::Done { execution }, None)
+        (done.stage.to_stage(), done.stage.step(), done.stage.stop()),
+        (Stage::Done { execution }, None, Some(Stop::Ecall))
     );
     assert_eq!(rt; [turned.followed, done.followed], [0x10004, 0x10010]);
 }
@@ -429,7 +441,7 @@ fn spans_and_bytes_of_accesses(rt: HostRuntime) {
     let loaded = Outcome::of_effect(0x10000, Effect::Loads { kind, address }, Ok(0x80));
     let span = Span { address, size: 1 };
     let execution = due_in(9, loaded);
-    let issued = Stage::Issued { execution };
+    let issued = Progress::issued(execution);
     let bytes = one_byte();
     let writes = Access::Writes { bytes };
     let reads = Access::Reads { span };

@@ -7,7 +7,7 @@ ghost use Rattle.core_view.specs.Flight.{seen_of, IsSound};
 ghost use Rattle.core_view.specs.Operations.{is_store, stops_at_fetch};
 ghost use Rattle.core_view.specs.declared.entry.Entry.{Entry};
 ghost use Rattle.core_view.specs.View.{entry_at};
-ghost use Rattle.flight.specs.Flights.{execution_of, IsIssued};
+ghost use Rattle.core_view.specs.Stages.{execution_of, IsIssued};
 ghost use Rattle.core_context.specs.Ends.{IsEnd};
 ghost use Rattle.core_context.specs.Track.{finished, cut_at, completed, cut_stamp};
 

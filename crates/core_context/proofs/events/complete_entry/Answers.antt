@@ -1,6 +1,6 @@
 use Rattle.std.proofs.Common.{ap, arith}
 use Rattle.core_view.specs.View.{entry_at}
-use Rattle.flight.specs.Flights.{execution_of}
+use Rattle.core_view.specs.Stages.{execution_of}
 use Rattle.core_context.specs.Track.{Track}
 use Rattle.core_context.proofs.Completes.{issued_renamed, told_completed}
 use Rattle.core_context.proofs.events.complete_entry.Goals as goal

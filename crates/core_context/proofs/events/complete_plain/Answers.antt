@@ -2,7 +2,7 @@ use Rattle.std.proofs.Common.{◌≡◌, ◌≤◌, length, ap, subst, ◌∙◌
 use Rattle.std.proofs.lemmas.List.{length-set}
 use Rattle.core_view.specs.Events.{completed_entry}
 use Rattle.core_view.specs.View.{entry_at}
-use Rattle.flight.specs.Flights.{execution_of}
+use Rattle.core_view.specs.Stages.{execution_of}
 use Rattle.core_context.specs.Track.{Track, completed}
 use Rattle.core_context.specs.Steps.{cut_by}
 use Rattle.core_context.proofs.Completes.{issued_known, issued_renamed, told_completed}

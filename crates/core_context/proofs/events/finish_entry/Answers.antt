@@ -1,7 +1,7 @@
 use Rattle.std.proofs.Common.{◌≡◌, sym, ap, ◌∙◌}
 use Rattle.core_view.specs.Flight.{result_in}
 use Rattle.core_view.specs.View.{entry_at}
-use Rattle.flight.specs.Flights.{execution_of}
+use Rattle.core_view.specs.Stages.{execution_of}
 use Rattle.data_flow.specs.Flow.{Flow, left_in}
 use Rattle.core_context.specs.Steps.{finished_flow}
 use Rattle.core_context.specs.Track.{Track}

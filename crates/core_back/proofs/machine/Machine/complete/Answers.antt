@@ -1,6 +1,6 @@
 use Rattle.std.proofs.Common.{length, refl, ap, ◌∙◌, arith}
 use Rattle.core_view.specs.View.{Context, entry_at}
-use Rattle.flight.specs.Flights.{execution_of}
+use Rattle.core_view.specs.Stages.{execution_of}
 use Rattle.core_view.specs.Events.{complete_event}
 use Rattle.core_context.specs.Track.{Track}
 use Rattle.core_back.proofs.Machines.{At, at_context, is_idle, machine_after_event, shown_after, shown_length}

@@ -1,7 +1,8 @@
 use Rattle.std.proofs.Common.{length, refl, ap, subst, ◌∙◌, arith}
 use Rattle.core_view.specs.View.{Context, entry_at}
 use Rattle.core_view.specs.Events.{complete_event}
-use Rattle.flight.specs.Flights.{execution_of, is_due, NoneFrom}
+use Rattle.core_view.specs.Stages.{execution_of}
+use Rattle.flight.specs.Flights.{is_due, NoneFrom}
 use Rattle.core_context.specs.Track.{Track}
 use Rattle.core_back.specs.Machine.{context_at}
 use Rattle.core_back.proofs.Machines.{At, at_context, is_idle, machine_after_event, shown_after, shown_same, shown_there, shown_length}

@@ -4,7 +4,7 @@ use Rattle.core_view.specs.Events.{completed_entry}
 use Rattle.reorder_buffer.specs.Growing.{IsGrowing}
 use Rattle.core_view.specs.declared.entry.Entry.{Entry}
 use Rattle.core_view.specs.View.{entry_at}
-use Rattle.flight.specs.Flights.{execution_of}
+use Rattle.core_view.specs.Stages.{execution_of}
 use Rattle.core_context.specs.Track.{Track, cut_at}
 use Rattle.core_context.proofs.Tracks.{complete_whole, complete_cut, cut_behind}
 use Rattle.core_context.proofs.track.Track.complete.Goals as goal

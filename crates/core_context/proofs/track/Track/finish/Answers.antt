@@ -1,7 +1,8 @@
 use Rattle.std.proofs.Common.{rules, List, ◌≡◌, false, ap, sym, subst, ◌∙◌, ◌+◌, slice_get, get_or, Some, None}
 use Rattle.std.specs.Prelude.{set}
 use Rattle.std.proofs.lemmas.Option.{get_or_from_slice_get, slice_get_within}
-use Rattle.flight.specs.Flights.{Flight, execution_of, IsIssued}
+use Rattle.core_view.specs.Stages.{execution_of, IsIssued}
+use Rattle.flight.specs.Flights.{Flight}
 use Rattle.core_view.specs.declared.entry.Stage.TheVariants.{Issued}
 use Rattle.core_view.specs.declared.entry.Entry.{Entry}
 use Rattle.core_view.specs.declared.entry.Execution.{Execution}

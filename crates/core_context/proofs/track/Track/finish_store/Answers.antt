@@ -1,7 +1,8 @@
 use Rattle.std.proofs.Common.{List, ◌≡◌, ◌<◌, ap, sym, refl, subst, ◌∙◌, length, get_or}
 use Rattle.std.specs.Prelude.{set}
 use Rattle.std.proofs.lemmas.Option.{slice_get-get_or}
-use Rattle.flight.specs.Flights.{Flight, execution_of}
+use Rattle.core_view.specs.Stages.{execution_of}
+use Rattle.flight.specs.Flights.{Flight}
 use Rattle.core_view.specs.declared.entry.Stage.TheVariants.{Issued}
 use Rattle.core_view.specs.declared.entry.Entry.{Entry}
 use Rattle.core_view.specs.Outcomes.{image_of}

@@ -6,7 +6,8 @@ use Rattle.core_view.specs.Flight.{result_in}
 use Rattle.core_view.specs.Operations.{is_store}
 use Rattle.core_view.specs.declared.entry.Stage.TheVariants.{Issued}
 use Rattle.flight.specs.Marked.{is_issued_load}
-use Rattle.flight.specs.Flights.{Flight, entry_in, execution_of, NoneRenamedFrom}
+use Rattle.core_view.specs.Stages.{execution_of}
+use Rattle.flight.specs.Flights.{Flight, entry_in, NoneRenamedFrom}
 use Rattle.flight.proofs.Kept.{issued-renamed}
 use Rattle.flight.proofs.Looks.{unread}
 use Rattle.flight.proofs.Words.{few-taken}
@@ -36,5 +37,5 @@ has_from-requires g c =
 
 pub returns-clause-frees : goal.returns-clause-frees
 returns-clause-frees g c =
-    freed c.args.self.now c.finish.new.self c.args.place (execution_of (entry_in c.args.self.now.entries c.args.place).stage) c.requires.place c.requires.issued c.finish.ensures _ c.unguarded.result c.unguarded-before.result
+    freed c.args.self.now c.finish_where.new.self c.args.place (execution_of (entry_in c.args.self.now.entries c.args.place).stage) c.requires.place c.requires.issued c.finish_where.ensures _ c.unguarded.result c.unguarded-before.result
     c.unguarded.ensures.set c.unguarded.ensures.within c.unguarded.ensures.waits c.unguarded.ensures.none_open c.unguarded-before.ensures.set c.unguarded-before.ensures.none_open c.has_more-frees.ensures.none c.has_more-frees.ensures.all

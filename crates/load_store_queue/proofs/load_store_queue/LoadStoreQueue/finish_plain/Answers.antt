@@ -5,7 +5,8 @@ use Rattle.core_view.specs.Flight.{bytes_in}
 use Rattle.core_view.specs.Operations.{is_store}
 use Rattle.core_view.specs.Queues.{is_renamed, loads_of, conflict_in}
 use Rattle.flight.specs.declared.finished.Finished.{Finished}
-use Rattle.flight.specs.Flights.{Flight, entry_in, execution_of, IsPlain}
+use Rattle.core_view.specs.Stages.{execution_of}
+use Rattle.flight.specs.Flights.{Flight, entry_in, IsPlain}
 use Rattle.load_store_queue.proofs.RenamedPlace.{IsRenamedPlace, renamed-place}
 use Rattle.load_store_queue.proofs.LoadsBehind.{conflict-unread}
 use Rattle.load_store_queue.proofs.load_store_queue.LoadStoreQueue.finish_plain.Goals as goal
