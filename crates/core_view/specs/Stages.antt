@@ -1,5 +1,5 @@
 -- Stages, and their parts side by side.
-use Rattle.std.specs.Prelude.{◌≡◌, ℕ, false, Option, Some, None}
+use Rattle.std.specs.Prelude.{◌≡◌, false, Option, Some, None}
 use Rattle.hart_step.specs.declared.stop.Stop.{Stop}
 use Rattle.hart_step.specs.declared.stop.Stop.TheVariants.{TargetMisaligned}
 use Rattle.core_view.specs.declared.span.Bytes.{Bytes}
