@@ -585,8 +585,8 @@ fn set_in<A: Allocator>(ring: &mut Ring<Entry, A>, place: usize, entry: Entry)
 }
 
 // What these functions write is what stands there, but for the stage. So that no other part of an entry is written back,
-// the compiler has to see this before it is put in line where something is known of these parts: they aren't always put
-// in line at once.
+// the compiler has to see this before it is put in line where something is known of these parts: hence `inline`, and not
+// `inline(always)`.
 
 /// The entry at a place, which is fetched, waits for issue.
 #[inline]
