@@ -508,7 +508,8 @@ impl<A: Allocator> Flight<A> {
         lowest(turn(self.hints[(cycle % 64) as usize], slot_of(self.base, 0)))
     }
 
-    /// Whether the entry at a place is issued and due a number of times 64 cycles from a cycle.
+    /// Whether the entry at a place may be due a number of times 64 cycles from a cycle, as it is if it is issued and due
+    /// then.
     #[inline]
     fn is_due_in_round(&self, cycle: u64, place: usize) -> bool
         ensures { result ≡ false → (x : Execution) → (entry_in self.now.entries place).stage ≡ Issued x → x.due % 64 ≢ cycle % 64 }
@@ -677,7 +678,7 @@ fn guesses_from<A: Allocator>(ring: &Ring<Entry, A>, from: usize) -> usize
     count
 }
 
-/// Whether an entry is issued and due a number of times 64 cycles from a cycle.
+/// Whether an entry may be due a number of times 64 cycles from a cycle, as it is if it is issued and due then.
 #[inline]
 fn is_due_in_round(entry: &Entry, cycle: u64) -> bool
     ensures { result ≡ false → (x : Execution) → entry.now.stage ≡ Issued x → x.due % 64 ≢ cycle % 64 }
