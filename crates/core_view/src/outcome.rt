@@ -2,7 +2,6 @@
 ghost use Rattle.std.specs.Prelude.{◌≡◌};
 ghost use Rattle.hart_step.specs.Values.{loaded};
 ghost use Rattle.core_view.specs.Outcomes.{goes_to as goes_to_of, loads_at as loads_at_of, stores_at as stores_at_of, outcome_with, bytes_written, span_of};
-ghost use Rattle.core_view.specs.Flight.{result_in, bytes_in, span_in};
 
 use crate::span::{Bytes, Span};
 use hart_step::{Effect, Stop, following, load_width, stop_of_fault, store_width};
@@ -162,39 +161,6 @@ impl Outcome {
                 },
             },
             Effect::Stops { why } => Outcome::Stops { why },
-        }
-    }
-
-    /// The result that entries after it may use: a stop gives none.
-    #[inline]
-    pub fn result(&self) -> Option<u64>
-        ensures { result ≡ result_in self.now }
-    {
-        match *self {
-            Outcome::Goes { step } => Some(step.result),
-            Outcome::Stops { .. } => None,
-        }
-    }
-
-    /// The bytes that it writes.
-    #[inline]
-    pub fn bytes(&self) -> Option<Bytes>
-        ensures { result ≡ bytes_in self.now }
-    {
-        match *self {
-            Outcome::Goes { step } => step.access.bytes(),
-            Outcome::Stops { .. } => None,
-        }
-    }
-
-    /// The span that it read.
-    #[inline]
-    pub fn span(&self) -> Option<Span>
-        ensures { result ≡ span_in self.now }
-    {
-        match *self {
-            Outcome::Goes { step } => step.access.span(),
-            Outcome::Stops { .. } => None,
         }
     }
 }

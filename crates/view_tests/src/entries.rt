@@ -382,6 +382,15 @@ fn store_of(width: StoreWidth, address: u64, value: u64) -> Effect {
     }
 }
 
+/// The outcome of what goes on with a value for its destination to a next pc.
+fn accessing(value: u64, next: u64, access: Access) -> Outcome {
+    let step = Step {
+        access,
+        ..value_and_next(value, next)
+    };
+    Outcome::Goes { step }
+}
+
 fn fault_at(memory: &Memory, address: u64) -> Option<Fault> {
     let store = store_of(StoreWidth::Double, address, 0);
     access_fault(Environment::One, memory, store)
@@ -445,16 +454,12 @@ fn spans_and_bytes_of_accesses(rt: HostRuntime) {
     let bytes = one_byte();
     let writes = Access::Writes { bytes };
     let reads = Access::Reads { span };
-    assert_eq!(rt; loaded.result(), Some(0xFFFF_FFFF_FFFF_FF80));
-    assert_eq!(rt;
-        [stored.bytes(), writes.bytes(), issued.bytes()],
-        [Some(bytes), Some(bytes), None]
-    );
-    assert_eq!(rt;
-        [loaded.span(), issued.span(), reads.span()],
-        [Some(span); 3]
-    );
-    assert_eq!(rt; [stored.span(), Access::Free.span()], [None; 2]);
+    let stores = accessing(0, 0x1000C, writes);
+    let loads = accessing(0xFFFF_FFFF_FFFF_FF80, 0x10004, reads);
+    assert_eq!(rt; [stored, loaded], [stores, loads]);
+    assert_eq!(rt; [writes.bytes(), issued.bytes()], [Some(bytes), None]);
+    assert_eq!(rt; [issued.span(), reads.span()], [Some(span); 2]);
+    assert_eq!(rt; [writes.span(), Access::Free.span()], [None; 2]);
 }
 
 #[test]
