@@ -74,6 +74,11 @@ BY_ITSELF_TOO = (
     f"it calls `{BELOW}`, which is not proved\n"
 )
 BY_A_CALL = f"fn {{0}}: no proof: it calls `{BELOW}`, which is not proved\n"
+BY_A_BLOCK = (
+    f"fn {{0}}: no proof: it calls `{BELOW}`, which is not proved; it passes the block `reorder_buffer::RingJoin`, "
+    "which is not proved\n"
+)
+BARE_BUT_CALLS = BY_A_BLOCK.replace("no proof: ", "not proved; ")
 REFUSED_ANSWER = (
     "./proofs/ring/Ring/count_below/Answers.antt:8:80: error: `returns-then-stamp-clause-below`: `omega`: the goal "
     "does not follow from what it read.\n"
@@ -85,6 +90,18 @@ ANSWER_NOT_TRIED = (
 ANSWER_NAMES = (
     "./proofs/ring/Ring/count_below/Answers.antt:7:63: error: `invariant_of-self`: record `Lts.After-map_err` has no "
     "field `try_push_back` (nearest: .try_push_front)\n"
+)
+ANSWER_NAMES_OWN = (
+    "./proofs/ring/Ring/count_below/Answers.antt:7:63: error: `invariant_of-self`: record "
+    "`Rattle.reorder_buffer.proofs.ring.Ring.count_below.Lts.After-map_err` has no field `try_push_back`\n"
+)
+ANSWER_NAMES_OWN_GOAL = (
+    "./proofs/ring/Ring/count_below/Answers.antt:4:5: error: `returns`: `goal.returns`: module "
+    "`Rattle.reorder_buffer.proofs.ring.Ring.count_below.Goals` has no `returns` that can be named from here\n"
+)
+ANSWER_NAMES_OTHERS = (
+    "./proofs/ring/Ring/count_below/Answers.antt:7:63: error: `invariant_of-self`: record "
+    "`Rattle.reorder_buffer.proofs.ring.Ring.len.Lts.After-map_err` has no field `try_push_back`\n"
 )
 PROVED, BARE = "fn {0}: proved\n", "fn {0}: not proved\n"
 NOT_PROVED = "logic=not-proved\n"
@@ -110,11 +127,28 @@ class OutputTest(unittest.TestCase):
         self.assertFalse(said.is_own("src/ring.rt", 1, 99))
         self.assertTrue(said.is_called_only)
 
+    def test_a_block_that_is_passed(self) -> None:
+        for line in (BY_A_BLOCK, BARE_BUT_CALLS):
+            said = output.read(BARE.format(BELOW) + line.format(CUT))[CUT]
+            self.assertFalse(said.is_own("src/ring.rt", 1, 99))
+            self.assertTrue(said.is_called_only)
+        refused = REFUSED_ANSWER.replace("count_below", "cut_from")
+        self.assertTrue(self.is_own(refused + BARE_BUT_CALLS.format(CUT), CUT))
+
     def test_a_refused_answer(self) -> None:
         self.assertTrue(self.is_own(REFUSED_ANSWER + BARE.format(BELOW), BELOW))
         self.assertFalse(self.is_own(ANSWER_NOT_TRIED + BARE.format(BELOW), BELOW))
         self.assertFalse(self.is_own(ANSWER_NAMES + BARE.format(BELOW), BELOW))
         self.assertFalse(self.is_own(REFUSED_ANSWER + BARE.format(LEN), LEN))
+
+    def test_an_answer_that_names_what_is_gone(self) -> None:
+        self.assertTrue(self.is_own(ANSWER_NAMES_OWN + BARE.format(BELOW), BELOW))
+        self.assertTrue(self.is_own(ANSWER_NAMES_OWN_GOAL + BARE.format(BELOW), BELOW))
+        self.assertFalse(self.is_own(ANSWER_NAMES_OTHERS + BARE.format(BELOW), BELOW))
+        self.assertFalse(self.is_own(ANSWER_NAMES_OWN + BARE.format(LEN), LEN))
+        calls = f"fn {CUT}: not proved; it calls `{BELOW}`, which is not proved\n"
+        named = ANSWER_NAMES_OWN.replace("count_below", "cut_from")
+        self.assertFalse(self.is_own(named + BARE.format(BELOW) + calls, CUT))
 
     def test_proved(self) -> None:
         self.assertTrue(output.read(PROVED.format(LEN))[LEN].is_proved)
@@ -369,7 +403,13 @@ class RoundsTest(unittest.TestCase):
         self.assertEqual([it.refused for it in tried.results], [True])
         self.assertEqual(made.only, [sorted(KNOWN), sorted(KNOWN)])
 
-    def test_answers_that_name_what_is_gone_go_alone(self) -> None:
+    def test_answers_that_name_what_is_gone(self) -> None:
+        made, tried = self.trial([ANSWER_NAMES_OWN + BARE.format(BELOW) + NOT_PROVED], {"below": self.BELOW_EDIT})
+        self.assertEqual([it.refused for it in tried.results], [True])
+        self.assertIn("names what the edit took away", tried.results[0].said)
+        self.assertEqual((made.only, made.tried), ([[BELOW]], []))
+
+    def test_answers_that_name_what_others_lack_go_alone(self) -> None:
         said = ANSWER_NAMES + BARE.format(BELOW) + NOT_PROVED
         made, tried = self.trial([said, BARE.format(BELOW) + "only=1 proved=0\n", "logic=proved\n"],
                                  {"below": self.BELOW_EDIT})

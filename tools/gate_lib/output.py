@@ -1,8 +1,9 @@
 """What the prover says of a function, and whether that is a reason of the function's own.
 
 A function's line says `proved`, or why not: goals of its own that `search` did not prove, answers of its own that were
-refused, or calls of functions that are not proved. Only the first two are reasons of its own. What stands here is the
-text of the toolchain's versions that `kit.py` names; a line that isn't known is no reason.
+refused or that name what its body no longer has, or calls of functions that are not proved. Only the last is no reason
+of its own. What stands here is the text of the toolchain's versions that `kit.py` names; a line that isn't known is no
+reason.
 """
 
 import re
@@ -11,9 +12,12 @@ from typing import Dict, List, NamedTuple, Tuple
 LINE = re.compile(r"^(?:fn|impl|struct|enum|trait) ([^ ]+): (.*)$")
 NOTE = re.compile(r"^note: (?:\./)?(src/\S+?):(\d+):\d+: (?:it is not proved that |`search` found no proof)")
 ERROR = re.compile(r"^\./(proofs/\S+)/(?:Answers|Invariants|Proof)\.antt:\d+:\d+: error: (.*)$")
+# An answer that names what an edit took away from the modules that the prover makes of its function's body.
+GONE = re.compile(r"(?:record|module) `Rattle\.(\S+?)\.(?:Lts|Goals|Given)[`.]\S* has no ")
 # An answer that wasn't looked at, and one that names what an edit took away: no goal was refused there.
 NOT_TRIED = re.compile(r"was not checked|were not checked|has no field|is not in scope|has no `|was not admitted")
-CALLS = r"it calls `[^;]*, which (?:is|are) not proved"
+CALL = r"it (?:calls|passes the blocks?) `[^;]*, which (?:is|are) not proved"
+CALLS = rf"{CALL}(?:; {CALL})*"
 OWN = re.compile(
     r"no proof: expected answers in \./proofs/\S+/Answers\.antt; `search` did not prove `[^;]*(?:; " + CALLS + ")?"
     r"|not proved(?:; " + CALLS + ")?"
@@ -30,6 +34,8 @@ class Said(NamedTuple):
     goals: List[Tuple[str, int]]
     # Whether an answer of its own was refused.
     refused_answer: bool
+    # Whether an answer of its own names what its body no longer has.
+    names_gone: bool
 
     @property
     def is_proved(self) -> bool:
@@ -47,16 +53,25 @@ class Said(NamedTuple):
             return False
         if any(it[0] != path or not first <= it[1] <= last for it in self.goals):
             return False
-        return bool(self.goals) or self.refused_answer
+        return bool(self.goals) or self.refused_answer or self.is_gone_only
+
+    @property
+    def is_gone_only(self) -> bool:
+        """Whether all that is said against it is that an answer names what its body no longer has: it calls nothing
+        that isn't proved, and no goal of its own was refused."""
+        return self.line == "not proved" and self.names_gone and not self.goals and not self.refused_answer
 
 
 def read(text: str) -> Dict[str, Said]:
     """What a check says of each function, by its name."""
-    refused = set()
+    refused, gone = set(), set()
     for line in text.split("\n"):
         error = ERROR.match(line)
         if error and not NOT_TRIED.search(error[2]):
             refused.add(error[1])
+        missing = GONE.search(error[2]) if error else None
+        if error and missing and missing[1].split(".")[1:] == error[1].split("/"):
+            gone.add(error[1])
     found: Dict[str, Said] = {}
     goals: List[Tuple[str, int]] = []
     for line in text.split("\n"):
@@ -66,7 +81,7 @@ def read(text: str) -> Dict[str, Said]:
         elif said:
             if line.startswith("fn "):
                 answers = "/".join(["proofs", *said[1].split("::")[1:]])
-                found[said[1]] = Said(said[2], goals, answers in refused)
+                found[said[1]] = Said(said[2], goals, answers in refused, answers in gone)
             goals = []
     return found
 

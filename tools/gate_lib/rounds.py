@@ -133,7 +133,8 @@ class Trial:
             if is_its and it.is_own(edit.path, placed.first, placed.last):
                 if edit is self.plant:
                     return True
-                self.results.append(Result(edit.label, True, f"refused, as it must be: {name}: {it.line}"))
+                why = " (only because an answer names what the edit took away)" if it.is_gone_only else ""
+                self.results.append(Result(edit.label, True, f"refused, as it must be: {name}: {it.line}{why}"))
                 return True
         return False
 
@@ -196,7 +197,7 @@ class Trial:
 
 def is_settled(said: Optional[output.Said]) -> bool:
     """Whether what is said of a function would be said in another round too: it isn't proved and calls nothing that
-    isn't, but no goal of its own was refused, as where its answers name what an edit took away."""
+    isn't, but no goal of its own was refused, as where a lemma names what an edit took away."""
     return said is not None and said.line == "not proved" and not said.goals and not said.refused_answer
 
 
