@@ -10,6 +10,20 @@ use origin_set::Origin;
 use std::alloc::Allocator;
 use std::sync::Arc;
 
+// Two marks. A struct is dropped by one call where memory is refused, and a tuple part by part.
+#[derive(Drop)]
+struct Two<A: Allocator> {
+    first: Mark<A>,
+    second: Mark<A>,
+}
+
+// Four marks.
+#[derive(Drop)]
+struct Four<A: Allocator> {
+    low: Two<A>,
+    high: Two<A>,
+}
+
 /// The start of each context, at its place. C3 is the only refusal.
 pub fn starts<A: Allocator + Copy>(
     alloc: A,
@@ -20,21 +34,37 @@ pub fn starts<A: Allocator + Copy>(
     ensures err { OnErr result (result ≡ Err MarkFault.OutOfMemory) }
 {
     let [n0, n1, n2, n3, n4, n5, n6, n7] = Ctx::all();
-    let (c0, c1, c2, c3) = four_starts(alloc, origin, n0, n1, n2, n3)?;
-    let (c4, c5, c6, c7) = four_starts(alloc, origin, n4, n5, n6, n7)?;
-    Ok(Eight {
-        c0,
-        c1,
-        c2,
-        c3,
-        c4,
-        c5,
-        c6,
-        c7,
-    })
+    let low = four_starts(alloc, origin, n0, n1, n2, n3)?;
+    let high = four_starts(alloc, origin, n4, n5, n6, n7)?;
+    Ok(eight_of(low, high))
 }
 
-// The starts of four contexts. Two by two, few marks are dropped where memory is refused.
+// Two times four marks, in order.
+fn eight_of<A: Allocator>(low: Four<A>, high: Four<A>) -> Eight<Mark<A>>
+    ensures { result ≡ record {
+      c0 = low.low.first;
+      c1 = low.low.second;
+      c2 = low.high.first;
+      c3 = low.high.second;
+      c4 = high.low.first;
+      c5 = high.low.second;
+      c6 = high.high.first;
+      c7 = high.high.second;
+    } }
+{
+    Eight {
+        c0: low.low.first,
+        c1: low.low.second,
+        c2: low.high.first,
+        c3: low.high.second,
+        c4: high.low.first,
+        c5: high.low.second,
+        c6: high.high.first,
+        c7: high.high.second,
+    }
+}
+
+// The starts of four contexts.
 fn four_starts<A: Allocator + Copy>(
     alloc: A,
     origin: &Arc<Origin<A>, A>,
@@ -42,17 +72,17 @@ fn four_starts<A: Allocator + Copy>(
     b: Ctx,
     c: Ctx,
     d: Ctx,
-) -> Result<(Mark<A>, Mark<A>, Mark<A>, Mark<A>), MarkFault>
+) -> Result<Four<A>, MarkFault>
     ensures ok { IfOk result (λ marks.
-        (marks.0 ≡ start_of (arc_value origin.now) a) ×
-        (marks.1 ≡ start_of (arc_value origin.now) b) ×
-        (marks.2 ≡ start_of (arc_value origin.now) c) ×
-        (marks.3 ≡ start_of (arc_value origin.now) d)) }
+        (marks.low.first ≡ start_of (arc_value origin.now) a) ×
+        (marks.low.second ≡ start_of (arc_value origin.now) b) ×
+        (marks.high.first ≡ start_of (arc_value origin.now) c) ×
+        (marks.high.second ≡ start_of (arc_value origin.now) d)) }
     ensures err { OnErr result (result ≡ Err MarkFault.OutOfMemory) }
 {
-    let (first, second) = two_starts(alloc, origin, a, b)?;
-    let (third, fourth) = two_starts(alloc, origin, c, d)?;
-    Ok((first, second, third, fourth))
+    let low = two_starts(alloc, origin, a, b)?;
+    let high = two_starts(alloc, origin, c, d)?;
+    Ok(Four { low, high })
 }
 
 // The starts of two contexts.
@@ -61,13 +91,13 @@ fn two_starts<A: Allocator + Copy>(
     origin: &Arc<Origin<A>, A>,
     a: Ctx,
     b: Ctx,
-) -> Result<(Mark<A>, Mark<A>), MarkFault>
+) -> Result<Two<A>, MarkFault>
     ensures ok { IfOk result (λ marks.
-        (marks.0 ≡ start_of (arc_value origin.now) a) ×
-        (marks.1 ≡ start_of (arc_value origin.now) b)) }
+        (marks.first ≡ start_of (arc_value origin.now) a) ×
+        (marks.second ≡ start_of (arc_value origin.now) b)) }
     ensures err { OnErr result (result ≡ Err MarkFault.OutOfMemory) }
 {
     let first = Mark::start(alloc, origin, a)?;
     let second = Mark::start(alloc, origin, b)?;
-    Ok((first, second))
+    Ok(Two { first, second })
 }

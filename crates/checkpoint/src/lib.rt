@@ -12,6 +12,7 @@ mod best;
 mod eight_starts;
 mod eights;
 mod fault;
+mod run;
 
 pub use best::{furthest, furthest_each, furthest_leaf, furthest_leaf_each};
 pub use eight_starts::starts;
@@ -149,8 +150,7 @@ impl<A: Allocator> Mark<A> {
         ensures furthest { IfOk result (λ _. self.old.count ≡ 0 → IsFurthest self.old.origin self.old.context n self.new) }
         ensures err { IfErr result (λ fault. (fault ≡ MarkFault.OutOfMemory) × (self.new ≡ self.old)) }
     {
-        let (done, why) = self.hart.run(n);
-        self.count += done;
+        let (done, why) = self.run(n);
         Ok((done, why))
     }
 

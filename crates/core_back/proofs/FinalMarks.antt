@@ -1,5 +1,6 @@
 -- The marks that a machine leaves.
-use Rattle.std.proofs.Common.{◌≡◌, ℕ, zero, suc, ◌+◌, ◌<◌, ◌≤◌, List, [], ◌∷◌, length, take, get_or, refl, arith, ap, sym, subst, ◌∙◌}
+use Rattle.std.proofs.Common.{◌≡◌, ℕ, zero, suc, ◌+◌, ◌-◌, ◌<◌, ◌≤◌, List, [], ◌∷◌, length, take, get_or, Option, Some, refl, arith, ap, sym, subst, ◌∙◌}
+use Rattle.std.proofs.lemmas.Option.{same_Some}
 use Rattle.hart_step.specs.State.{State}
 use Rattle.join_law.specs.Eight.{place_of}
 use Rattle.join_law.specs.declared.places.Eight.{Eight}
@@ -98,3 +99,7 @@ mark_is_at o p stamp reorder f names c t x mark core same is e =
   where
     here : mark ≡ mark_at o c t
     here = e ∙ ap (λ (q : OriginValue). mark_at q c t) same
+
+-- what is taken off the end of a list of n + 1 is its item n
+pub last_of : (ts : List Track) (k n : ℕ) (o : Option Track) (t : Track) → o ≡ Some (get_or ts (k - 1) no_track) → o ≡ Some t → k ≡ n + 1 → t ≡ get_or ts n no_track
+last_of ts k n o t read is long = same_Some t (get_or ts (k - 1) no_track) (sym is ∙ read) ∙ ap (λ i. get_or ts i no_track) (omega (arith, long))

@@ -162,6 +162,26 @@ module _ {A : Type 0} where
   shown_length m c k u lt same cut before fewer =
       rw (same, map-set (λ (t : Track). t.context) m.tracks.items c u, get_or-set_same (map (λ (t : Track). t.context) m.tracks.items) c u.context no_context (omega (arith, lt, length-map m.tracks.items (λ (t : Track). t.context)))) fewer
 
+  -- the machine after a track was passed to a call that leaves it as it was
+  pub machine_same : (m n : Inside A) (c k : ℕ) (u : Track) → IsMachine m → u ≡ get_or m.tracks.items c no_track → k ≡ c
+      → n.origins ≡ m.origins → n.flow ≡ m.flow → n.tracks.items ≡ set m.tracks.items k u → n.selected ≡ m.selected → n.cycle ≡ m.cycle → n.stamp ≡ m.stamp → n.fetch_room ≡ m.fetch_room → n.profile ≡ m.profile → n.holds ≡ m.holds → IsMachine n
+  machine_same m n c k u ok read same origins flow tracks_k names cycle stamp room profile holds =
+      let tracks : n.tracks.items ≡ m.tracks.items = tracks_k ∙ ap (λ i. set m.tracks.items i u) same ∙ ap (set m.tracks.items c) read ∙ set-get_or m.tracks.items c no_track in
+      record {
+        cores = rw (origins, flow, tracks, names, stamp, profile) ok.cores;
+        origins = rw origins ok.origins;
+        tracks = rw tracks ok.tracks;
+        lanes = rw flow ok.lanes;
+        contexts = rw flow ok.contexts;
+        let_go = rw (flow, holds) ok.let_go;
+        apart = rw names ok.apart;
+        supplied = rw (names, flow) ok.supplied;
+        clear = rw (names, flow, tracks) ok.clear;
+        left = rw (names, flow) ok.left;
+        stamps = rw (stamp, room, cycle) ok.stamps;
+        room = rw (profile, flow, tracks) ok.room;
+      }
+
   -- the machine after so many entries of the context c were fetched: as many stamps were taken
   pub machine_fetched : (m n : Inside A) (now : Machine) (c k number : ℕ) (u : Track) → machine_of m ≡ now → IsMachine m → now.names ≡ [] → c < 8
       → IsCore (start (arc_value m.origins.c0) c) (m.stamp + number) m.profile.reorder_buffer m.flow [] c u

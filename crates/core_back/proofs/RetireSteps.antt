@@ -204,3 +204,8 @@ pub turn_bound : (on : Bool) (dropped now left less t bit u : ℕ) → dropped +
     → now + less * 80 ≤ 1280 + u * 80
 turn_bound true dropped now left less t bit u before most fewer one is from = let less_one : less + 1 ≡ left = one refl in omega (arith, before, most, less_one, from)
 turn_bound false dropped now left less t bit u before most fewer one is from = omega (arith, before, most, fewer, is, from)
+
+-- what is left of the width and of the turns gets less
+pub turn_smaller : (on : Bool) (left less t bit u : ℕ) → less ≤ left → (on ≡ true → less + 1 ≡ left) → bit ≡ bool_byte (not on) → t + bit ≤ u → t < 64 → less + (64 - u) < left + (64 - t)
+turn_smaller true left less t bit u fewer one is from low = let less_one : less + 1 ≡ left = one refl in omega (arith, less_one, from, low)
+turn_smaller false left less t bit u fewer one is from low = omega (arith, fewer, is, from, low)

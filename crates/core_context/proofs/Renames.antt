@@ -1,7 +1,7 @@
 -- The oldest fetched entry is renamed: what that asks, and what it leaves of a core.
 use Rattle.std.proofs.Common.{◌≡◌, ◌≢◌, ℕ, zero, suc, ◌+◌, ◌<◌, Bool, true, false, not, ◌&&◌, List, [], ◌∷◌, ◌++◌, length, get_or, take, drop, map, Option, None, refl, sym, ap, subst, ◌∙◌, arith}
 use Rattle.std.specs.Prelude.{◌==◌, set, if◌then◌else◌, All}
-use Rattle.std.proofs.lemmas.Bool.{or_parts}
+use Rattle.std.proofs.lemmas.Bool.{or_parts, eqb-true}
 use Rattle.std.proofs.lemmas.List.Elements.{All-map, All-push, All-from_get_or}
 use Rattle.std.proofs.lemmas.List.{length-set, length-take-le, get_or-take, take_more_set, drop_more, drop-set-lt, map_push}
 use Rattle.hart_step.specs.State.{State}
@@ -195,3 +195,11 @@ sizes-renamed_flow f c e speculative lt = by_stop (stops_at_fetch e.operation)
     by_stop : (b : Bool) → KeepsSizes f (if b then g else record g { waiters = f.waiters ++ w ∷ [] })
     by_stop true = sizes-with_lane f c (with_node (lane f c) (operands_of e))
     by_stop false = record { lanes = count-with_lane f c (with_node (lane f c) (operands_of e)); extra = refl; places = refl; contexts = λ all. All-push (λ w. w.context < 8) f.waiters w all lt; let_go = λ all. All-push (λ w. w.held ≡ false) f.waiters w all refl }
+
+-- what needs no register has no destination
+pub needs_none : (o : Operation) → 0 < destination_of o → not (destination_of o == 0) ≡ false → ⊥
+needs_none o some none = by_test (destination_of o == 0) (eqb-true (destination_of o) 0) none
+  where
+    by_test : (b : Bool) → (b ≡ true → destination_of o ≡ 0) → not b ≡ false → ⊥
+    by_test true is none = omega (arith, some, is refl)
+    by_test false is none = let bad : true ≡ false = none in absurd cc

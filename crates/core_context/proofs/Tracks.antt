@@ -8,7 +8,9 @@ use Rattle.std.proofs.lemmas.Option.{get_or_from_slice_get, slice_get-get_or, sl
 use Rattle.circular_buffer.specs.Buffer.{last_item}
 use Rattle.reorder_buffer.specs.Growing.{IsGrowing as IsRising, below}
 use Rattle.reorder_buffer.proofs.Stamps.{take-below}
+use Rattle.paged_memory.specs.Cells.{Cells}
 use Rattle.hart_step.specs.declared.stop.Stop.{Stop}
+use Rattle.hart_step.specs.State.{written}
 use Rattle.core_view.specs.declared.span.Bytes.{Bytes}
 use Rattle.core_view.specs.declared.outcome.Step.{Step}
 use Rattle.core_view.specs.declared.outcome.Outcome.{Outcome}
@@ -17,23 +19,23 @@ use Rattle.core_view.specs.declared.entry.Execution.{Execution}
 use Rattle.core_view.specs.declared.entry.Stage.{Stage}
 use Rattle.core_view.specs.declared.entry.Stage.TheVariants.{Fetched, Queued, Issued, Done}
 use Rattle.core_view.specs.declared.entry.Entry.{Entry}
-use Rattle.core_view.specs.Operations.{stops_at_fetch, is_guessed, is_store}
-use Rattle.core_view.specs.Outcomes.{Image, bytes_written}
+use Rattle.core_view.specs.Operations.{stops_at_fetch, is_guessed, is_store, destination_of}
+use Rattle.core_view.specs.Outcomes.{Image, bytes_written, memory_after}
 use Rattle.core_view.specs.Flight.{is_queued, is_done, Seen, seen_past, pc_past, is_open, span_read, bytes_in, touches, clean_length, HasOutcome, IsSoundEntry, IsSound}
 use Rattle.core_view.specs.Events.{is_mispredicted, kept_length, completed_entry, complete_in}
 use Rattle.core_view.specs.Queues.{loads_of, conflict_in, conflict_of}
-use Rattle.core_view.specs.View.{no_entry}
+use Rattle.core_view.specs.View.{no_entry, entry_at}
 use Rattle.core_view.proofs.Accesses.{stage_bytes}
 use Rattle.core_view.proofs.Accesses.{store_predicted}
 use Rattle.core_view.proofs.Queues.{queue_conflict}
 use Rattle.core_view.proofs.RingForm.{complete_take}
 use Rattle.core_view.proofs.Sound.{sound_at}
-use Rattle.flight.specs.Flights.{NoneFrom, IsNext}
+use Rattle.flight.specs.Flights.{Flight, NoneFrom, IsNext, retired_one}
 use Rattle.flight.specs.Marked.{is_waiting}
-use Rattle.entry_stages.specs.Heads.{done_outcome, first_done}
+use Rattle.entry_stages.specs.Heads.{done_outcome, first_done, step_on}
 use Rattle.core_context.specs.Queued.{queued_at}
 use Rattle.entry_stages.specs.Mispredicted.{is_mispredicted_by}
-use Rattle.core_context.specs.Track.{Track, left_by, cut_stamp, finished, cut_at, completed}
+use Rattle.core_context.specs.Track.{Track, flight_of, stepped, left_by, cut_stamp, finished, cut_at, completed}
 use Rattle.core_view.proofs.Growing.{growing_whole}
 use Rattle.core_context.proofs.Waiting.{and_none}
 
@@ -61,6 +63,18 @@ set_read es fs i e change read is = is ∙ ap (λ (n : Entry). set es i (change 
 pub first_read : (es : List Entry) (e : Entry) → slice_get es 0 ≡ Some e → first_done es ≡ done_outcome e.stage
 first_read [] e h = absurd cc
 first_read (x ∷ es) e h = let same : x ≡ e = cc in ap (λ (f : Entry). done_outcome f.stage) same
+
+-- what it leaves once it took its step
+pub step_taken : (t now : Track) (e : Entry) (step : Step) (f : Flight) (memory : Cells) (registers : List ℕ) → t ≡ now → slice_get t.context.flight 0 ≡ Some e → step ≡ step_on (done_outcome e.stage)
+    → registers ≡ written t.context.state.registers (destination_of e.operation) step.result → memory ≡ memory_after t.context.state.environment t.context.state.memory (step_on (done_outcome e.stage)).access → f ≡ retired_one (flight_of t)
+    → record t {
+      context = record t.context { count = t.context.count + 1; state = record t.context.state { registers = registers; pc = step.next; memory = memory }; flight = f.entries };
+      renamed = f.renamed;
+      capacity = f.capacity;
+    } ≡ stepped now (step_on (first_done now.context.flight))
+step_taken t now e step f memory registers is read taken written_ stored left =
+    let here : entry_at t.context 0 ≡ e = get_or_from_slice_get t.context.flight 0 e no_entry read in
+    rw (written_, stored, left, taken, ← is, here, first_read t.context.flight e read) refl
 
 -- the oldest entry is done where it came to something
 pub first_is_done : (es : List Entry) → is_done (get_or es 0 no_entry).stage ≡ is_some (first_done es)

@@ -51,13 +51,26 @@ pub one-most : (b : Bool) → bool_byte b ≤ 1
 one-most true = omega arith
 one-most false = omega arith
 
+one-is : (b : Bool) → cond b 1 0 ≡ bool_byte b
+one-is true = refl
+one-is false = refl
+
+-- the one at a place is counted, before those from the next on
+pub guesses-step : (n m k r : ℕ) (es : List Entry) → n + guesses_ahead r es ≡ m → r < length es → k ≡ bool_byte (is_guessed (entry_in es r).operation) → (n + k) + guesses_ahead (r + 1) es ≡ m
+guesses-step n m k r es was within one =
+    let here : guesses_ahead r es ≡ bool_byte (is_guessed (entry_in es r).operation) + guesses_ahead (r + 1) es = guesses-next r es within ∙ ap (λ n. n + guesses_ahead (r + 1) es) (one-is (is_guessed (entry_in es r).operation)) in
+    omega (arith, was, one, here)
+
+-- one that is fetched is the youngest of them
+pub guesses-pushed : (g r : ℕ) (es fs : List Entry) (e : Entry) → g ≡ guesses_ahead r es → r ≤ length es → fs ≡ es ++ e ∷ [] → (k : ℕ) → k ≡ bool_byte (is_guessed e.operation) → g + k ≡ guesses_ahead r fs
+guesses-pushed g r es fs e is within made k one =
+    let most : guesses_ahead r fs ≡ guesses_ahead r es + cond (is_guessed e.operation) 1 0 = ap (guesses_ahead r) made ∙ guesses-push r es e within in
+    let here : cond (is_guessed e.operation) 1 0 ≡ bool_byte (is_guessed e.operation) = one-is (is_guessed e.operation) in
+    omega (arith, is, most, here, one)
+
 -- the oldest of them is renamed
 pub guesses-renamed : (g r : ℕ) (es fs : List Entry) (e : Entry) → g ≡ guesses_ahead r es → r < length es → is_guessed e.operation ≡ is_guessed (entry_in es r).operation → fs ≡ set es r e → g - bool_byte (is_guessed e.operation) ≡ guesses_ahead (r + 1) fs
 guesses-renamed g r es fs e is within same made =
     let left : guesses_ahead (r + 1) fs ≡ guesses_ahead (r + 1) es = ap (guesses_ahead (r + 1)) made ∙ guesses-set (r + 1) r es e (omega arith) in
     let here : guesses_ahead r es ≡ bool_byte (is_guessed e.operation) + guesses_ahead (r + 1) es = guesses-next r es within ∙ ap (λ b. cond b 1 0 + guesses_ahead (r + 1) es) (sym same) ∙ ap (λ n. n + guesses_ahead (r + 1) es) (one-is (is_guessed e.operation)) in
     omega (arith, is, left, here)
-  where
-    one-is : (b : Bool) → cond b 1 0 ≡ bool_byte b
-    one-is true = refl
-    one-is false = refl

@@ -1,7 +1,8 @@
 -- What is true of a flight, event by event.
 use Rattle.std.proofs.Common.{◌≡◌, ◌≢◌, ℕ, zero, suc, ◌+◌, ◌-◌, ◌%◌, ◌<◌, ◌≤◌, true, List, [], ◌∷◌, ◌++◌, length, take, drop, set, get_or, refl, sym, ◌∙◌, ap, arith, inl, inr, ◌⊎◌, length-set, length-drop}
 use Rattle.std.specs.Int.{bit_at}
-use Rattle.std.proofs.lemmas.List.{length-take-le, get_or-take, get_or-set_same, get_or-set_other}
+use Rattle.std.specs.Prelude.{min}
+use Rattle.std.proofs.lemmas.List.{length-take-le, length_push, get_or-take, get_or-set_same, get_or-set_other}
 use Rattle.std.proofs.lemmas.Grind.{get_or_after_one}
 use Rattle.std.proofs.Math.Seq.{take-set-lt}
 use Rattle.core_view.specs.declared.entry.Entry.{Entry}
@@ -13,8 +14,11 @@ use Rattle.core_view.specs.Queues.{is_renamed}
 use Rattle.core_view.specs.Events.{with_stage}
 use Rattle.flight.specs.declared.marks.Marks.{Marks}
 use Rattle.flight.specs.Marked.{marks_of}
-use Rattle.flight.specs.Flights.{entry_in, IsFlight, IsAhead, AreRenamed, IsHinted}
+use Rattle.flight.specs.Flights.{Flight, entry_in, IsFlight, IsAhead, AreRenamed, IsHinted}
 use Rattle.flight.proofs.Looks.{lt-or, eq-or}
+
+abbrev pub flight_of : List Entry → ℕ → ℕ → Flight
+flight_of es renamed capacity = record { entries = es; renamed = renamed; capacity = capacity }
 
 -- ---- lists
 
@@ -234,6 +238,64 @@ flight-finished es fs e x place r base cycle w m n words f issued same done made
     still within i z is = elim (eq-or i place) [
       | inl here ↦ absurd (idle z (ap (λ (e : Entry). e.stage) (sym (get_or-set_same es place e no_entry (omega (arith, f.within))) ∙ ap (λ k. entry_in (set es place e) k) (sym here)) ∙ is))
       | inr other ↦ ap (λ (e : Entry). e.stage) (sym (get_or-set_other es place i e no_entry other)) ∙ is
+    ]
+
+-- ---- more and fewer entries
+
+-- what is fetched is as what isn't there
+stage-push : (es : List Entry) (e : Entry) (i : ℕ) → e.stage ≡ Fetched → (entry_in (es ++ e ∷ []) i).stage ≡ (entry_in es i).stage
+stage-push [] e zero fetched = fetched
+stage-push [] e (suc i) fetched = refl
+stage-push (d ∷ es) e zero fetched = refl
+stage-push (d ∷ es) e (suc i) fetched = stage-push es e i fetched
+
+take-push : (r : ℕ) (es : List Entry) (e : Entry) → r ≤ length es → take r (es ++ e ∷ []) ≡ take r es
+take-push zero es e within = refl
+take-push (suc r) [] e within = absurd (omega arith)
+take-push (suc r) (d ∷ es) e within = ap (λ (fs : List Entry). d ∷ fs) (take-push r es e (omega arith))
+
+-- one is fetched
+pub flight-pushed : (es fs : List Entry) (e : Entry) (r base : ℕ) (m : Marks) (words : List ℕ) → IsFlight es r base m words → e.stage ≡ Fetched → fs ≡ es ++ e ∷ [] → IsFlight fs r base m words
+flight-pushed es fs e r base m words f fetched made = rw made (record {
+  within = omega (arith, f.within, length_push es e);
+  few = f.few;
+  marked = f.marked ∙ ap marks_of (sym (take-push r es e f.within));
+  ahead = λ i h. stage-push es e i fetched ∙ f.ahead i h;
+  placed = λ i h. ap is_renamed (stage-push es e i fetched) ∙ f.placed i h;
+  hinted = hinted-still words base es (es ++ e ∷ []) f.hinted (λ i x is. sym (stage-push es e i fetched) ∙ is);
+})
+
+take-take : (q r : ℕ) (es : List Entry) → q ≤ r → take q (take r es) ≡ take q es
+take-take zero r es le = refl
+take-take (suc q) zero es le = absurd (omega arith)
+take-take (suc q) (suc r) [] le = refl
+take-take (suc q) (suc r) (e ∷ es) le = ap (λ (fs : List Entry). e ∷ fs) (take-take q r es (omega arith))
+
+past : (es : List Entry) (i : ℕ) → length es ≤ i → entry_in es i ≡ no_entry
+past [] i ge = refl
+past (e ∷ es) zero ge = absurd (omega arith)
+past (e ∷ es) (suc i) ge = past es i (omega arith)
+
+-- the youngest leave
+pub flight-cut : (es fs : List Entry) (r q base : ℕ) (m n : Marks) (words : List ℕ) → IsFlight es r base m words → fs ≡ take (length fs) es → q ≡ min r (length fs) →
+    ((xs : List Entry) → m ≡ marks_of xs → length xs ≤ 64 → n ≡ marks_of (take q xs)) → IsFlight fs q base n words
+flight-cut es fs r q base m n words f front is marks =
+    let long : length (take r es) ≡ r = length-take-le r es f.within in record {
+      within = omega (arith, is);
+      few = omega (arith, is, f.few);
+      marked = marks (take r es) f.marked (omega (arith, long, f.few)) ∙ ap marks_of (take-take q r es (omega (arith, is)) ∙ sym (ap (take q) front ∙ take-take q (length fs) es (omega (arith, is))));
+      ahead = λ i h. elim (lt-or i (length fs)) [ inl lt ↦ ap (λ (e : Entry). e.stage) (there i lt) ∙ f.ahead i (omega (arith, is, lt, h)) | inr ge ↦ ap (λ (e : Entry). e.stage) (past fs i ge) ];
+      placed = λ i h. ap (λ (e : Entry). is_renamed e.stage) (there i (omega (arith, is, h))) ∙ f.placed i (omega (arith, is, h));
+      hinted = hinted-still words base es fs f.hinted still;
+    }
+  where
+    there : (i : ℕ) → i < length fs → entry_in fs i ≡ entry_in es i
+    there i lt = ap (λ gs. entry_in gs i) front ∙ get_or-take (length fs) es i no_entry lt
+
+    still : (i : ℕ) (x : Execution) → (entry_in fs i).stage ≡ Issued x → (entry_in es i).stage ≡ Issued x
+    still i x is = elim (lt-or i (length fs)) [
+      | inl lt ↦ ap (λ (e : Entry). e.stage) (sym (there i lt)) ∙ is
+      | inr ge ↦ absurd (fetched-issued x (sym (ap (λ (e : Entry). e.stage) (past fs i ge)) ∙ is))
     ]
 
 pub flight-none : (base : ℕ) (words : List ℕ) → IsFlight [] 0 base (marks_of []) words

@@ -174,10 +174,18 @@ pub(crate) fn upper(immediate: UpperImmediate) -> u64
 
 /// The target of `jalr`, whose bit 0 is cleared.
 #[inline(always)]
-pub(crate) fn register_target(a: u64, immediate: Immediate) -> u64
+fn register_target(a: u64, immediate: Immediate) -> u64
     ensures { result ≡ offset_from a immediate / 2 * 2 }
 {
     offset_by(a, i64::from(immediate.value())) / 2 * 2
+}
+
+/// On at the target of `jalr`, with the address of the next instruction in line as the value.
+#[inline(always)]
+pub(crate) fn jumped_from(pc: u64, a: u64, immediate: Immediate) -> Effect
+    ensures { result ≡ linked_to_of pc (offset_from a immediate / 2 * 2) }
+{
+    linked_to(pc, register_target(a, immediate))
 }
 
 /// The low 32 bits of a sum, with their sign.
@@ -219,7 +227,7 @@ pub fn execute(insn: &Insn, pc: u64, a: u64, b: u64) -> Effect
         Insn::Lui { immediate, .. } => value_at(pc, upper(immediate)),
         Insn::Auipc { immediate, .. } => value_at(pc, pc.wrapping_add(upper(immediate))),
         Insn::Jal { offset, .. } => linked_to(pc, offset_by(pc, i64::from(offset.value()))),
-        Insn::Jalr { immediate, .. } => linked_to(pc, register_target(a, immediate)),
+        Insn::Jalr { immediate, .. } => jumped_from(pc, a, immediate),
         Insn::Branch {
             condition,
             offset,

@@ -7,6 +7,7 @@ use Rattle.join_law.specs.JoinOf.{IsWithin, IsJoinOf}
 use Rattle.join_law.specs.Eight.{place_of, eight_from, EightKin, eight_joined, same_places}
 use Rattle.join_law.specs.EightLaws.{place_of-eight_from, place_of-eight_joined}
 use Rattle.join_law.proofs.JoinLemmas.{Contains-nil, Contains-one, Contains-head}
+use Rattle.join_law.proofs.Laws.{each_place}
 use Rattle.join_law.specs.declared.places.Eight.{Eight}
 
 -- a value of the list, as one of the mapped
@@ -55,3 +56,7 @@ module _ {J : Type 0} (is_kin : J → J → Type 0) (joined : J → J → J) whe
         let here : place_of other i ≡ u = there i h ∙ ⊎_elim (λ (same : (eqb i i ≡ true) × (i ≡ i)). rw same.0 refl) (λ (apart : (eqb i i ≡ false) × (i ≢ i)). absurd (apart.1 refl)) (eqb_tells i i) in
         subst (IsWithin is_kin joined (place_of r i)) here (within_place r other within i h);
   }
+
+-- an eight whose values are the joins of two others' is their join
+pub eight_is : {J : Type 0} (joined : J → J → J) (x y e : Eight J) → e.c0 ≡ joined x.c0 y.c0 → e.c1 ≡ joined x.c1 y.c1 → e.c2 ≡ joined x.c2 y.c2 → e.c3 ≡ joined x.c3 y.c3 → e.c4 ≡ joined x.c4 y.c4 → e.c5 ≡ joined x.c5 y.c5 → e.c6 ≡ joined x.c6 y.c6 → e.c7 ≡ joined x.c7 y.c7 → e ≡ eight_joined joined x y
+eight_is joined x y e p0 p1 p2 p3 p4 p5 p6 p7 = same_places e (eight_joined joined x y) (each_place (λ i. place_of e i ≡ place_of (eight_joined joined x y) i) p0 p1 p2 p3 p4 p5 p6 p7)

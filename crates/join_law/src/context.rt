@@ -28,10 +28,19 @@ impl Ctx {
         ensures value { IfSome result (λ c. c ≡ number) }
     {
         if number < 8 {
-            Some(Ctx { number })
+            Some(Ctx::numbered(number))
         } else {
             None
         }
+    }
+
+    // The context of a number.
+    #[inline(always)]
+    fn numbered(number: usize) -> Ctx
+        requires { number < 8 }
+        ensures { result ≡ number }
+    {
+        Ctx { number }
     }
 
     /// The eight contexts, in order.

@@ -37,9 +37,18 @@ fn merge<J: Join, A: Allocator>(tree: Tree<J, A>) -> J
         Tree::Merge(left, right) => {
             let first = merge(Box::into_inner(left));
             let second = merge(Box::into_inner(right));
-            first.join(second)
+            join_two(first, second)
         }
     }
+}
+
+// The join of two values that are kin.
+#[inline(always)]
+fn join_two<J: Join>(first: J, second: J) -> J
+    requires { J.is_kin first second }
+    ensures { result ≡ J.joined first second }
+{
+    first.join(second)
 }
 
 /// The join of a value and others, all of which are kin. Each list with the same set of values gives the same value,

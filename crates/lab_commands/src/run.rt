@@ -1,9 +1,12 @@
 //! The commands: what the words of a command line ask for, and the engine that serves it, over any
 //! source and sink.
 
-ghost use Rattle.std.specs.Prelude.{◌≡◌, false, IfErr, IfOk, IfSome, None, OnErr, OnOk, string_bytes};
+ghost use Rattle.std.specs.Prelude.{◌≡◌, ◌≤◌, false, IfErr, IfOk, IfSome, None, OnErr, OnOk, string_bytes};
 ghost use Rattle.lab_commands.specs.CommandLine.{IsBounded};
 ghost use Rattle.lab_commands.specs.Commands as spec;
+ghost use Rattle.lab_commands.specs.Limits.{number_limit};
+ghost use Rattle.lab_commands.specs.Listing.{IsListing};
+ghost use Rattle.lab_commands.specs.Steps.{IsStepBlock};
 
 mod asm;
 mod command_line;
@@ -25,6 +28,36 @@ use refusal::unwritten;
 use std::alloc::{Allocator, Global};
 use text::read_text;
 
+/// What `asm` writes for a text.
+fn listing_output<'a, A: Allocator>(
+    alloc: &'a A,
+    text: &str,
+) -> Result<Output<&'a A>, Refusal<&'a A>>
+    ensures ok { IfOk result (λ output.
+        (output.refused ≡ None) × IsListing text.now (string_bytes output.text)) }
+    ensures err { IfErr result (spec.IsListingRefusal text.now) }
+{
+    let listing = asm::listing_of(alloc, text)?;
+    Ok(Output::whole(listing))
+}
+
+/// What `step` writes for a text.
+fn block_output<'a, A: Allocator>(
+    alloc: &'a A,
+    text: &str,
+    count: u64,
+    with: Option<u64>,
+) -> Result<Output<&'a A>, Refusal<&'a A>>
+    requires count { count ≤ number_limit }
+    requires with { IfSome with (λ other. other ≤ number_limit) }
+    ensures ok { IfOk result (λ output.
+        (output.refused ≡ None) × IsStepBlock text.now count with (string_bytes output.text)) }
+    ensures err { IfErr result (spec.IsStepRefusal text.now) }
+{
+    let block = step::block_of(alloc, text, count, with)?;
+    Ok(Output::whole(block))
+}
+
 /// What a command writes for a text.
 fn output_of<'a, A: Allocator>(
     alloc: &'a A,
@@ -38,10 +71,8 @@ fn output_of<'a, A: Allocator>(
     ensures err { IfErr result (spec.IsTextRefusal request.entry text.now) }
 {
     match request {
-        Request::Asm { .. } => Ok(Output::whole(asm::listing_of(alloc, text)?)),
-        Request::Step { count, with, .. } => {
-            Ok(Output::whole(step::block_of(alloc, text, count, with)?))
-        }
+        Request::Asm { .. } => listing_output(alloc, text),
+        Request::Step { count, with, .. } => block_output(alloc, text, count, with),
         Request::Run { .. } => jobs::report_of(alloc, global, text),
     }
 }

@@ -10,3 +10,4 @@ pub mod Stored
 pub mod Tabulated
 pub mod Writes
 pub mod Laws
+pub mod Appended

@@ -1,3 +1,5 @@
+pub mod Passed
+pub mod Ranges
 pub mod Splits
 pub mod LabelMap
 pub mod LayoutOfOneMore

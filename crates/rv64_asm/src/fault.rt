@@ -1,5 +1,8 @@
 //! Why a text isn't assembled.
 
+ghost use Rattle.std.specs.Prelude.{◌≡◌};
+ghost use Rattle.rv64_asm.specs.Codes as codes;
+
 use std::alloc::{AllocError, AllocFailed};
 use std::error::Error;
 use std::fmt;
@@ -23,6 +26,21 @@ pub enum LineFault {
     TooManyPages,
 }
 
+/// The code that a fault is printed by.
+fn code_of(fault: LineFault) -> &'static str
+    ensures { result.now ≡ codes.code_of fault }
+{
+    match fault {
+        LineFault::UnknownWord => "A1",
+        LineFault::OperandForm => "A2",
+        LineFault::OutOfRange => "A3",
+        LineFault::UnknownLabel => "A4",
+        LineFault::LabelTwice => "A5",
+        LineFault::OffsetOutOfRange => "A6",
+        LineFault::TooManyPages => "A7",
+    }
+}
+
 impl fmt::Display for LineFault {
     ghost use Rattle.std.specs.Prelude.{Some};
     ghost use Rattle.rv64_asm.specs.Codes.{code_of};
@@ -30,15 +48,7 @@ impl fmt::Display for LineFault {
     ghost output = { λ fault. Some (code_of fault) };
 
     fn fmt<W: fmt::Write>(&self, f: &mut fmt::Formatter<W>) -> fmt::Result {
-        f.write_str(match self {
-            LineFault::UnknownWord => "A1",
-            LineFault::OperandForm => "A2",
-            LineFault::OutOfRange => "A3",
-            LineFault::UnknownLabel => "A4",
-            LineFault::LabelTwice => "A5",
-            LineFault::OffsetOutOfRange => "A6",
-            LineFault::TooManyPages => "A7",
-        })
+        f.write_str(code_of(*self))
     }
 }
 

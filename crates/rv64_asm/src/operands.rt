@@ -4,6 +4,7 @@ ghost use Rattle.std.specs.Prelude.{◌≡◌, ◌<◌, ◌≤◌, Ok, IfOk};
 ghost use Rattle.rv64_asm.specs.Statements as spec;
 ghost use Rattle.rv64_asm.specs.Returned.{Gives, target_named};
 ghost use Rattle.rv64_asm.specs.Returned.{seen};
+ghost use Rattle.rv64_asm.specs.Numbers.{◌>>=◌ as ◌>>>◌};
 
 use crate::fault::LineFault;
 use crate::lexing::{Operands, cut};
@@ -26,6 +27,18 @@ pub fn immediate(text: &[u8]) -> Result<Immediate, LineFault>
     Ok(Immediate::new(number as i16))
 }
 
+/// A base and the number before it. The fault of the base comes first.
+fn base_and_number(
+    base: Result<Register, LineFault>,
+    number: Result<Immediate, LineFault>,
+) -> Result<(Register, Immediate), LineFault>
+    ensures { result ≡ (base >>> λ b. number >>> λ n. Ok (b, n)) }
+{
+    let base = base?;
+    let number = number?;
+    Ok((base, number))
+}
+
 /// The register and the number of `number(register)`.
 #[tactic(auto, unfolding(crate::specs::Statements::place_of))]
 fn place_of(text: &[u8]) -> Result<(Register, Immediate), LineFault>
@@ -40,9 +53,7 @@ fn place_of(text: &[u8]) -> Result<(Register, Immediate), LineFault>
     if !after.is_empty() {
         return Err(LineFault::OperandForm);
     }
-    let base = register(name)?;
-    let number = immediate(number)?;
-    Ok((base, number))
+    base_and_number(register(name), immediate(number))
 }
 
 /// A label, or the address as a number.

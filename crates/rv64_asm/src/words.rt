@@ -246,10 +246,17 @@ pub fn kind_of(word: &[u8]) -> Option<Kind>
     row_of(&KINDS, word)
 }
 
+/// The number of a register.
+fn register_number(word: &[u8]) -> Option<u8>
+    ensures { result ≡ spec.register_of word.now }
+{
+    row_of(&REGISTERS, word)
+}
+
 pub fn register_of(word: &[u8]) -> Option<Register>
     ensures { result ≡ spec.register_of word.now }
 {
-    let index = row_of(&REGISTERS, word)?;
+    let index = register_number(word)?;
     Some(Register::new(index))
 }
 

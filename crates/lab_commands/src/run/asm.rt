@@ -1,7 +1,8 @@
 //! `asm`: a program's words with their addresses and instructions, and how many bytes of data it
 //! has.
 
-ghost use Rattle.std.specs.Prelude.{◌≡◌, ◌≤◌, ◌++◌, IfOk, IfErr, OnOk, OnErr, length, string_bytes};
+ghost use Rattle.std.specs.Prelude.{◌≡◌, ◌≤◌, [], ◌∷◌, ◌++◌, IfOk, IfErr, OnOk, OnErr, codes, length, string_bytes};
+ghost use Rattle.std.specs.Fmt.{decimal};
 ghost use Rattle.paged_memory.specs.Regions.{most_words};
 ghost use Rattle.rv64_decode.specs.Table.{instruction_of};
 ghost use Rattle.lab_commands.specs.Commands.{IsListingRefusal};
@@ -59,6 +60,15 @@ fn push_line<A: Allocator + Copy>(
     Ok(())
 }
 
+/// Adds the last line, how many bytes of data a program has.
+fn push_count<A: Allocator>(listing: &mut String<A>, program: &Program<A>) -> Result<(), AllocError>
+    ensures { OnOk result (string_bytes listing.new ≡ string_bytes listing.old
+        ++ (codes "data " ++ (decimal (length program.now.bytes) ++ (10 ∷ [])))) }
+{
+    let count = program.bytes().len();
+    write!(listing, "data {count}\n")
+}
+
 /// The listing of a program.
 fn listing<A: Allocator + Copy>(alloc: A, program: &Program<A>) -> Result<String<A>, Refusal<A>>
     requires { length program.now.words ≤ most_words }
@@ -71,8 +81,7 @@ fn listing<A: Allocator + Copy>(alloc: A, program: &Program<A>) -> Result<String
         push_line(alloc, &mut text, address, *word)?;
         address += 4;
     }
-    let count = program.bytes().len();
-    write!(text, "data {count}\n")?;
+    push_count(&mut text, program)?;
     Ok(text)
 }
 

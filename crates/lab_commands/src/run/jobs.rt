@@ -33,7 +33,8 @@ fn results_of<A: Allocator>(global: Global, plan: &Plan) -> Result<LabResult, Re
     ensures err { IfErr result IsWantOfMarks }
 {
     let opening = starts(global, plan.origin())?;
-    Ok(run_in_order(global, plan, opening)?)
+    let results = run_in_order(global, plan, opening)?;
+    Ok(results)
 }
 
 /// The first job that ran out of memory, if there is one.

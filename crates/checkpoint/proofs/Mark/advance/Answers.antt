@@ -1,17 +1,8 @@
-use Rattle.std.proofs.Common.{arith, ap}
-use Rattle.checkpoint.specs.MarkValue.{MarkValue}
-use Rattle.checkpoint.proofs.Advanced.{on_trajectory, advances}
 use Rattle.checkpoint.proofs.FurthestLemmas.{IsFurthest-started}
 use Rattle.checkpoint.proofs.Mark.advance.Goals as goal
 
-pub invariant_of-self : goal.invariant_of-self
-invariant_of-self g c =
-    (omega (arith, ap (λ (m : MarkValue). m.count) c.self.view_is), on_trajectory _ _ (record { origin = c.self.inside.origin.value; context = c.self.inside.context; count = c.self.inside.count }) _ _ _ c.self.invariant.1 c.run-done.ensures.ran)
-
 pub returns-clause-ok : goal.returns-clause-ok
-returns-clause-ok g c =
-    rw (← c.self.view_is) (advances _ _ (record { origin = c.self.inside.origin.value; context = c.self.inside.context; count = c.self.inside.count }) _ _ _ c.self.invariant.1 c.run-done.ensures.ran)
+returns-clause-ok g c = c.run-done.ensures
 
 pub returns-clause-furthest : goal.returns-clause-furthest
-returns-clause-furthest g c =
-    rw (← c.self.view_is) (IsFurthest-started _ _ _ (record { origin = c.self.inside.origin.value; context = c.self.inside.context; count = c.self.inside.count }) _ (advances _ _ (record { origin = c.self.inside.origin.value; context = c.self.inside.context; count = c.self.inside.count }) _ _ _ c.self.invariant.1 c.run-done.ensures.ran))
+returns-clause-furthest g c = IsFurthest-started _ _ _ _ _ c.run-done.ensures

@@ -5,7 +5,7 @@ use Rattle.core_profile.specs.declared.profile.Profile.{Profile}
 use Rattle.fetch_policy.specs.Lawful.{turn as turn_of}
 use Rattle.origin_set.specs.Start.{start}
 use Rattle.core_back.proofs.RetireTurns.{turned_none, retire_lawful}
-use Rattle.core_back.proofs.RetireSteps.{arrives, goes_to, turn_bound}
+use Rattle.core_back.proofs.RetireSteps.{arrives, goes_to, turn_bound, turn_smaller}
 use Rattle.core_back.proofs.LeftTurns.{AreLeft, left_within, left_over, left_small, left_done, left_from, left_between, left_next}
 use Rattle.core_back.proofs.AlikeMachines.{alike_none, alike_chain}
 use Rattle.core_back.proofs.retiring.retire.Goals as goal
@@ -95,6 +95,21 @@ loop-waiting-preserved g c =
           c.retire_oldest-after.ensures.fewer c.retire_oldest-after.ensures.one_fewer refl from;
       keeps = c.retire_oldest-after.ensures.keeps ∙ h.keeps;
     }
+
+pub loop-waiting-smaller : goal.loop-waiting-smaller
+loop-waiting-smaller g c =
+    let h = c.loop-waiting.invariant in
+    let m = c.args.machine.now in
+    let on : Bool = c.retire_oldest-after.result.goes_on in
+    let t : ℕ = c.loop-waiting.turn in
+    let u : ℕ = c.next-turn-in-loop-waiting.result in
+    let within : t < 64 = left_within m c.loop-waiting.waiting t h.waiting h.fits c.loop-waiting-test.true in
+    let goes : on ≡ false → bit_at c.after_first-waiting.result t ≡ 0 = λ off. c.after_first-waiting.ensures.clear off t (h.waiting.here within) h.waiting.lowest in
+    let others : (i : ℕ) → i < 64 → i ≢ t → bit_at c.after_first-waiting.result i ≡ bit_at c.loop-waiting.waiting i = λ i low apart. c.after_first-waiting.ensures.others t (h.waiting.here within) h.waiting.lowest i apart in
+    let lowest : (i : ℕ) → i < u → bit_at c.after_first-waiting.result i ≡ 0 = λ i below. c.next-turn-in-loop-waiting.ensures.clear i (omega arith) below in
+    let from : t + bool_byte (not on) ≤ u = left_from m c.loop-waiting.waiting c.after_first-waiting.result t u on h.waiting within c.after_first-waiting.ensures.kept goes others
+    c.next-turn-in-loop-waiting.ensures.within lowest c.next-turn-in-loop-waiting.ensures.set in
+    turn_smaller on c.loop-waiting.left c.retire_oldest-after.result.left t (bool_byte (not on)) u c.retire_oldest-after.ensures.fewer c.retire_oldest-after.ensures.one_fewer refl from within
 
 pub returns-clause-alike : goal.returns-clause-alike
 returns-clause-alike g c = c.loop-waiting.invariant.alike

@@ -40,3 +40,6 @@ returns-clause-step g c =
       counted = omega (arith, c.retire-gone.ensures.dropped);
       bound = omega arith;
     }
+
+pub returns-clause-left : goal.returns-clause-left
+returns-clause-left g c = omega (arith, c.requires.some)

@@ -22,3 +22,6 @@ returns-clause-event g c =
 
 pub returns-in_err-stamp-clause-event : goal.returns-in_err-stamp-clause-event
 returns-in_err-stamp-clause-event g c = nothing_kept c.args.flow.now c.args.context c.args.track.now
+
+pub returns-clause-can : goal.returns-clause-can
+returns-clause-can g c = c.in_ok-stamp.ensures.can

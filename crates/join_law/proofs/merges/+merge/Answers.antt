@@ -31,7 +31,7 @@ merge-second-requires g t c κs within = (
 )
 
 -- so what they give is kin
-pub join-requires : goal.join-requires
-join-requires g t c =
+pub join_two-requires : goal.join_two-requires
+join_two-requires g t c =
     rw (c.merge-first.ensures, c.merge-second.ensures, c.into_inner.ensures, c.into_inner-in-Merge.ensures)
     (sides_kin g.met.J.Join.laws c.in-Merge.left.value c.in-Merge.right.value (rw c.in-Merge.is at c.requires.kin))

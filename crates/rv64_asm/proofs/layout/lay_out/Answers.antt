@@ -9,6 +9,14 @@ use Rattle.rv64_asm.specs.Places.{Layout, behind, next_place, with_label, addres
 use Rattle.rv64_asm.proofs.LayoutOfOneMore.{next_is, behind_more, stand_more, lowest, stepped, no_fault, a_fault}
 use Rattle.rv64_asm.proofs.layout.lay_out.Goals as goal
 
+pub loop-line-init : goal.loop-line-init
+loop-line-init g c = record {
+  number = refl;
+  within = c.start-place.ensures.within;
+  laid = rw (c.start-place.ensures.same, c.new-labels.ensures) refl;
+  stand = λ k below. absurd (omega arith);
+}
+
 pub loop-line-preserved : goal.loop-line-preserved
 loop-line-preserved g c =
     let road = YieldsList-from_lines {s = c.into_iter-line-iterator.result} c.args.text.now (rw c.into_iter-line-iterator.ensures.into_iter_gives c.lines-line-items.ensures.rest) in

@@ -1,5 +1,5 @@
-use Rattle.std.proofs.Common.{◌≡◌, ◌+◌, take, arith, rules, vec_len}
-use Rattle.std.proofs.lemmas.Grind.{common_steps}
+use Rattle.std.proofs.Common.{◌≡◌, ◌+◌, take, arith, vec_len}
+use Rattle.std.proofs.lemmas.List.{take_all}
 use Rattle.rv64_asm.proofs.Appended.{nothing, an_instruction, a_word, a_number, some_zeros}
 use Rattle.rv64_asm.proofs.writing.write.Goals as goal
 
@@ -9,7 +9,7 @@ returns-in-Nothing g c =
 
 pub returns-in_ok-push-in-Instruction : goal.returns-in_ok-push-in-Instruction
 returns-in_ok-push-in-Instruction g c =
-    an_instruction c.args.item c.args.words.now.items c.push.new.self.items c.args.bytes.now.items c.args.bytes.now.items c.in-Instruction.insn c.encode.result c.in-Instruction.is (search rules) c.encode.ensures.spells c.in_ok-push-in-Instruction.ensures.items
+    an_instruction c.args.item c.args.words.now.items c.push.new.self.items c.args.bytes.now.items c.args.bytes.now.items c.in-Instruction.insn c.encode.result c.in-Instruction.is c.encode.type_inv c.encode.ensures.spells c.in_ok-push-in-Instruction.ensures.items
 
 pub returns-in_ok-push-in-Word : goal.returns-in_ok-push-in-Word
 returns-in_ok-push-in-Word g c =
@@ -21,5 +21,5 @@ returns-in_ok-extend_from_slice-in-Number g c =
 
 pub returns-in_ok-resize-in-Zeros : goal.returns-in_ok-resize-in-Zeros
 returns-in_ok-resize-in-Zeros g c =
-    let whole : take (c.len.result + c.in-Zeros.count) c.args.bytes.now.items ≡ c.args.bytes.now.items = grind (arith, common_steps, c.len.ensures) in
+    let whole : take (c.len.result + c.in-Zeros.count) c.args.bytes.now.items ≡ c.args.bytes.now.items = take_all (c.len.result + c.in-Zeros.count) c.args.bytes.now.items (omega (arith, c.len.ensures)) in
     some_zeros c.args.item c.args.words.now.items c.args.words.now.items c.args.bytes.now.items c.resize.new.self.items c.in-Zeros.count c.len.result (vec_len c.args.bytes.now) c.in-Zeros.is c.len.ensures whole c.in_ok-resize-in-Zeros.ensures.items

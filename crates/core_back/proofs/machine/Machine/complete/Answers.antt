@@ -1,6 +1,6 @@
-use Rattle.std.proofs.Common.{length, refl, ap, ◌∙◌, arith}
+use Rattle.std.proofs.Common.{◌<◌, length, refl, sym, ap, subst, ◌∙◌, arith}
 use Rattle.core_view.specs.View.{Context, entry_at}
-use Rattle.core_view.specs.Stages.{execution_of}
+use Rattle.core_view.specs.Stages.{execution_of, IsIssued}
 use Rattle.core_view.specs.Events.{complete_event}
 use Rattle.core_context.specs.Track.{Track}
 use Rattle.core_back.proofs.Machines.{At, at_context, is_idle, machine_after_event, shown_after, shown_length}
@@ -32,3 +32,13 @@ pub returns-clause-cut : goal.returns-clause-cut
 returns-clause-cut g c =
     let h = here g (goal.at.returns-clause-cut g c).After-index_mut-track in
     shown_length c.self.inside c.args.context c.index.result c.complete.new.track h.in_tracks c.index.ensures.value c.complete.result _ (c.complete.ensures.cut ∙ ap (λ (x : Context). length x.flight) h.context)
+
+pub complete-requires-clause-place : goal.complete-requires-clause-place
+complete-requires-clause-place g c =
+    let h = here g (goal.at.complete-requires-clause-place g c).After-index_mut-track in
+    subst (λ (x : Context). c.args.place < length x.flight) (sym h.context) c.requires.place
+
+pub complete-requires-clause-issued : goal.complete-requires-clause-issued
+complete-requires-clause-issued g c =
+    let h = here g (goal.at.complete-requires-clause-issued g c).After-index_mut-track in
+    subst (λ (x : Context). IsIssued (entry_at x c.args.place).stage) (sym h.context) c.requires.issued

@@ -1,7 +1,7 @@
-use Rattle.std.proofs.Common.{length, refl, ap, subst, ◌∙◌, arith}
+use Rattle.std.proofs.Common.{◌<◌, length, refl, sym, ap, subst, ◌∙◌, arith}
 use Rattle.core_view.specs.View.{Context, entry_at}
 use Rattle.core_view.specs.Events.{complete_event}
-use Rattle.core_view.specs.Stages.{execution_of}
+use Rattle.core_view.specs.Stages.{execution_of, IsIssued}
 use Rattle.flight.specs.Flights.{is_due, NoneFrom}
 use Rattle.core_context.specs.Track.{Track}
 use Rattle.core_back.specs.Machine.{context_at}
@@ -49,3 +49,13 @@ returns-clause-more g c =
     let h = here g (goal.at.returns-clause-more g c).After-index_mut-track in
     let there = shown_there c.self.inside c.args.context c.index.result c.complete_plain.new.track h.in_tracks c.index.ensures.value in
     some_of c.complete_plain.result c.complete_plain.ensures.more (λ f said none. subst (λ (x : Context). NoneFrom (is_due c.self.inside.cycle) x.flight 0) there (λ i from. said none i))
+
+pub complete_plain-requires-clause-place : goal.complete_plain-requires-clause-place
+complete_plain-requires-clause-place g c =
+    let h = here g (goal.at.complete_plain-requires-clause-place g c).After-index_mut-track in
+    subst (λ (x : Context). c.args.place < length x.flight) (sym h.context) c.requires.place
+
+pub complete_plain-requires-clause-issued : goal.complete_plain-requires-clause-issued
+complete_plain-requires-clause-issued g c =
+    let h = here g (goal.at.complete_plain-requires-clause-issued g c).After-index_mut-track in
+    subst (λ (x : Context). IsIssued (entry_at x c.args.place).stage) (sym h.context) c.requires.issued

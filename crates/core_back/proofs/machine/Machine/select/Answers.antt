@@ -1,6 +1,9 @@
-use Rattle.std.proofs.Common.{◌≡◌, ℕ, ◌||◌, sym, ap, subst, arith, refl, ◌∙◌}
+use Rattle.std.proofs.Common.{◌≡◌, ℕ, ◌||◌, List, length, sym, ap, subst, arith, refl, ◌∙◌}
+use Rattle.std.proofs.lemmas.List.{length-map}
 use Rattle.std.specs.Prelude.{◌==◌, ◌&&◌, not}
 use Rattle.word_mask.specs.Mask.{has}
+use Rattle.issue_queue.specs.Views.{name_of}
+use Rattle.core_view.specs.declared.note.EntryId.{EntryId}
 use Rattle.core_context.proofs.Laws.{core_answered}
 use Rattle.core_back.proofs.MachineIssues.{held_first, context_next, held_nodes, held_next, selected_machine, selected_shown, selected_choice}
 use Rattle.core_back.proofs.machine.Machine.select.Goals as goal
@@ -60,3 +63,8 @@ pub returns-clause-choice : goal.returns-clause-choice
 returns-clause-choice g c =
     selected_choice c.loop-left.invariant.machine c.loop-left.self-inside c.select.new.flow c.args.self.now c.loop-left.left (g.O.Order.key_of c.args.order.now) c.args.width c.select.new.self
     c.loop-left.invariant.shows c.loop-left.invariant.ok c.requires.idle c.loop-left.invariant.so_far c.loop-left-test.false c.select.ensures.selected
+
+pub returns-clause-most : goal.returns-clause-most
+returns-clause-most g c =
+    let s = c.select.ensures.selected in
+    omega (arith, s.at_most, ap (λ (names : List EntryId). length names) s.names, length-map s.chosen name_of)

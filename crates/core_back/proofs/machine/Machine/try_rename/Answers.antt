@@ -64,3 +64,9 @@ pub returns-clause-alike : goal.returns-clause-alike
 returns-clause-alike g c =
     none_or_some c.rename.result (returns-clause-renamed g c) (λ none. subst (λ v. IsAlike c.args.self.now v) (sym (returns-clause-none g c none)) (alike_none c.args.self.now))
     (λ stamp is. alike_with c.args.self.now _ c.args.context (rename_event c.args.self.now.view.cycle (context_at c.args.self.now c.args.context) is.place) is.after refl)
+
+pub returns-clause-within : goal.returns-clause-within
+returns-clause-within g c = c.rename.ensures.within
+
+pub returns-clause-idle : goal.returns-clause-idle
+returns-clause-idle g c = ap (λ (v : Machine). v.names) c.self.view_is ∙ c.requires

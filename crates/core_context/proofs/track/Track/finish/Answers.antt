@@ -1,5 +1,5 @@
-use Rattle.std.proofs.Common.{rules, List, ◌≡◌, false, ap, sym, subst, ◌∙◌, ◌+◌, slice_get, get_or, Some, None}
-use Rattle.std.specs.Prelude.{set}
+use Rattle.std.proofs.Common.{List, ◌≡◌, false, ap, sym, subst, ◌∙◌, ◌+◌, slice_get, get_or, Some, None}
+use Rattle.std.specs.Prelude.{option_copied, set}
 use Rattle.std.proofs.lemmas.Option.{get_or_from_slice_get, slice_get_within}
 use Rattle.core_view.specs.Stages.{execution_of, IsIssued}
 use Rattle.flight.specs.Flights.{Flight}
@@ -23,7 +23,7 @@ use Rattle.core_context.proofs.track.Track.finish.Goals.{After-fetch_pc_after-se
 pub is_mispredicted-mispredicted-requires : goal.is_mispredicted-mispredicted-requires
 is_mispredicted-mispredicted-requires g c =
     let es = c.self.inside.flight.entries in
-    let read : slice_get es c.args.place ≡ Some c.unwrap-entry.result.now = search rules in
+    let read : slice_get es c.args.place ≡ Some c.unwrap-entry.result.now = sym c.get.ensures ∙ ap option_copied c.unwrap-entry.ensures in
     let issued : IsIssued (get_or es c.args.place no_entry).stage = rw (← c.self.view_is) at c.requires.issued in
     subst (λ (f : Entry). IsIssued f.stage) (get_or_from_slice_get es c.args.place c.unwrap-entry.result.now no_entry read) issued
 
@@ -36,7 +36,7 @@ abbrev execution : (g : Over) (c : After-fetch_pc_after-self-inside g) → Execu
 execution g c = execution_of (get_or c.self.inside.flight.entries c.args.place no_entry).stage
 
 read : (g : Over) (c : After-fetch_pc_after-self-inside g) → slice_get (entries g c) c.args.place ≡ Some c.unwrap-entry.result.now
-read g c = search rules
+read g c = sym c.get.ensures ∙ ap option_copied c.unwrap-entry.ensures
 
 stage : (g : Over) (c : After-fetch_pc_after-self-inside g) → c.unwrap-entry.result.now.stage ≡ Issued (execution g c)
 stage g c =
@@ -83,7 +83,7 @@ invariant_of-self-in_err-next g c =
 pub returns-in_err-next-clause-cut : goal.returns-in_err-next-clause-cut
 returns-in_err-next-clause-cut g c =
     let at = (goal.at.returns-in_err-next-clause-cut g c).After-fetch_pc_after-self-inside in
-    let none : slice_get c.finish.new.self.entries (c.args.place + 1) ≡ None = search rules in
+    let none : slice_get c.finish.new.self.entries (c.args.place + 1) ≡ None = sym c.get-2.ensures ∙ ap option_copied c.in_err-next.was in
     c.from_residual.ensures
     ∙ cut_wrong_none (entries g at) c.args.place c.unwrap-entry.result.now (execution g at) (read g at) c.finish.new.self.entries (written g at) (mispredicted g at ∙ c.if-not-mispredicted.false) none
     ∙ ap (λ (t : Track). cut_stamp t.context c.args.place (execution_of (entry_at t.context c.args.place).stage)) c.self.view_is
@@ -96,6 +96,6 @@ invariant_of-self-2 g c =
 pub returns-clause-cut : goal.returns-clause-cut
 returns-clause-cut g c =
     let at = (goal.at.returns-clause-cut g c).After-fetch_pc_after-self-inside in
-    let some : slice_get c.finish.new.self.entries (c.args.place + 1) ≡ Some c.in_ok-next.next.now = search rules in
+    let some : slice_get c.finish.new.self.entries (c.args.place + 1) ≡ Some c.in_ok-next.next.now = sym c.get-2.ensures ∙ ap option_copied c.in_ok-next.was in
     cut_wrong_some (entries g at) c.args.place c.unwrap-entry.result.now (execution g at) (read g at) c.finish.new.self.entries (written g at) c.in_ok-next.next.now (mispredicted g at ∙ c.if-not-mispredicted.false) some
     ∙ ap (λ (t : Track). cut_stamp t.context c.args.place (execution_of (entry_at t.context c.args.place).stage)) c.self.view_is

@@ -42,3 +42,6 @@ returns-clause-kept g c =
     let right = followed_right e x.outcome c.in_ok-finished.ensures.plain.followed in
     let state = c.args.self.now.context.state in
     sym (plain_kept es i e x read (image_of state) (seen_of state) state.pc issued sound c.len-len.ensures.growing right c.in_ok-finished.ensures.conflict ∙ ap (λ (t : Track). cut_stamp t.context i (execution_of (entry_at t.context i).stage)) c.self.view_is)
+
+pub returns-clause-more : goal.returns-clause-more
+returns-clause-more g c = c.in_ok-finished.ensures.more

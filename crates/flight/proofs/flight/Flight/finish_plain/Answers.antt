@@ -39,3 +39,6 @@ pub returns-clause-frees : goal.returns-clause-frees
 returns-clause-frees g c =
     freed c.args.self.now c.finish_where.new.self c.args.place (execution_of (entry_in c.args.self.now.entries c.args.place).stage) c.requires.place c.requires.issued c.finish_where.ensures _ c.unguarded.result c.unguarded-before.result
     c.unguarded.ensures.set c.unguarded.ensures.within c.unguarded.ensures.waits c.unguarded.ensures.none_open c.unguarded-before.ensures.set c.unguarded-before.ensures.none_open c.has_more-frees.ensures.none c.has_more-frees.ensures.all
+
+pub returns-clause-more : goal.returns-clause-more
+returns-clause-more g c = c.may_be_due-more.ensures

@@ -1,5 +1,5 @@
 use mir.Val.{bool_byte}
-use Rattle.std.proofs.Common.{◌≡◌, ◌-◌, ◌<◌, ℕ, true, length, ap, sym, ◌∙◌, refl}
+use Rattle.std.proofs.Common.{◌≡◌, ◌+◌, ◌-◌, ◌<◌, ℕ, true, length, slice_set, ap, sym, ◌∙◌, refl}
 use Rattle.circular_buffer.specs.Buffer.{Buffer}
 use Rattle.core_view.specs.declared.entry.Entry.{Entry}
 use Rattle.core_view.specs.declared.entry.Execution.{Execution}
@@ -7,9 +7,10 @@ use Rattle.core_view.specs.declared.entry.Stage.TheVariants.{Issued}
 use Rattle.core_view.specs.declared.operation.Operation.{Operation}
 use Rattle.core_view.specs.declared.operation.Operation.TheVariants.{Performs, Stops}
 use Rattle.core_view.specs.Operations.{is_guessed}
-use Rattle.core_view.specs.Events.{renamed_stage}
+use Rattle.core_view.specs.Events.{with_stage, renamed_stage}
 use Rattle.core_view.specs.Queues.{is_renamed}
-use Rattle.flight.proofs.Kept.{flight-renamed}
+use Rattle.flight.specs.Flights.{renamed_one}
+use Rattle.flight.proofs.Kept.{flight_of, flight-renamed}
 use Rattle.flight.proofs.Ahead.{guesses-renamed}
 use Rattle.flight.proofs.flight.Flight.rename.Goals as goal
 
@@ -32,3 +33,10 @@ invariant_of-self g c =
           (λ xs was long room. c.push.ensures xs was long),
       ap (λ n. c.self.inside.guessed - n) (c.from.ensures ∙ ap bool_byte c.is_guessed.ensures) ∙ guesses-renamed _ _ _ _ c.renamed-entry.result c.self.invariant.1 some same made,
     )
+
+pub returns : goal.returns
+returns g c =
+    let is = c.renamed-entry.ensures ∙ ap (λ (e : Entry). with_stage e (renamed_stage c.args.cycle e.operation)) c.at.ensures in
+    ap (λ (b : Buffer Entry). flight_of b.items (c.self.inside.renamed + 1) b.capacity) c.set_in.ensures
+    ∙ ap (λ (e : Entry). flight_of (slice_set c.self.inside.ring.items c.self.inside.renamed e) (c.self.inside.renamed + 1) c.self.inside.ring.capacity) is
+    ∙ ap (renamed_one c.args.cycle) c.self.view_is

@@ -1,13 +1,16 @@
 use mir.Val.{bool_byte}
-use Rattle.std.proofs.Common.{◌≡◌, ◌-◌, ◌<◌, length, slice_set, ap, sym, ◌∙◌}
+use Rattle.std.proofs.Common.{◌≡◌, ℕ, ◌+◌, ◌-◌, ◌<◌, false, length, slice_set, ap, sym, ◌∙◌, refl}
 use Rattle.circular_buffer.specs.Buffer.{Buffer}
 use Rattle.core_view.specs.declared.entry.Entry.{Entry}
 use Rattle.core_view.specs.declared.entry.Execution.{Execution}
 use Rattle.core_view.specs.declared.entry.Stage.TheVariants.{Issued, Queued}
-use Rattle.core_view.specs.Operations.{is_guessed}
-use Rattle.core_view.specs.Events.{with_stage}
+use Rattle.core_view.specs.declared.operation.Operation.{Operation}
+use Rattle.core_view.specs.declared.operation.Operation.TheVariants.{Performs, Stops}
+use Rattle.core_view.specs.Operations.{is_guessed, stops_at_fetch}
+use Rattle.core_view.specs.Events.{with_stage, renamed_stage}
 use Rattle.core_view.specs.Queues.{is_renamed}
-use Rattle.flight.proofs.Kept.{flight-renamed}
+use Rattle.flight.specs.Flights.{entry_in, renamed_one}
+use Rattle.flight.proofs.Kept.{flight_of, flight-renamed}
 use Rattle.flight.proofs.Ahead.{guesses-renamed}
 use Rattle.flight.proofs.flight.Flight.rename_waiting.Goals as goal
 
@@ -25,3 +28,15 @@ invariant_of-self g c =
           (λ xs was long room. c.push_queued.ensures xs was long stage),
       ap (λ n. c.self.inside.guessed - n) (c.from-guessed.ensures ∙ ap bool_byte c.is_guessed.ensures) ∙ guesses-renamed _ _ _ _ c.queued-entry.result c.self.invariant.1 some same made,
     )
+
+waits : (cycle : ℕ) (o : Operation) → stops_at_fetch o ≡ false → Queued ≡ renamed_stage cycle o
+waits cycle (Performs insn) goes = refl
+waits cycle (Stops why) goes = absurd cc
+
+pub returns : goal.returns
+returns g c cycle =
+    let goes : stops_at_fetch (entry_in c.self.inside.ring.items c.self.inside.renamed).operation ≡ false = rw (← c.self.view_is) at c.requires.goes in
+    let e = entry_in c.self.inside.ring.items c.self.inside.renamed in
+    ap (λ (b : Buffer Entry). flight_of b.items (c.self.inside.renamed + 1) b.capacity) c.queue_in.ensures
+    ∙ ap (λ s. flight_of (slice_set c.self.inside.ring.items c.self.inside.renamed (with_stage e s)) (c.self.inside.renamed + 1) c.self.inside.ring.capacity) (waits cycle e.operation goes)
+    ∙ ap (renamed_one cycle) c.self.view_is

@@ -1,0 +1,9 @@
+use Rattle.std.proofs.Common.{ap, ◌∙◌, arith}
+use Rattle.core_view.specs.View.{Context}
+use Rattle.core_back.proofs.Machines.{at_context}
+use Rattle.core_back.proofs.machine.Machine.memory.Goals as goal
+
+pub returns : goal.returns
+returns g c =
+    let h = at_context c.self.inside c.args.self.now c.args.context c.index.result c.index-track.result.now c.self.view_is c.self.invariant (omega (arith, c.index.ensures)) c.index.ensures.value c.index-track.ensures in
+    c.memory.ensures ∙ ap (λ (x : Context). x.state.memory) h.context

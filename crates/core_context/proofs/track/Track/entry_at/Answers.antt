@@ -1,0 +1,11 @@
+use Rattle.std.proofs.Common.{◌≡◌, slice_get, Some, ap, sym, ◌∙◌}
+use Rattle.std.specs.Prelude.{option_copied}
+use Rattle.std.proofs.lemmas.Option.{get_or_from_slice_get}
+use Rattle.core_view.specs.View.{no_entry, entry_at}
+use Rattle.core_context.specs.Track.{Track}
+use Rattle.core_context.proofs.track.Track.entry_at.Goals as goal
+
+pub returns : goal.returns
+returns g c =
+    let read : slice_get c.self.inside.flight.entries c.args.place ≡ Some c.in-Some.entry.now = sym c.get.ensures ∙ ap option_copied c.in-Some.is in
+    sym (get_or_from_slice_get c.self.inside.flight.entries c.args.place c.in-Some.entry.now no_entry read) ∙ ap (λ (t : Track). entry_at t.context c.args.place) c.self.view_is
