@@ -182,6 +182,13 @@ class SourceTest(unittest.TestCase):
         self.assertEqual([source.printed_name("core_cycle", "src/cycle.rt", it) for it in found],
                          ["core_cycle::cycle::Core::cycles"])
 
+    def test_parameters_in_several_lines(self) -> None:
+        text = ("impl Ring {\n    fn take<\n        A: Order,\n    >(\n        &self,\n    ) -> u64\n        ensures { result ≡ 1 }\n"
+                "    {\n        1\n    }\n}\n\nfn next() {\n    2;\n}\n")
+        found = source.functions(text)
+        self.assertEqual([it.name for it in found], ["take", "next"])
+        self.assertEqual(text[found[0].body:found[0].end], "\n        1\n    }\n")
+
     def test_no_body(self) -> None:
         text = "trait Order {\n    fn key(&self) -> u64\n        ensures { result ≡ key_of self.now };\n}\n\nfn f() {}"
         self.assertEqual(source.functions(text), [])

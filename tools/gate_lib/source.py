@@ -63,7 +63,7 @@ def body_of(lines: List[str], head: int, indent: str) -> Optional[Tuple[int, int
             return (opened, at) if line == indent + "}" else None
         if line.endswith("{"):
             opened = at
-        elif at > head and not line.startswith(indent + ")"):
+        elif at > head and not line.startswith((indent + ")", indent + ">(")):
             return None
     return None
 
