@@ -56,8 +56,8 @@ impl<'a> Bench<'a> {
         alloc: Global,
     ) -> Result<Measured, BenchFault> {
         let profile = Profile::default();
-        let marks = self.marks(rt, alloc)?;
         let (guess, delay) = tables_of(alloc, &profile)?;
+        let marks = self.marks(rt, alloc)?;
         core_at(alloc, &profile, marks, guess, delay)
     }
 

@@ -27,10 +27,19 @@ fn main(rt: HostRuntime) -> ExitCode {
 /// Runs what the words of the command line ask for, and prints what was done.
 fn answer<R: Env + Files + Print + AllocGlobal>(rt: &R) -> Result<(), BenchFault> {
     let alloc = rt.alloc();
-    let words = env::args(rt).map_err(|_| BenchFault::Words)?;
-    let words: Vec<String> = words.skip(1).collect(alloc)?;
+    let words = words_of(rt, alloc)?;
     let bench = Bench::from_words(words.as_slice())?;
-    let figures = measure(rt, alloc, &bench)?;
+    show(rt, measure(rt, alloc, &bench)?)
+}
+
+/// The words of the command line, without the program's name.
+fn words_of<R: Env + AllocGlobal>(rt: &R, alloc: Global) -> Result<Vec<String>, BenchFault> {
+    let words = env::args(rt).map_err(|_| BenchFault::Words)?;
+    Ok(words.skip(1).collect(alloc)?)
+}
+
+/// Prints the six figures.
+fn show<R: Print>(rt: &R, figures: Figures) -> Result<(), BenchFault> {
     let Figures {
         cycles,
         fetched,
