@@ -1,6 +1,6 @@
 //! The command line, read with `clap`.
 
-ghost use Rattle.std.specs.Prelude.{◌≡◌, IfNone, IfOk, IfSome, IsSomeAnd, codes, false, map, option_map};
+ghost use Rattle.std.specs.Prelude.{◌≡◌, IfNone, IfOk, IfSome, IsSomeAnd, codes, false, map, option_map, true};
 ghost use Rattle.clap.specs.Words.{FailsBy, HasMatchesOf, app_of, fault_of, found_of, rows_of, rule_of, subcommand_rows_of};
 ghost use Rattle.lab_commands.specs.CommandLine as spec;
 
@@ -103,29 +103,43 @@ fn asm_command<'a>(alloc: Global) -> Result<Command<'a>, AllocError>
         .arg(file(alloc))
 }
 
-/// `step FILE --count N [--with M]`.
-fn step_command<'a>(alloc: Global) -> Result<Command<'a>, AllocError>
-    ensures { IfOk result (spec.Is spec.step) }
+/// The option `--count`.
+fn count<'a>(alloc: Global) -> Arg<'a>
+    ensures rule { rule_of result ≡ record (spec.number (codes "count")) { required = true } }
+    ensures local { result.global ≡ false }
 {
-    let count = number_option(
+    number_option(
         alloc,
         "count",
         "N",
         "How many instructions to run, 0 to 2^40; fewer where the program stops",
     )
-    .required(true);
-    let with = number_option(
+    .required(true)
+}
+
+/// The option `--with`.
+fn with<'a>(alloc: Global) -> Arg<'a>
+    ensures rule { rule_of result ≡ spec.number (codes "with") }
+    ensures local { result.global ≡ false }
+{
+    number_option(
         alloc,
         "with",
         "M",
         "Also runs M from the start, 0 to 2^40, and prints the further state",
-    );
+    )
+}
+
+/// `step FILE --count N [--with M]`.
+fn step_command<'a>(alloc: Global) -> Result<Command<'a>, AllocError>
+    ensures { IfOk result (spec.Is spec.step) }
+{
     Command::new(alloc, "step")
         .about("Runs a program on plain RV64I and prints its state")
         .after_help(help::STEP)
         .arg(file(alloc))?
-        .arg(count)?
-        .arg(with)
+        .arg(count(alloc))?
+        .arg(with(alloc))
 }
 
 /// `run PLAN [--workers 1]`.
@@ -157,13 +171,10 @@ fn bare_command<'a>(alloc: Global) -> Result<Command<'a>, AllocError>
 fn lab_command<'a>(alloc: Global) -> Result<Command<'a>, AllocError>
     ensures { IfOk result (λ command. app_of command ≡ spec.lab) }
 {
-    let asm = asm_command(alloc)?;
-    let step = step_command(alloc)?;
-    let run = run_command(alloc)?;
     bare_command(alloc)?
-        .subcommand(asm)?
-        .subcommand(step)?
-        .subcommand(run)
+        .subcommand(asm_command(alloc)?)?
+        .subcommand(step_command(alloc)?)?
+        .subcommand(run_command(alloc)?)
 }
 
 /// The number that a text writes, where it is one up to 2^40.

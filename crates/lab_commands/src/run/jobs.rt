@@ -3,10 +3,13 @@
 ghost use Rattle.std.specs.Prelude.{◌≡◌, IfErr, IfOk, Ok, string_bytes};
 ghost use Rattle.checkpoint.specs.Starts.{starts_of};
 ghost use Rattle.lab_plan.specs.Form.{formed};
+ghost use Rattle.lab_plan.specs.PlanValue.{PlanValue};
 ghost use Rattle.lab_plan.specs.Plans.{IsPlanOfText};
 ghost use Rattle.toml.specs.Parse.{parse_document};
 ghost use Rattle.lab_commands.specs.Commands.{IsRunRefusal, IsWantOfMarks};
 ghost use Rattle.lab_commands.specs.Reports as spec;
+ghost use Rattle.lab_commands.specs.declared.run.refusal.Refusal.TheVariants.{OutOfMemory};
+ghost use Rattle.report.specs.Reports.{report_text};
 
 use super::output::Output;
 use super::refusal::{Refusal, unplanned};
@@ -37,12 +40,42 @@ fn results_of<A: Allocator>(global: Global, plan: &Plan) -> Result<LabResult, Re
     Ok(results)
 }
 
+/// What the jobs of a text's plan leave.
+fn results_of_text<A: Allocator + Copy>(
+    alloc: A,
+    global: Global,
+    text: &str,
+) -> Result<LabResult, Refusal<A>>
+    ensures ok { IfOk result (λ results.
+        (plan : PlanValue) × IsPlanOfText (formed (parse_document text.now)) (Ok plan) × spec.IsLabResult plan (starts_of plan.origin) results) }
+    ensures err { IfErr result (IsRunRefusal text.now) }
+{
+    let plan = plan_of(alloc, global, text)?;
+    results_of(global, &plan)
+}
+
 /// The first job that ran out of memory, if there is one.
 fn first_refused(jobs: &[JobResult]) -> Option<usize>
     ensures { result ≡ spec.first_refused jobs.now }
 {
     jobs.iter()
         .position(|job| matches!(job.end, JobEnd::Refused))
+}
+
+/// The report of results, and the first job that ran out of memory.
+fn reported<'a, A: Allocator>(
+    alloc: &'a A,
+    results: &LabResult,
+) -> Result<Output<&'a A>, Refusal<&'a A>>
+    ensures ok { IfOk result (λ output.
+        (output.refused ≡ spec.first_refused results.now.jobs.items) × (string_bytes output.text ≡ report_text results.now)) }
+    ensures err { IfErr result (λ refusal. refusal ≡ OutOfMemory) }
+{
+    let Ok(text) = report(alloc, results) else {
+        return Err(Refusal::OutOfMemory);
+    };
+    let refused = first_refused(&results.jobs);
+    Ok(Output { text, refused })
 }
 
 /// The report of a plan's text, and the first job that ran out of memory.
@@ -55,11 +88,6 @@ pub fn report_of<'a, A: Allocator>(
         spec.IsReport text.now output.refused (string_bytes output.text)) }
     ensures err { IfErr result (IsRunRefusal text.now) }
 {
-    let plan = plan_of(alloc, global, text)?;
-    let results = results_of(global, &plan)?;
-    let Ok(text) = report(alloc, &results) else {
-        return Err(Refusal::OutOfMemory);
-    };
-    let refused = first_refused(&results.jobs);
-    Ok(Output { text, refused })
+    let results = results_of_text(alloc, global, text)?;
+    reported(alloc, &results)
 }
