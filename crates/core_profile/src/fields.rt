@@ -4,7 +4,7 @@ use crate::policy::{FetchPolicy, IssuePolicy};
 use crate::profile::Profile;
 
 /// The fields of a profile, each number in any range. The default has the fields of the default profile.
-#[derive(Clone, Copy, Debug, PartialEq, Eq, Hash)]
+#[derive(Clone, Copy, Debug, PartialEq, Eq)]
 pub struct ProfileFields {
     /// How contexts are picked for fetch.
     pub fetch: FetchPolicy,

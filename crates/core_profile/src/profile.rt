@@ -5,7 +5,7 @@ ghost use Rattle.std.specs.Prelude.{ℕ, ◌≡◌, ◌≢◌, ◌≤◌};
 use crate::policy::{FetchPolicy, IssuePolicy};
 
 /// The parameters of a core. Each number is in its range, which the ghost facts state.
-#[derive(Clone, Copy, Debug, PartialEq, Eq, Hash)]
+#[derive(Clone, Copy, Debug, PartialEq, Eq)]
 pub struct Profile {
     /// How contexts are picked for fetch.
     pub fetch: FetchPolicy,

@@ -1,6 +1,6 @@
 //! The origin of a plan.
 
-ghost use Rattle.std.specs.Prelude.{◌≡◌, IfOk, IfErr, option_copied, option_map};
+ghost use Rattle.std.specs.Prelude.{◌≡◌, ◌≤◌, ◌+◌, IfOk, IfErr, option_copied, option_map};
 ghost use Rattle.origin_set.specs.Limits.{IsWithinLimits};
 ghost use Rattle.toml.specs.Data.{get_member};
 ghost use Rattle.toml.specs.View.{items_view, table_view, view};
@@ -92,20 +92,44 @@ fn start_of(alloc: Global, plan: &Table, place: usize) -> Result<Option<Program>
     }
 }
 
+// The programs that four contexts start from. A struct is dropped by one call where memory is refused.
+#[derive(Drop)]
+struct Four {
+    p0: Option<Program>,
+    p1: Option<Program>,
+    p2: Option<Program>,
+    p3: Option<Program>,
+}
+
+/// The programs that four contexts start from, from a place on.
+fn four_starts(alloc: Global, plan: &Table, place: usize) -> Result<Four, PlanFault>
+    requires { place ≤ 4 }
+    ensures p0 { IfOk result (λ four. spec.IsStartOf (spec.value_of (table_view plan.now) place) four.p0) }
+    ensures p1 { IfOk result (λ four. spec.IsStartOf (spec.value_of (table_view plan.now) (place + 1)) four.p1) }
+    ensures p2 { IfOk result (λ four. spec.IsStartOf (spec.value_of (table_view plan.now) (place + 2)) four.p2) }
+    ensures p3 { IfOk result (λ four. spec.IsStartOf (spec.value_of (table_view plan.now) (place + 3)) four.p3) }
+    ensures limits { IfOk result (λ four.
+        IsWithinLimits four.p0 × IsWithinLimits four.p1 × IsWithinLimits four.p2 × IsWithinLimits four.p3) }
+    ensures err { IfErr result (λ fault. fault ≡ OutOfMemory) }
+{
+    let p0 = start_of(alloc, plan, place)?;
+    let p1 = start_of(alloc, plan, place + 1)?;
+    let p2 = start_of(alloc, plan, place + 2)?;
+    let p3 = start_of(alloc, plan, place + 3)?;
+    Ok(Four { p0, p1, p2, p3 })
+}
+
 /// The origin that the contexts of a plan start from.
 pub(crate) fn read_origin(alloc: Global, plan: &Table) -> Result<Origin, PlanFault>
     ensures ok { IfOk result (spec.IsOriginOf (table_view plan.now)) }
     ensures err { IfErr result (λ fault. fault ≡ OutOfMemory) }
 {
-    let p0 = start_of(alloc, plan, 0)?;
-    let p1 = start_of(alloc, plan, 1)?;
-    let p2 = start_of(alloc, plan, 2)?;
-    let p3 = start_of(alloc, plan, 3)?;
-    let p4 = start_of(alloc, plan, 4)?;
-    let p5 = start_of(alloc, plan, 5)?;
-    let p6 = start_of(alloc, plan, 6)?;
-    let p7 = start_of(alloc, plan, 7)?;
-    match Origin::new([p0, p1, p2, p3, p4, p5, p6, p7], Environment::One) {
+    let low = four_starts(alloc, plan, 0)?;
+    let high = four_starts(alloc, plan, 4)?;
+    let programs = [
+        low.p0, low.p1, low.p2, low.p3, high.p0, high.p1, high.p2, high.p3,
+    ];
+    match Origin::new(programs, Environment::One) {
         Ok(origin) => Ok(origin),
         // No program is too large: only memory is left.
         Err(_) => Err(PlanFault::OutOfMemory),
