@@ -1,11 +1,12 @@
 //! Origins: the programs that eight contexts start from, and the environment that they run in.
 #![tactic(auto)]
 
-ghost use Rattle.std.specs.Prelude.{◌≡◌, ◌↔◌, All, IsTrue, IsOk, IfOk, OnErr, Err};
+ghost use Rattle.std.specs.Prelude.{◌≡◌, ◌↔◌, All, IsTrue, IsOk, IfOk, OnErr, Err, replicate};
 ghost use Rattle.join_law.specs.Eight.{places};
 ghost use Rattle.origin_set.specs.Limits.{IsWithinLimits};
 ghost use Rattle.origin_set.specs.OriginBytes.{origin_bytes};
 ghost use Rattle.origin_set.specs.Start.{start, start_memory};
+ghost use Rattle.paged_memory.specs.Regions.{text_start};
 ghost use Rattle.sha2.specs.Sha256.{sha256};
 
 mod fault;
@@ -77,7 +78,7 @@ impl<A: Allocator> Origin<A> {
         ensures err { OnErr result (result ≡ Err OriginFault.OutOfMemory) }
     {
         match start_memory(alloc, self.programs.place(context)) {
-            Ok(memory) => Ok(Hart::new([0; 32], TEXT_START, memory, self.environment)),
+            Ok(memory) => Ok(first_hart(memory, self.environment)),
             Err(_) => Err(OriginFault::OutOfMemory),
         }
     }
@@ -145,15 +146,27 @@ fn start_memory<A: Allocator>(
     }
 }
 
-// Whether two programs have the same words and bytes, or there are none.
+// A hart before its first instruction.
+fn first_hart<A: Allocator>(memory: Memory<A>, environment: Environment) -> Hart<A>
+    ensures { result ≡ record { registers = replicate 32 0; pc = text_start; memory = memory; environment = environment } }
+{
+    Hart::new([0; 32], TEXT_START, memory, environment)
+}
+
+// Whether two programs have the same words and bytes.
+fn has_same_parts<A: Allocator>(left: &Program<A>, right: &Program<A>) -> bool
+    ensures { IsTrue result ↔ (left.now ≡ right.now) }
+{
+    left.words() == right.words() && left.bytes() == right.bytes()
+}
+
+// Whether two programs are the same, or there are none.
 fn is_same<A: Allocator>(left: &Option<Program<A>>, right: &Option<Program<A>>) -> bool
     ensures { IsTrue result ↔ (left.now ≡ right.now) }
 {
     match (left, right) {
         (None, None) => true,
-        (Some(left), Some(right)) => {
-            left.words() == right.words() && left.bytes() == right.bytes()
-        }
+        (Some(left), Some(right)) => has_same_parts(left, right),
         _ => false,
     }
 }

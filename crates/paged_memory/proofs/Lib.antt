@@ -1,4 +1,5 @@
 pub mod Accesses
+pub mod Aligned
 pub mod Bytes
 pub mod Fetched
 pub mod Filled

@@ -1,5 +1,5 @@
 -- What a store leaves.
-use Rattle.std.proofs.Common.{◌≡◌, ◌≢◌, ℕ, zero, suc, ◌+◌, ◌-◌, ◌/◌, ◌%◌, ◌^◌, ◌<◌, ◌≤◌, Bool, true, false, nat_le, Option, Some, None, Ok, Err, List, [], ◌∷◌, length, cond, eqb, get_or, set, arith, ap, sym, ◌∙◌, refl, subst, inl, inr, IfSome}
+use Rattle.std.proofs.Common.{◌≡◌, ◌≢◌, ℕ, zero, suc, ◌+◌, ◌-◌, ◌/◌, ◌%◌, ◌^◌, ◌<◌, ◌≤◌, Bool, true, false, nat_le, Option, Some, None, Result, Ok, Err, List, [], ◌∷◌, length, cond, eqb, get_or, set, arith, ap, sym, ◌∙◌, refl, subst, inl, inr, IfSome}
 use Rattle.std.proofs.lemmas.Bool.Decides.{nat_tests}
 use Rattle.std.proofs.lemmas.Grind.{common_steps}
 use Rattle.std.proofs.lemmas.Bool.{cases_eq}
@@ -7,7 +7,7 @@ use Rattle.std.proofs.lemmas.Option.{same_Some}
 use Rattle.std.proofs.lemmas.List.{get_or_default}
 use Rattle.std.proofs.Math.ListN.{length-set}
 use Rattle.std.specs.Int.{byte_at as byte_of_number}
-use Rattle.std.specs.Result.{result_err}
+use Rattle.std.specs.Result.{IfErr, result_err}
 use Rattle.std.specs.Cmp.{nat_cmp_total}
 use Rattle.std.specs.FinMap.{same_map, nat_cmp-IsAntisymmetric}
 use Rattle.paged_memory.specs.Cells.{Cell, within, write, rights_of, rights_at, all_have, is_writable, bytes_of, store_of}
@@ -17,6 +17,7 @@ use Rattle.paged_memory.proofs.Tabulated.{with_byte, written, get-write}
 use Rattle.paged_memory.proofs.OnePage.{get-cells_of, all_in_page, none_in_page}
 use Rattle.paged_memory.proofs.Accesses.{aligned_fits, some_bytes}
 use Rattle.paged_memory.specs.declared.Width.{Width}
+use Rattle.paged_memory.specs.declared.Fault.{Fault}
 use Rattle.paged_memory.specs.declared.Fault.TheVariants.{StoreAccess}
 
 -- ---- a number put into bytes
@@ -200,6 +201,11 @@ pub store_refused : (t : ℕ) (ps : List PageValue) (a v : ℕ) (w : Width) → 
 store_refused t ps a v w s e m =
     let writable : all_have is_writable (rights_at (cells_of t ps)) a (bytes_of w) ≡ false = none_in_page is_writable t ps a (bytes_of w) (place_of t (length ps) (a / 4096)) (not_writable t ps (a % 4096) _ e) s refl (some_bytes w) in
     rw (m, writable) refl
+
+-- pages that a refused store leaves show the memory that they showed
+pub left_alike : {X : Type 0} (r : Result X Fault) (t : ℕ) (ps qs : List PageValue) (a k v : ℕ) → IfErr r (λ e. (store_of (cells_of t ps) a k v ≡ Err e) × (qs ≡ ps)) → IfErr r (λ e. (store_of (cells_of t ps) a k v ≡ Err e) × (cells_of t qs ≡ cells_of t ps))
+left_alike (Ok x) t ps qs a k v h = tt
+left_alike (Err e) t ps qs a k v h = (h.0, ap (cells_of t) h.1)
 
 -- a page that was read at a place, with a number put into it
 pub put_read : (ps : List PageValue) (p at k v : ℕ) (read new : PageValue) → p < length ps → new ≡ record (get_or ps p read) { bytes = put_number (get_or ps p read).bytes at k v } → new ≡ put_in ps p at k v

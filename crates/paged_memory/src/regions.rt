@@ -19,5 +19,17 @@ pub const MOST_BYTES: usize = 256 * 4096;
 pub fn has_room(words: &[u32], bytes: &[u8]) -> bool
     ensures { IsTrue result ↔ ((length words.now ≤ most_words) × (length bytes.now ≤ most_bytes)) }
 {
-    words.len() <= MOST_WORDS && bytes.len() <= MOST_BYTES
+    has_room_for_words(words) && has_room_for_bytes(bytes)
+}
+
+fn has_room_for_words(words: &[u32]) -> bool
+    ensures { IsTrue result ↔ (length words.now ≤ most_words) }
+{
+    words.len() <= MOST_WORDS
+}
+
+fn has_room_for_bytes(bytes: &[u8]) -> bool
+    ensures { IsTrue result ↔ (length bytes.now ≤ most_bytes) }
+{
+    bytes.len() <= MOST_BYTES
 }

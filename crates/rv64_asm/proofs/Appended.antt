@@ -1,5 +1,5 @@
 -- What each kind of item puts behind the words and bytes that are there.
-use Rattle.std.proofs.Common.{◌≡◌, ℕ, ◌+◌, ◌-◌, ◌<◌, ◌^◌, List, [], ◌∷◌, ◌++◌, take, replicate, refl, sym, ◌∙◌, append-nil, arith}
+use Rattle.std.proofs.Common.{◌≡◌, ℕ, ◌<◌, ◌^◌, List, [], ◌∷◌, ◌++◌, take, replicate, refl, sym, append-nil}
 use Rattle.std.specs.Int.{to_le_bytes, w64}
 use Rattle.rv64_decode.specs.declared.insn.Insn.{Insn}
 use Rattle.rv64_decode.specs.declared.insn.StoreWidth.{StoreWidth}
@@ -37,22 +37,20 @@ module _ (item : Item) (words new_words bytes new_bytes : List ℕ) where
     bytes_grow = sym (append-nil bytes);
   })
 
-  pub a_number : (width : StoreWidth) (bits n : ℕ) (le : List ℕ) → item ≡ Number width bits → le ≡ to_le_bytes w64 bits → n ≡ bytes_in width → new_bytes ≡ bytes ++ take n le → Appends item words words bytes new_bytes
-  a_number width bits n le e f w grow = rw e (record {
+  pub a_number : (width : StoreWidth) (bits : ℕ) → item ≡ Number width bits → new_bytes ≡ bytes ++ take (bytes_in width) (to_le_bytes w64 bits) → Appends item words words bytes new_bytes
+  a_number width bits e grow = rw e (record {
     piece_words = [];
     piece_bytes = take (bytes_in width) (to_le_bytes w64 bits);
     is_piece = (refl, refl);
     words_grow = sym (append-nil words);
-    bytes_grow = rw (← f, ← w) grow;
+    bytes_grow = grow;
   })
 
-  pub some_zeros : (count n m : ℕ) → item ≡ Zeros count → n ≡ m → take (n + count) bytes ≡ bytes → new_bytes ≡ take (n + count) bytes ++ replicate (n + count - m) 0 → Appends item words words bytes new_bytes
-  some_zeros count n m e f whole grow =
-      let rest : n + count - m ≡ count = omega (arith, f) in
-      rw e (record {
-        piece_words = [];
-        piece_bytes = replicate count 0;
-        is_piece = (refl, refl);
-        words_grow = sym (append-nil words);
-        bytes_grow = grow ∙ rw (whole, rest) refl;
-      })
+  pub some_zeros : (count : ℕ) → item ≡ Zeros count → new_bytes ≡ bytes ++ replicate count 0 → Appends item words words bytes new_bytes
+  some_zeros count e grow = rw e (record {
+    piece_words = [];
+    piece_bytes = replicate count 0;
+    is_piece = (refl, refl);
+    words_grow = sym (append-nil words);
+    bytes_grow = grow;
+  })

@@ -1,6 +1,6 @@
 //! Statements with their targets found.
 
-ghost use Rattle.std.specs.Prelude.{◌≡◌, ℤ, ◌%◌, ◌≤ℤ◌, Ok, IfOk, unsigned_abs};
+ghost use Rattle.std.specs.Prelude.{◌≡◌, ℤ, pos, negsuc, ◌%◌, ◌≤ℤ◌, Ok, IfOk, unsigned_abs};
 ghost use Rattle.rv64_asm.specs.Written as spec;
 ghost use Rattle.rv64_asm.specs.Returned.{named, target_named};
 
@@ -60,6 +60,28 @@ fn offset_to<A: Allocator>(
     offset_in(low, high, distance(pc, address))
 }
 
+fn branch_offset<A: Allocator>(
+    labels: &Labels<A>,
+    pc: u64,
+    target: &Target<&[u8]>,
+) -> Result<BranchOffset, LineFault>
+    ensures { result ≡ spec.offset_to labels.now pc (negsuc 4095) (pos 4094) (target_named target.now) }
+{
+    let offset = offset_to(labels, pc, -4096, 4094, target)?;
+    Ok(BranchOffset::new(offset as i16))
+}
+
+fn jump_offset<A: Allocator>(
+    labels: &Labels<A>,
+    pc: u64,
+    target: &Target<&[u8]>,
+) -> Result<JumpOffset, LineFault>
+    ensures { result ≡ spec.offset_to labels.now pc (negsuc 1048575) (pos 1048574) (target_named target.now) }
+{
+    let offset = offset_to(labels, pc, -1_048_576, 1_048_574, target)?;
+    Ok(JumpOffset::new(offset as i32))
+}
+
 /// What a statement gives at pc, labels replaced by their addresses.
 #[tactic(auto, unfolding(crate::specs::Written::resolve))]
 pub fn resolve<A: Allocator>(
@@ -78,20 +100,17 @@ pub fn resolve<A: Allocator>(
             rs2,
             target,
         } => {
-            let offset = offset_to(labels, pc, -4096, 4094, target)?;
+            let offset = branch_offset(labels, pc, target)?;
             Ok(Item::Instruction(Insn::Branch {
                 condition: *condition,
                 rs1: *rs1,
                 rs2: *rs2,
-                offset: BranchOffset::new(offset as i16),
+                offset,
             }))
         }
         Statement::Jump { rd, target } => {
-            let offset = offset_to(labels, pc, -1_048_576, 1_048_574, target)?;
-            Ok(Item::Instruction(Insn::Jal {
-                rd: *rd,
-                offset: JumpOffset::new(offset as i32),
-            }))
+            let offset = jump_offset(labels, pc, target)?;
+            Ok(Item::Instruction(Insn::Jal { rd: *rd, offset }))
         }
     }
 }

@@ -1,9 +1,10 @@
 //! The second pass: the words and bytes of the lines, targets found among the labels.
 
-ghost use Rattle.std.specs.Prelude.{◌≡◌, ◌≤◌, Ok, Err, length, vec_len, IfOk, IfErr, OnOk};
+ghost use Rattle.std.specs.Int.{to_le_bytes, w64};
+ghost use Rattle.std.specs.Prelude.{◌≡◌, ◌≤◌, ◌++◌, Ok, Err, length, replicate, take, vec_len, IfOk, IfErr, OnOk};
 ghost use Rattle.std.specs.Str.Lines.{lines};
 ghost use Rattle.paged_memory.specs.Regions.{most_bytes};
-ghost use Rattle.rv64_asm.specs.Places.{IsWithinPages, StandBelow, behind};
+ghost use Rattle.rv64_asm.specs.Places.{IsWithinPages, StandBelow, behind, bytes_in as width_of};
 ghost use Rattle.rv64_asm.specs.Passes as spec;
 ghost use Rattle.rv64_asm.specs.Passes.{Appends};
 ghost use Rattle.rv64_asm.specs.Assembled.{IsProgram};
@@ -17,7 +18,7 @@ use crate::place::{Place, bytes_in};
 use crate::program::Program;
 use crate::resolving::resolve;
 use crate::statement::{Item, statement_at};
-use rv64_decode::encode;
+use rv64_decode::{StoreWidth, encode};
 use std::alloc::{AllocError, Allocator};
 
 /// The place behind a line, and what it gives.
@@ -41,6 +42,26 @@ fn emit<A: Allocator>(
     }
 }
 
+/// Puts the low bytes of a number behind those that are there, the lowest first.
+fn write_number<A: Allocator>(
+    bytes: &mut Vec<u8, A>,
+    width: StoreWidth,
+    bits: u64,
+) -> Result<(), AllocError>
+    ensures { OnOk result (bytes.new.items ≡ bytes.old.items ++ take (width_of width) (to_le_bytes w64 bits)) }
+{
+    bytes.extend_from_slice(&bits.to_le_bytes()[..bytes_in(width)])
+}
+
+/// Puts so many bytes of 0 behind those that are there.
+fn write_zeros<A: Allocator>(bytes: &mut Vec<u8, A>, count: u32) -> Result<(), AllocError>
+    requires { vec_len bytes.old ≤ most_bytes }
+    ensures { OnOk result (bytes.new.items ≡ bytes.old.items ++ replicate count 0) }
+{
+    let end = bytes.len() + count as usize;
+    bytes.resize(end, 0)
+}
+
 /// Puts what a line gives behind the words and bytes that are there.
 fn write<A: Allocator>(
     words: &mut Vec<u32, A>,
@@ -54,13 +75,8 @@ fn write<A: Allocator>(
         Item::Nothing => {}
         Item::Instruction(insn) => words.push(encode(&insn))?,
         Item::Word(bits) => words.push(bits)?,
-        Item::Number { width, bits } => {
-            bytes.extend_from_slice(&bits.to_le_bytes()[..bytes_in(width)])?;
-        }
-        Item::Zeros(count) => {
-            let end = bytes.len() + count as usize;
-            bytes.resize(end, 0)?;
-        }
+        Item::Number { width, bits } => write_number(bytes, width, bits)?,
+        Item::Zeros(count) => write_zeros(bytes, count)?,
     }
     Ok(())
 }

@@ -9,10 +9,11 @@ ghost use Rattle.rv64_decode.specs.Table.{load_row, store_row, branch_row, jalr_
 ghost use Rattle.rv64_decode.specs.declared.insn.Insn.{Insn};
 
 use crate::codes::{alu_op, condition, imm_op, load_kind, shift_op, store_width, word_op};
-use crate::fields::{FenceBits, ShiftAmount, WordShiftAmount};
+use crate::fields::{FenceBits, WordShiftAmount};
 use crate::insn::Insn;
 use crate::operands::{
-    branch_offset, field, immediate, jump_offset, rd, rs1, rs2, store_immediate, upper_immediate,
+    branch_offset, field, immediate, jump_offset, opcode, rd, rs1, rs2, shift_amount, shift_funct7,
+    store_immediate, upper_immediate,
 };
 
 /// The instruction that a word spells, or `None` where none does: such a word is illegal.
@@ -37,7 +38,7 @@ fn by_opcode(word: u32) -> Option<Insn>
     ensures exact { result ≡ instruction_of word }
     ensures spelled { IfSome result (Spells word) }
 {
-    match word & 0x7f {
+    match opcode(word) {
         0b011_0111 => Some(Insn::Lui {
             rd: rd(word),
             immediate: upper_immediate(word),
@@ -142,13 +143,12 @@ fn shift(word: u32) -> Option<Insn>
     ensures exact { result ≡ shift_row word }
     ensures spelled { IfSome result (Spells word) }
 {
-    // bit 25 belongs to the amount, so funct7 is taken with a 0 there
-    let op = shift_op(field(word, 12, 3), field(word, 26, 6) << 1)?;
+    let op = shift_op(field(word, 12, 3), shift_funct7(word))?;
     Some(Insn::ShiftImm {
         op,
         rd: rd(word),
         rs1: rs1(word),
-        amount: ShiftAmount::new(field(word, 20, 6) as u8),
+        amount: shift_amount(word),
     })
 }
 

@@ -4,9 +4,9 @@ ghost use Rattle.std.specs.Prelude.{◌≡◌, ◌<◌, ◌^◌, ℕ, Some};
 ghost use Rattle.rv64_decode.specs.Spelling.{Spells};
 ghost use Rattle.rv64_decode.specs.Table.{instruction_of};
 
-use crate::codes::{alu_bits, condition_bits, imm_bits, load_bits, store_bits, word_bits};
+use crate::codes::{alu_bits, imm_bits, load_bits, word_bits};
 use crate::forms::{
-    branch_form, immediate_form, jump_form, register_form, shift_form, store_form, upper_bits_form,
+    branch_form, fence_form, immediate_form, jump_form, register_form, shift_form, store_form,
     upper_form,
 };
 use crate::insn::Insn;
@@ -35,7 +35,7 @@ fn word(insn: &Insn) -> u32
             rs1,
             rs2,
             offset,
-        } => branch_form(condition_bits(condition), rs1, rs2, offset),
+        } => branch_form(condition, rs1, rs2, offset),
         Insn::Load {
             kind,
             rd,
@@ -47,7 +47,7 @@ fn word(insn: &Insn) -> u32
             rs1,
             rs2,
             immediate,
-        } => store_form(store_bits(width), rs1, rs2, immediate),
+        } => store_form(width, rs1, rs2, immediate),
         Insn::Imm {
             op,
             rd,
@@ -77,13 +77,7 @@ fn word(insn: &Insn) -> u32
             rs1,
             rs2,
         ),
-        Insn::Fence { rd, rs1, bits } => upper_bits_form(
-            0b000_1111,
-            0,
-            rd,
-            rs1,
-            u32::from(bits.value()),
-        ),
+        Insn::Fence { rd, rs1, bits } => fence_form(rd, rs1, bits),
         Insn::Ecall => 0x0000_0073,
         Insn::Ebreak => 0x0010_0073,
     }

@@ -1,11 +1,11 @@
 //! Words of each form, put together from their fields (2.2, 2.3).
 
 ghost use Rattle.std.specs.Prelude.{◌≡◌, ◌+◌, ◌*◌, ◌<◌, ◌^◌};
-ghost use Rattle.rv64_decode.specs.Spelling.{opcode as opcode_of, field, rd_of, rs1_of, rs2_of, funct3 as funct3_of, funct7 as funct7_of, imm_i, imm_s, imm_b, imm_j, upper_of, shift_code, shift_top};
+ghost use Rattle.rv64_decode.specs.Spelling.{opcode as opcode_of, field, rd_of, rs1_of, rs2_of, funct3 as funct3_of, funct7 as funct7_of, imm_i, imm_s, imm_b, imm_j, upper_of, condition_code, store_code, shift_code, shift_top};
 
-use crate::codes::shift_bits;
-use crate::fields::{BranchOffset, Immediate, JumpOffset, Register};
-use crate::insn::ShiftOp;
+use crate::codes::{condition_bits, shift_bits, store_bits};
+use crate::fields::{BranchOffset, FenceBits, Immediate, JumpOffset, Register};
+use crate::insn::{BranchCondition, ShiftOp, StoreWidth};
 
 /// A word of these six fields.
 fn pack(opcode: u32, rd: u32, funct3: u32, rs1: u32, rs2: u32, funct7: u32) -> u32
@@ -109,11 +109,26 @@ pub(crate) fn shift_form(opcode: u32, op: ShiftOp, rd: Register, rs1: Register, 
     upper_bits_form(opcode, funct3, rd, rs1, top * 1024 + u32::from(amount))
 }
 
-/// A word of the S form.
-pub(crate) fn store_form(funct3: u32, rs1: Register, rs2: Register, immediate: Immediate) -> u32
-    requires { funct3 < 8 }
+/// The word of a FENCE.
+pub(crate) fn fence_form(rd: Register, rs1: Register, bits: FenceBits) -> u32
+    ensures opcode { opcode_of result ≡ 0b0001111 }
+    ensures funct3 { funct3_of result ≡ 0 }
+    ensures rd { rd_of result ≡ rd }
+    ensures rs1 { rs1_of result ≡ rs1 }
+    ensures bits { field 20 12 result ≡ bits }
+{
+    upper_bits_form(0b000_1111, 0, rd, rs1, u32::from(bits.value()))
+}
+
+/// The word of a store, of the S form.
+pub(crate) fn store_form(
+    width: StoreWidth,
+    rs1: Register,
+    rs2: Register,
+    immediate: Immediate,
+) -> u32
     ensures opcode { opcode_of result ≡ 0b0100011 }
-    ensures funct3 { funct3_of result ≡ funct3 }
+    ensures funct3 { funct3_of result ≡ store_code width }
     ensures rs1 { rs1_of result ≡ rs1 }
     ensures rs2 { rs2_of result ≡ rs2 }
     ensures immediate { immediate ≡ imm_s result }
@@ -122,18 +137,22 @@ pub(crate) fn store_form(funct3: u32, rs1: Register, rs2: Register, immediate: I
     pack(
         0b010_0011,
         bits % 32,
-        funct3,
+        store_bits(width),
         u32::from(rs1.index()),
         u32::from(rs2.index()),
         bits / 32,
     )
 }
 
-/// A word of the B form.
-pub(crate) fn branch_form(funct3: u32, rs1: Register, rs2: Register, offset: BranchOffset) -> u32
-    requires { funct3 < 8 }
+/// The word of a branch, of the B form.
+pub(crate) fn branch_form(
+    condition: BranchCondition,
+    rs1: Register,
+    rs2: Register,
+    offset: BranchOffset,
+) -> u32
     ensures opcode { opcode_of result ≡ 0b1100011 }
-    ensures funct3 { funct3_of result ≡ funct3 }
+    ensures funct3 { funct3_of result ≡ condition_code condition }
     ensures rs1 { rs1_of result ≡ rs1 }
     ensures rs2 { rs2_of result ≡ rs2 }
     ensures offset { offset ≡ imm_b result }
@@ -144,7 +163,7 @@ pub(crate) fn branch_form(funct3: u32, rs1: Register, rs2: Register, offset: Bra
     pack(
         0b110_0011,
         low,
-        funct3,
+        condition_bits(condition),
         u32::from(rs1.index()),
         u32::from(rs2.index()),
         high,

@@ -1,9 +1,9 @@
 //! The fields of a word: its registers and its immediates (2.2, 2.3).
 
-ghost use Rattle.std.specs.Prelude.{◌≡◌, ◌<◌};
-ghost use Rattle.rv64_decode.specs.Spelling.{field as field_of, rd_of, rs1_of, rs2_of, imm_i, imm_s, imm_b, imm_j, upper_of};
+ghost use Rattle.std.specs.Prelude.{◌≡◌, ◌*◌, ◌<◌};
+ghost use Rattle.rv64_decode.specs.Spelling.{field as field_of, opcode as opcode_of, rd_of, rs1_of, rs2_of, imm_i, imm_s, imm_b, imm_j, upper_of};
 
-use crate::fields::{BranchOffset, Immediate, JumpOffset, Register, UpperImmediate};
+use crate::fields::{BranchOffset, Immediate, JumpOffset, Register, ShiftAmount, UpperImmediate};
 
 /// So many bits of a word from bit `low` upward.
 #[inline(always)]
@@ -13,6 +13,14 @@ pub(crate) fn field(word: u32, low: u32, count: u32) -> u32
     ensures { result ≡ field_of low count word }
 {
     (word >> low) & ((1 << count) - 1)
+}
+
+/// Bits 6..0.
+#[inline(always)]
+pub(crate) fn opcode(word: u32) -> u32
+    ensures { result ≡ opcode_of word }
+{
+    word & 0x7f
 }
 
 /// Bits 11..7.
@@ -81,4 +89,20 @@ pub(crate) fn upper_immediate(word: u32) -> UpperImmediate
     ensures { result ≡ upper_of word }
 {
     UpperImmediate::new(field(word, 12, 20))
+}
+
+/// The amount of a shift of 64 bits: bits 25..20 (5.2).
+#[inline(always)]
+pub(crate) fn shift_amount(word: u32) -> ShiftAmount
+    ensures { result ≡ field_of 20 6 word }
+{
+    ShiftAmount::new(field(word, 20, 6) as u8)
+}
+
+/// funct7 of a shift of 64 bits, taken with a 0 at bit 25, which belongs to the amount (5.2).
+#[inline(always)]
+pub(crate) fn shift_funct7(word: u32) -> u32
+    ensures { result ≡ field_of 26 6 word * 2 }
+{
+    field(word, 26, 6) << 1
 }

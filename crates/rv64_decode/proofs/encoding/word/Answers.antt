@@ -14,13 +14,13 @@ pub returns-in-Jalr : goal.returns-in-Jalr
 returns-in-Jalr c = rw c.in-Jalr.is (c.immediate_form.ensures.opcode, c.immediate_form.ensures.funct3, sym c.immediate_form.ensures.rd, sym c.immediate_form.ensures.rs1, c.immediate_form.ensures.immediate)
 
 pub returns-in-Branch : goal.returns-in-Branch
-returns-in-Branch c = rw c.in-Branch.is (c.branch_form.ensures.opcode, c.branch_form.ensures.funct3 ∙ c.condition_bits.ensures.code, sym c.branch_form.ensures.rs1, sym c.branch_form.ensures.rs2, c.branch_form.ensures.offset)
+returns-in-Branch c = rw c.in-Branch.is (c.branch_form.ensures.opcode, c.branch_form.ensures.funct3, sym c.branch_form.ensures.rs1, sym c.branch_form.ensures.rs2, c.branch_form.ensures.offset)
 
 pub returns-in-Load : goal.returns-in-Load
 returns-in-Load c = rw c.in-Load.is (c.immediate_form-in-Load.ensures.opcode, c.immediate_form-in-Load.ensures.funct3 ∙ c.load_bits.ensures.code, sym c.immediate_form-in-Load.ensures.rd, sym c.immediate_form-in-Load.ensures.rs1, c.immediate_form-in-Load.ensures.immediate)
 
 pub returns-in-Store : goal.returns-in-Store
-returns-in-Store c = rw c.in-Store.is (c.store_form.ensures.opcode, c.store_form.ensures.funct3 ∙ c.store_bits.ensures.code, sym c.store_form.ensures.rs1, sym c.store_form.ensures.rs2, c.store_form.ensures.immediate)
+returns-in-Store c = rw c.in-Store.is (c.store_form.ensures.opcode, c.store_form.ensures.funct3, sym c.store_form.ensures.rs1, sym c.store_form.ensures.rs2, c.store_form.ensures.immediate)
 
 pub returns-in-Imm : goal.returns-in-Imm
 returns-in-Imm c = rw c.in-Imm.is (c.immediate_form-in-Imm.ensures.opcode, c.immediate_form-in-Imm.ensures.funct3 ∙ c.imm_bits.ensures.code, sym c.immediate_form-in-Imm.ensures.rd, sym c.immediate_form-in-Imm.ensures.rs1, c.immediate_form-in-Imm.ensures.immediate)
@@ -35,7 +35,7 @@ pub returns-in-AluWord : goal.returns-in-AluWord
 returns-in-AluWord c = rw c.in-AluWord.is (c.register_form-in-AluWord.ensures.opcode, c.register_form-in-AluWord.ensures.funct3 ∙ c.word_bits.ensures.code, rw c.word_bits.ensures.top at c.register_form-in-AluWord.ensures.funct7, sym c.register_form-in-AluWord.ensures.rd, sym c.register_form-in-AluWord.ensures.rs1, sym c.register_form-in-AluWord.ensures.rs2)
 
 pub returns-in-Fence : goal.returns-in-Fence
-returns-in-Fence c = rw c.in-Fence.is (c.upper_bits_form.ensures.opcode, c.upper_bits_form.ensures.funct3, sym c.upper_bits_form.ensures.rd, sym c.upper_bits_form.ensures.rs1, sym (c.upper_bits_form.ensures.bits ∙ c.from.ensures ∙ c.value-in-Fence.ensures.same))
+returns-in-Fence c = rw c.in-Fence.is (c.fence_form.ensures.opcode, c.fence_form.ensures.funct3, sym c.fence_form.ensures.rd, sym c.fence_form.ensures.rs1, sym c.fence_form.ensures.bits)
 
 pub returns-in-Ecall : goal.returns-in-Ecall
 returns-in-Ecall c = rw c.in-Ecall.is refl
