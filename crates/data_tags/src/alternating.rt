@@ -32,9 +32,17 @@ impl Delay for Alternating {
     {
         let long = self.long;
         self.long = !long;
-        Lag {
-            cycles: if long { 200 } else { 1 },
-            miss: long && kind == Kind::Load,
-        }
+        lag_of(long, kind)
+    }
+}
+
+/// 200 cycles, which miss where it is a load, or 1 cycle.
+#[inline(always)]
+fn lag_of(long: bool, kind: Kind) -> Lag
+    ensures { result ≡ alternating_lag long kind }
+{
+    Lag {
+        cycles: if long { 200 } else { 1 },
+        miss: long && kind == Kind::Load,
     }
 }

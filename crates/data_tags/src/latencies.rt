@@ -1,6 +1,6 @@
 //! The latencies of a core.
 
-ghost use Rattle.std.specs.Prelude.{◌≡◌, ◌≤◌};
+ghost use Rattle.std.specs.Prelude.{◌≡◌, ◌≤◌, if◌then◌else◌};
 
 use crate::delay::{Kind, Lag};
 use core_profile::Profile;
@@ -62,7 +62,7 @@ impl Latencies {
         ensures value { result ≡ lag_of self.now kind misses }
         ensures within { IsWithin (greatest_latency self.now) result }
     {
-        let load = if misses { self.miss } else { self.hit };
+        let load = self.of_load(misses);
         let cycles = match kind {
             Kind::Branch => self.branch,
             Kind::Load => load,
@@ -73,5 +73,13 @@ impl Latencies {
             cycles,
             miss: misses && kind == Kind::Load,
         }
+    }
+
+    /// The cycles of a load that misses or hits.
+    #[inline(always)]
+    fn of_load(&self, misses: bool) -> u8
+        ensures { result ≡ (if misses then self.now.miss else self.now.hit) }
+    {
+        if misses { self.miss } else { self.hit }
     }
 }

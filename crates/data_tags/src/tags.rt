@@ -1,7 +1,8 @@
 //! Data tags, by which loads hit or miss.
 
-ghost use Rattle.std.specs.Prelude.{◌≡◌, ◌/◌, ◌%◌, IsTrue, IfOk, None, replicate, slice_set};
+ghost use Rattle.std.specs.Prelude.{◌≡◌, ◌%◌, not, IsTrue, IfOk, None, replicate};
 ghost use Rattle.data_tags.specs.Latency.{IsWithin, greatest_latency, lag_of, is_lag_of};
+ghost use Rattle.data_tags.specs.Table.{block_of, has_tag};
 
 use crate::{Delay, Kind, Lag, Latencies};
 use join_law::Ctx;
@@ -62,14 +63,38 @@ impl<A: Allocator> Tags<A> {
         ensures value { result ≡ is_miss self.old.lines context Kind.Load address }
         ensures state { self.new ≡ record self.old { lines = after_access self.old.lines context Kind.Load address } }
     {
-        let block = address / LINE_BYTES;
-        let line = (block % LINES) as usize;
-        let misses = match self.lines[line] {
-            Some(tag) => tag.context != context || tag.block != block,
-            None => true,
-        };
+        let block = block_of(address);
+        let line = line_of(block);
+        let misses = lacks(self.lines[line], context, block);
         self.lines[line] = Some(Tag { context, block });
         misses
+    }
+}
+
+/// The number of an address's 64 bytes.
+#[inline(always)]
+fn block_of(address: u64) -> u64
+    ensures { result ≡ block_of address }
+{
+    address / LINE_BYTES
+}
+
+/// The line that these bytes go to.
+#[inline(always)]
+fn line_of(block: u64) -> usize
+    ensures { result ≡ block % 64 }
+{
+    (block % LINES) as usize
+}
+
+/// Whether a line lacks the tag of a context and a block.
+#[inline(always)]
+fn lacks(line: Option<Tag>, context: Ctx, block: u64) -> bool
+    ensures { result ≡ not (has_tag line context block) }
+{
+    match line {
+        Some(tag) => tag.context != context || tag.block != block,
+        None => true,
     }
 }
 

@@ -7,3 +7,4 @@ pub mod PlaceLimits
 pub mod RenamedPlace
 pub mod StoresBefore
 pub mod LoadsBehind
+pub mod ReadEntry

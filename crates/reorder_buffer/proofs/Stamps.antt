@@ -1,8 +1,8 @@
 -- Stamps along a list, after a change.
-use Rattle.std.proofs.Common.{◌≡◌, ℕ, zero, suc, ◌+◌, ◌-◌, ◌<◌, ◌≤◌, true, false, List, [], ◌∷◌, ◌++◌, length, get_or, take, slice_get, Some, refl, sym, ap, subst, ◌∙◌, arith, inl, inr}
+use Rattle.std.proofs.Common.{◌≡◌, ℕ, zero, suc, ◌+◌, ◌-◌, ◌<◌, ◌≤◌, true, false, List, [], ◌∷◌, ◌++◌, length, get_or, take, drop, slice_get, Some, refl, sym, ap, subst, ◌∙◌, arith, inl, inr}
 use Rattle.std.specs.Prelude.{set, nat_lt, Result, Ok, Err, OnOk, IfErr}
 use Rattle.std.proofs.lemmas.Bool.{cases_eq, lt-ltb, le-ltb}
-use Rattle.std.proofs.lemmas.List.{length-set, length-take, length_push, get_or_push, get_or_append_left, get_or-set_same, get_or-set_other, get_or-take}
+use Rattle.std.proofs.lemmas.List.{length-set, length-take, length-take-le, length_push, get_or_push, get_or_append_left, get_or-set_same, get_or-set_other, get_or-take}
 use Rattle.std.proofs.lemmas.Option.{get_or_from_slice_get, slice_get-get_or}
 use Rattle.std.specs.Option.{ForSome}
 use Rattle.circular_buffer.specs.Buffer.{Buffer, buffer, last_item}
@@ -96,6 +96,22 @@ pub growing_front : {X : Type 0} (stamp : X → ℕ) (xs : List X) (k : ℕ) →
 growing_front stamp xs k growing i j d lt in_range =
     let within : j < k = omega (arith, in_range, length-take k xs) in
     omega (arith, ap stamp (get_or-take k xs i d (omega (arith, lt, within))), ap stamp (get_or-take k xs j d within), growing i j d lt (omega (arith, in_range, length-take k xs)))
+
+-- what a cut leaves
+pub cut_growing : {X : Type 0} (stamp : X → ℕ) (old new : Buffer X) (k : ℕ) → new ≡ buffer (take k old.items) old.capacity → IsGrowing stamp old.items → IsGrowing stamp new.items
+cut_growing stamp old new k cut growing = rw cut (growing_front stamp old.items k growing)
+
+pub cut_items : {X : Type 0} (old new : Buffer X) (k : ℕ) (left : List X) → new ≡ buffer (take k old.items) old.capacity → take k old.items ≡ left → new ≡ buffer left old.capacity
+cut_items old new k left cut is = cut ∙ ap (λ xs. buffer xs old.capacity) is
+
+-- it is as long as it was cut
+pub cut_front : {X : Type 0} (old new : Buffer X) (k : ℕ) → k ≤ length old.items → new ≡ buffer (take k old.items) old.capacity → new.items ≡ take (length new.items) old.items
+cut_front old new k within cut = rw cut (ap (λ n. take n old.items) (sym (length-take-le k old.items within)))
+
+-- all but the first
+pub growing_rest : {X : Type 0} (stamp : X → ℕ) (xs : List X) → IsGrowing stamp xs → IsGrowing stamp (drop 1 xs)
+growing_rest stamp [] growing = growing
+growing_rest stamp (x ∷ xs) growing = λ i j d lt in_range. growing (suc i) (suc j) d (omega (arith, lt)) (omega (arith, in_range))
 
 -- what stands up to an entry that is below n
 pub below_up_to : {X : Type 0} (stamp : X → ℕ) (n p : ℕ) (xs : List X) → IsGrowing stamp xs → p < length xs → ForSome (slice_get xs p) (λ e. stamp e < n) → (i : ℕ) (d : X) → i < p + 1 → stamp (get_or xs i d) < n

@@ -1,9 +1,8 @@
-use Rattle.std.proofs.Common.{rules, ◌≡◌, false, ◌∙◌, sym, ap, Some, slice_get, arith}
-use Rattle.std.proofs.lemmas.Option.{get_or_from_slice_get}
+use Rattle.std.proofs.Common.{◌≡◌, false, ◌∙◌, sym, ap, Some, arith}
 use Rattle.core_view.specs.declared.entry.Entry.{Entry}
-use Rattle.core_view.specs.View.{no_entry}
 use Rattle.core_view.specs.Flight.{span_read, touches}
 use Rattle.flight.specs.Flights.{entry_in}
+use Rattle.load_store_queue.proofs.ReadEntry.{read-some, read-entry}
 use Rattle.load_store_queue.proofs.RenamedPlace.{IsRenamedPlace, renamed-place}
 use Rattle.load_store_queue.proofs.LoadsBehind.{none-younger, conflict-without, conflict-there, none-upto}
 use Rattle.load_store_queue.proofs.search.conflict.Given.{Over}
@@ -17,9 +16,7 @@ at g c =
 
 -- the load
 here : (g : Over) (c : After-span g) → entry_in c.args.flight.now.entries c.in-Some.younger ≡ c.unwrap-load.result.now
-here g c =
-    let read : slice_get c.args.flight.now.entries c.in-Some.younger ≡ Some c.unwrap-load.result.now = search rules in
-    get_or_from_slice_get c.args.flight.now.entries c.in-Some.younger c.unwrap-load.result.now no_entry read
+here g c = read-entry c.args.flight.now.entries c.in-Some.younger c.get.result c.unwrap-load.result c.get.ensures c.unwrap-load.ensures
 
 -- whether it shares a byte
 touching : (g : Over) (c : After-span g) → touches (Some c.args.bytes) (span_read (entry_in c.args.flight.now.entries c.in-Some.younger).stage) ≡ touches (Some c.args.bytes) c.span.result
@@ -59,3 +56,10 @@ pub returns : goal.returns
 returns g c =
     sym (conflict-without c.args.bytes c.args.flight.now c.args.place (at g (goal.at.returns g c).After-len-len)
     c.loop-younger.from c.loop-younger.invariant.past c.in_default.ensures)
+
+pub unwrap-load-requires : goal.unwrap-load-requires
+unwrap-load-requires g c =
+    let renamed = c.in-Some.ensures.renamed in
+    let is = c.renamed_count-renamed.ensures.value in
+    let within = c.renamed_count-renamed.ensures.within in
+    read-some c.args.flight.now.entries c.in-Some.younger c.get.result (omega (arith, renamed, is, within)) c.get.ensures

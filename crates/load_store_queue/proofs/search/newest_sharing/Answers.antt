@@ -1,12 +1,11 @@
-use Rattle.std.proofs.Common.{rules, ◌≡◌, ◌∙◌, sym, ap, refl, Some, slice_get, arith}
-use Rattle.std.proofs.lemmas.Option.{get_or_from_slice_get}
+use Rattle.std.proofs.Common.{◌≡◌, ◌∙◌, sym, ap, refl, arith}
 use Rattle.core_view.specs.declared.span.Bytes.{Bytes}
 use Rattle.core_view.specs.declared.entry.Entry.{Entry}
-use Rattle.core_view.specs.View.{no_entry}
 use Rattle.core_view.specs.Spans.{shares}
 use Rattle.core_view.specs.Flight.{bytes_done}
 use Rattle.core_view.specs.Loads.{passing}
 use Rattle.flight.specs.Flights.{entry_in}
+use Rattle.load_store_queue.proofs.ReadEntry.{read-some, read-entry}
 use Rattle.load_store_queue.proofs.RenamedPlace.{IsRenamedPlace, renamed-place}
 use Rattle.load_store_queue.proofs.StoresBefore.{none-older, newest-without, newest-there, none-from}
 use Rattle.load_store_queue.proofs.search.newest_sharing.Given.{Over}
@@ -20,9 +19,7 @@ at g c =
 
 -- the bytes of the store
 here : (g : Over) (c : After-bytes g) → bytes_done (entry_in c.args.flight.now.entries c.in-Some.older).stage ≡ c.bytes.result
-here g c =
-    let read : slice_get c.args.flight.now.entries c.in-Some.older ≡ Some c.unwrap-store.result.now = search rules in
-    ap (λ (e : Entry). bytes_done e.stage) (get_or_from_slice_get c.args.flight.now.entries c.in-Some.older c.unwrap-store.result.now no_entry read) ∙ sym c.bytes.ensures
+here g c = ap (λ (e : Entry). bytes_done e.stage) (read-entry c.args.flight.now.entries c.in-Some.older c.get.result c.unwrap-store.result c.get.ensures c.unwrap-store.ensures) ∙ sym c.bytes.ensures
 
 pub loop-older-init : goal.loop-older-init
 loop-older-init g c = record {
@@ -56,3 +53,12 @@ pub returns : goal.returns
 returns g c =
     sym (newest-without (λ (b : Bytes). shares b.span c.args.span) c.args.flight.now c.args.place (at g (goal.at.returns g c).After-len-len)
     c.loop-older.below c.loop-older.invariant.within c.loop-older.invariant.past c.in_default.ensures)
+
+pub unwrap-store-requires : goal.unwrap-store-requires
+unwrap-store-requires g c =
+    let below = c.in-Some.ensures.below in
+    let under = c.loop-older.invariant.within in
+    let renamed = c.requires in
+    let is = c.renamed_count-renamed.ensures.value in
+    let within = c.renamed_count-renamed.ensures.within in
+    read-some c.args.flight.now.entries c.in-Some.older c.get.result (omega (arith, below, under, renamed, is, within)) c.get.ensures

@@ -15,6 +15,7 @@ use Rattle.core_view.specs.Stages.{IsIssued, execution_of}
 use Rattle.flight.specs.Flights.{Flight, entry_in, finished_one}
 use Rattle.load_store_queue.specs.Queues.{slot_with_bytes}
 use Rattle.load_store_queue.proofs.LoadsBehind.{conflict-of-none}
+use Rattle.load_store_queue.proofs.ReadEntry.{read-some}
 use Rattle.load_store_queue.proofs.Slots.{loads_kept_at_completion, stores_completed}
 use Rattle.load_store_queue.proofs.load_store_queue.LoadStoreQueue.resolve_store.Goals as goal
 
@@ -64,3 +65,12 @@ pub returns-clause-conflict : goal.returns-clause-conflict
 returns-clause-conflict g c =
     let wrote = bytes_there c.args.flight.now.entries c.args.place c.get.result c.unwrap.result c.bytes_to_come.result c.get.ensures c.unwrap.ensures c.bytes_to_come.ensures ∙ c.in-Some.is in
     conflict_kept c.args.flight.now c.finish-2.new.self c.args.place c.requires.place c.finish-2.ensures c.requires.issued c.in-Some.stored c.conflict.result wrote c.conflict.ensures
+
+pub unwrap-requires : goal.unwrap-requires
+unwrap-requires g c = read-some c.args.flight.now.entries c.args.place c.get.result c.requires.place c.get.ensures
+
+pub returns-clause-completed : goal.returns-clause-completed
+returns-clause-completed g c = c.finish-2.ensures
+
+pub returns-in_default-clause-completed : goal.returns-in_default-clause-completed
+returns-in_default-clause-completed g c = c.finish.ensures

@@ -56,3 +56,6 @@ returns-clause-bound g c = λ some.
 
 pub returns-clause-file : goal.returns-clause-file
 returns-clause-file g c = (invariant_of-self g c).file
+
+pub returns-clause-taken : goal.returns-clause-taken
+returns-clause-taken g c = λ some. rw (← c.self.view_is) (c.take_for-register.ensures.newest some)

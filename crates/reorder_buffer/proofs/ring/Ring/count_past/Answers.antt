@@ -1,4 +1,4 @@
-use Rattle.std.proofs.Common.{rules, ◌≡◌, ◌+◌, ◌<◌, ◌≤◌, Some, slice_get, length, arith}
+use Rattle.std.proofs.Common.{rules, ◌≡◌, ◌<◌, ◌≤◌, Some, slice_get, length, arith}
 use Rattle.std.specs.Option.{ForSome}
 use Rattle.reorder_buffer.proofs.Stamps.{take-below, below_up_to, below_more, past_from}
 use Rattle.reorder_buffer.proofs.ring.Ring.count_past.Goals as goal
