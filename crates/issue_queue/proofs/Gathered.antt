@@ -1,7 +1,8 @@
 -- The contexts of the entries that pass a test, of entries in their places.
-use Rattle.std.proofs.Common.{◌≡◌, ℕ, inl, inr, Bool, true, ◌&&◌, List, ap, sym, ◌∙◌}
+use Rattle.std.proofs.Common.{◌≡◌, ℕ, ◌<◌, inl, inr, Bool, true, cond, not, ◌&&◌, eqb, List, refl, ap, sym, ◌∙◌}
 use Rattle.std.specs.List.{list_any}
 use Rattle.std.proofs.lemmas.Bool.{cases_Bool, true≢false, and_parts, and_from, eqb-true, eq-eqb}
+use Rattle.std.proofs.lemmas.Bool.Decides.{eqb_tells}
 use Rattle.word_mask.specs.Mask.{has}
 use Rattle.word_mask.proofs.Laws.{has_zero}
 use Rattle.issue_queue.specs.declared.places.Places.{Places}
@@ -17,6 +18,31 @@ none_gathered slots word = record {
   known = λ c t. absurd (true≢false (sym t ∙ has_zero c));
   found = λ c t. absurd (true≢false (sym t ∙ has_zero c));
   all = λ p t. inl t;
+}
+
+-- the walk looks at one more place
+pub one_gathered : (slots : Slots) (word left next contexts more place context : ℕ) → has left place ≡ true → ((p : ℕ) → has next p ≡ (has left p && not (eqb p place)))
+    → context ≡ (slot slots place).context → context < 8 → ((c : ℕ) → has more c ≡ cond (eqb c context) true (has contexts c)) → AreGathered slots word left contexts → AreGathered slots word next more
+one_gathered slots word left next contexts more place context set bits own below marks h = record {
+  within = λ p t. h.within p (and_parts (has left p) (not (eqb p place)) (sym (bits p) ∙ t)).0;
+  known = λ c t. elim (eqb_tells c context) [
+    | inl b ↦ rw b.1 below
+    | inr b ↦ h.known c (sym (marks c ∙ rw b.0 refl) ∙ t)
+  ];
+  found = λ c t. elim (eqb_tells c context) [
+    | inl b ↦ (place, h.within place set, sym own ∙ sym b.1)
+    | inr b ↦ h.found c (sym (marks c ∙ rw b.0 refl) ∙ t)
+  ];
+  all = λ p t. elim (h.all p t) [
+    | inl still ↦ elim (eqb_tells p place) [
+      | inl b ↦ inr (rw (b.1, sym own) (marks context ∙ rw (eq-eqb context context refl) refl))
+      | inr b ↦ inl (bits p ∙ rw (still, b.0) refl)
+    ]
+    | inr there ↦ inr (elim (eqb_tells (slot slots p).context context) [
+      | inl b ↦ marks (slot slots p).context ∙ rw b.0 refl
+      | inr b ↦ marks (slot slots p).context ∙ rw b.0 there
+    ])
+  ];
 }
 
 -- the walk has looked at all places

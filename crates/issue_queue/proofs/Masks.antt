@@ -1,5 +1,5 @@
 -- Masks in step with the places.
-use Rattle.std.proofs.Common.{◌≡◌, ℕ, zero, suc, max, ◌++◌, ◌<◌, ◌≤◌, ◌⊎◌, inl, inr, Bool, true, false, cond, not, ◌&&◌, ◌||◌, eqb, List, [], ◌∷◌, length, set, replicate, refl, ap, ap₂, sym, subst, ◌∙◌, arith, take_all}
+use Rattle.std.proofs.Common.{◌≡◌, ℕ, zero, suc, max, ◌++◌, ◌+◌, ◌<◌, ◌≤◌, ◌⊎◌, inl, inr, Bool, true, false, cond, not, ◌&&◌, ◌||◌, eqb, List, [], ◌∷◌, length, get_or, set, replicate, refl, ap, ap₂, sym, subst, ◌∙◌, arith, take_all}
 use Rattle.std.specs.Prelude.{slice_index, nat_le}
 use Rattle.std.specs.List.{All, filter, list_any}
 use Rattle.std.specs.Int.{bit_at}
@@ -7,13 +7,15 @@ use Rattle.std.specs.Int.Bits.{bit_or}
 use Rattle.std.proofs.lemmas.Nat.Bits.{bit_at_or, bit_at-lt}
 use Rattle.std.proofs.lemmas.Bool.{cases_eq, cases_lt, cases_Bool, eqb-true, eq-eqb, or_parts, or_right, not-true, true≢false, or_cases, and_parts, and_from, and_right, ne_eqb}
 use Rattle.std.proofs.lemmas.Bool.Decides.{eqb_tells}
-use Rattle.std.proofs.lemmas.List.{get_or-set_same, get_or-set_other, get_or-replicate, get_or_past}
+use Rattle.std.proofs.lemmas.List.{get_or-set_same, get_or-set_other, get_or-replicate, get_or_past, length_push, map_more}
+use Rattle.std.proofs.lemmas.List.Folds.{list_any_more}
 use Rattle.std.proofs.lemmas.List.Elements.{All-head, All-tail}
 use Rattle.std.proofs.lemmas.List.Sums.{length-filter, count_by-le-length}
 use Rattle.std.proofs.Math.Bool.{and-true, and_assoc}
 use Rattle.core_view.specs.declared.note.EntryId.{EntryId}
 use Rattle.issue_queue.specs.declared.entry.Queued.{Queued}
 use Rattle.issue_queue.specs.declared.entry.Reading.{Reading}
+use Rattle.issue_queue.specs.declared.entry.Source.{Source}
 use Rattle.issue_queue.specs.declared.places.Places.{Places}
 use Rattle.issue_queue.specs.declared.slots.Slots.{Slots}
 use Rattle.issue_queue.specs.declared.selecting.Candidate.{Candidate}
@@ -23,7 +25,7 @@ use Rattle.issue_queue.specs.Board.{slot, narrowed, is_waiter, unflagged, InStep
 use Rattle.issue_queue.specs.Entries.{AreWide, entry_at}
 use Rattle.issue_queue.specs.Entry.{Entry, is_ready, is_supplied, is_named, waits_for_two, are_two}
 use Rattle.issue_queue.specs.IssueQueue.{awake, is_from}
-use Rattle.issue_queue.specs.Views.{AreAlike, as_entry, awaited_of, entered, queued_of, reads_of}
+use Rattle.issue_queue.specs.Views.{AreAlike, as_entry, awaited_of, entered, name_of, queued_of, reads_of}
 use Rattle.word_mask.proofs.Laws.{has_zero, eqb_swap}
 use Rattle.issue_queue.proofs.Walks.{IsSought, IsCut, IsTaken}
 
@@ -522,6 +524,11 @@ off_freed_all : (flag : Entry → Bool) (b c : Places) (word : ℕ) → ((p : �
 off_freed_all flag b c word flags valid h p free = flags p ∙ freed_flag (has b.valid p) (has word p) (flag (slot b.slots p)) (sym (valid p) ∙ free) (h p)
 
 -- what is left at a place that is not freed
+pub slot_unflagged : (s t : Slots) (word guesses loads : ℕ) → t.entries ≡ record s.entries { guesses = guesses; loads = loads } → t.held ≡ s.held → t.waiters ≡ s.waiters
+    → ((p : ℕ) → has guesses p ≡ (has s.entries.guesses p && not (has word p))) → ((p : ℕ) → has loads p ≡ (has s.entries.loads p && not (has word p)))
+    → (p : ℕ) → slot t p ≡ unflagged (has word p) (slot s p)
+slot_unflagged s t word guesses loads entries held waiters guess_bits load_bits p = rw (entries, held, waiters, guess_bits p, load_bits p) refl
+
 pub unflagged_elsewhere : (s t : Slots) (valid less word : ℕ) → ((p : ℕ) → slot t p ≡ unflagged (has word p) (slot s p))
     → ((p : ℕ) → has less p ≡ (has valid p && not (has word p))) → (p : ℕ) → has less p ≡ true → slot t p ≡ slot s p
 unflagged_elsewhere s t valid less word slots fewer p taken =
@@ -583,12 +590,50 @@ none_taken slots best names none = record {
   count = ap length none;
 }
 
+cond_or : (b x : Bool) → cond b true x ≡ (x || b)
+cond_or true true = refl
+cond_or true false = refl
+cond_or false true = refl
+cond_or false false = refl
+
+-- one more candidate is taken
+pub one_taken : (slots : Slots) (best : List Candidate) (i chosen next : ℕ) (d : Candidate) (names more : List EntryId) (name : EntryId) → i < length best
+    → name ≡ name_of (slot slots (get_or best i d).place) → more ≡ names ++ name ∷ [] → ((p : ℕ) → has next p ≡ cond (eqb p (get_or best i d).place) true (has chosen p))
+    → IsTaken slots best i chosen names → IsTaken slots best (i + 1) next more
+one_taken slots best i chosen next d names more name lt named pushed marks h = record {
+  bits = λ p. marks p ∙ ap (λ b. cond b true (has chosen p)) (eqb_swap p (get_or best i d).place) ∙ cond_or (eqb (get_or best i d).place p) (has chosen p) ∙ ap (λ b. b || eqb (get_or best i d).place p) (h.bits p) ∙ sym (list_any_more (λ c. eqb c.place p) best i d lt);
+  names_are = pushed ∙ ap₂ (λ ns n. ns ++ n ∷ []) h.names_are named ∙ sym (map_more (λ c. name_of (slot slots c.place)) best i d lt);
+  count = ap length pushed ∙ length_push names name ∙ ap (λ k. k + 1) h.count;
+}
+
 -- all candidates are taken
 pub ready_all : (slots : Slots) (best : List Candidate) (i chosen : ℕ) (names : List EntryId) → length best ≤ i → All (λ c. (c.place < 64) × (is_ready (slot slots c.place) ≡ true)) best → IsTaken slots best i chosen names
     → (p : ℕ) → has chosen p ≡ true → is_ready (slot slots p) ≡ true
 ready_all slots best i chosen names whole ready h p t =
     at_candidates (λ q. is_ready (slot slots q) ≡ true) best p (λ k d lt. (ready k d lt).1)
     (ap (λ cs. is_at cs p) (sym (take_all i best whole)) ∙ sym (h.bits p) ∙ t)
+
+one_awaited : (a : Bool) (r i : ℕ) → i ≡ r → list_any (λ w. eqb w i) (cond a (r ∷ []) []) ≡ a
+one_awaited true r i same = rw (eq-eqb r i (sym same)) refl
+one_awaited false r i same = refl
+
+none_awaited : (a : Bool) (r i : ℕ) → eqb r i ≡ false → list_any (λ w. eqb w i) (cond a (r ∷ []) []) ≡ false
+none_awaited true r i other = rw other refl
+none_awaited false r i other = refl
+
+-- a place enters the word of a source, if that is waited for
+pub source_added : (words : List ℕ) (s : Source) (place index word : ℕ) → index ≡ s.register → index < length words
+    → ((p : ℕ) → has word p ≡ cond (eqb p place && s.awaited) true (has (slice_index words index) p))
+    → (i p : ℕ) → has (slice_index (set words index word) i) p ≡ cond (eqb p place && list_any (λ r. eqb r i) (awaited_of s)) true (has (slice_index words i) p)
+source_added words s place index word own below marks i p = elim (eqb_tells i index) [
+  | inl b ↦
+      rw b.1
+      (ap (λ w. has w p) (get_or-set_same words index word 0 below) ∙ marks p
+      ∙ ap (λ a. cond (eqb p place && a) true (has (slice_index words index) p)) (sym (one_awaited s.awaited s.register index own)))
+  | inr b ↦
+      ap (λ w. has w p) (get_or-set_other words index i word 0 b.1)
+      ∙ ap (λ a. cond a true (has (slice_index words i) p)) (sym (and_right (eqb p place) (list_any (λ r. eqb r i) (awaited_of s)) (none_awaited s.awaited s.register i (ap (λ r. eqb r i) (sym own) ∙ eqb_swap index i ∙ b.0))))
+]
 
 -- an entry that enters and waits for nothing
 pub supplied_at : (here a b : Bool) (x y : ℕ) → ((here && true) && not ((here && a) || (here && b))) ≡ (here && eqb (length (cond a (x ∷ []) [] ++ cond b (y ∷ []) [])) 0)
