@@ -9,6 +9,7 @@ pub mod CoreOfFlight
 pub mod Completes
 pub mod Retires
 pub mod Renames
+pub mod NotRenamable
 pub mod Fetches
 pub mod HeldLoads
 pub mod ReadyLoads
@@ -20,6 +21,7 @@ pub mod Issues
 pub mod Performed
 pub mod SourcesSeen
 pub mod StoreQueueReads
+pub mod LoadsWait
 pub mod EventsKept
 pub mod PlainCompletes
 pub mod PlainNext

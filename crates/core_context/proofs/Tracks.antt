@@ -10,7 +10,8 @@ use Rattle.reorder_buffer.specs.Growing.{IsGrowing as IsRising, below}
 use Rattle.reorder_buffer.proofs.Stamps.{take-below}
 use Rattle.paged_memory.specs.Cells.{Cells}
 use Rattle.hart_step.specs.declared.stop.Stop.{Stop}
-use Rattle.hart_step.specs.State.{written}
+use Rattle.hart_step.specs.State.{State, written}
+use Rattle.hart_step.specs.declared.environment.Environment.{Environment}
 use Rattle.core_view.specs.declared.span.Bytes.{Bytes}
 use Rattle.core_view.specs.declared.outcome.Step.{Step}
 use Rattle.core_view.specs.declared.outcome.Outcome.{Outcome}
@@ -22,20 +23,24 @@ use Rattle.core_view.specs.declared.entry.Entry.{Entry}
 use Rattle.core_view.specs.Operations.{stops_at_fetch, is_guessed, is_store, destination_of}
 use Rattle.core_view.specs.Outcomes.{Image, bytes_written, memory_after}
 use Rattle.core_view.specs.Flight.{is_queued, is_done, Seen, seen_past, pc_past, is_open, span_read, bytes_in, touches, clean_length, HasOutcome, IsSoundEntry, IsSound}
+use Rattle.core_view.specs.Stages.{execution_of}
 use Rattle.core_view.specs.Events.{is_mispredicted, kept_length, completed_entry, complete_in}
 use Rattle.core_view.specs.Queues.{loads_of, conflict_in, conflict_of}
-use Rattle.core_view.specs.View.{no_entry, entry_at}
+use Rattle.core_view.specs.View.{no_entry, entry_at, status_at}
+use Rattle.core_view.specs.declared.status.Status.{Status}
+use Rattle.load_store_queue.specs.Queues.{Places}
+use Rattle.core_context.specs.Cores.{front_room}
 use Rattle.core_view.proofs.Accesses.{stage_bytes}
 use Rattle.core_view.proofs.Accesses.{store_predicted}
 use Rattle.core_view.proofs.Queues.{queue_conflict}
 use Rattle.core_view.proofs.RingForm.{complete_take}
 use Rattle.core_view.proofs.Sound.{sound_at}
-use Rattle.flight.specs.Flights.{Flight, NoneFrom, IsNext, retired_one}
+use Rattle.flight.specs.Flights.{Flight, empty_flight, NoneFrom, IsNext, retired_one, issued_one, finished_one}
 use Rattle.flight.specs.Marked.{is_waiting}
 use Rattle.entry_stages.specs.Heads.{done_outcome, first_done, step_on}
 use Rattle.core_context.specs.Queued.{queued_at}
 use Rattle.entry_stages.specs.Mispredicted.{is_mispredicted_by}
-use Rattle.core_context.specs.Track.{Track, flight_of, stepped, left_by, cut_stamp, finished, cut_at, completed}
+use Rattle.core_context.specs.Track.{Track, first_track, flight_of, issued, stepped, left_by, cut_stamp, finished, cut_at, completed}
 use Rattle.core_view.proofs.Growing.{growing_whole}
 use Rattle.core_context.proofs.Waiting.{and_none}
 
@@ -54,6 +59,10 @@ past xs i is =
       | inl some ↦ absurd (none-some some.0 (sym is ∙ some.2))
       | inr none ↦ none.0
     ]
+
+-- what is read as none isn't there
+pub not_there : (es : List Entry) (i : ℕ) → slice_get es i ≡ None → i < length es → ⊥
+not_there es i none lt = let le : length es ≤ i = past es i none in omega (arith, le, lt)
 
 -- a change of what stands at a place is a change of what was read there
 pub set_read : (es fs : List Entry) (i : ℕ) (e : Entry) (change : Entry → Entry) → slice_get es i ≡ Some e → fs ≡ set es i (change (get_or es i no_entry)) → fs ≡ set es i (change e)
@@ -75,6 +84,29 @@ pub step_taken : (t now : Track) (e : Entry) (step : Step) (f : Flight) (memory 
 step_taken t now e step f memory registers is read taken written_ stored left =
     let here : entry_at t.context 0 ≡ e = get_or_from_slice_get t.context.flight 0 e no_entry read in
     rw (written_, stored, left, taken, ← is, here, first_read t.context.flight e read) refl
+
+-- a context in the state of a hart, by its parts
+pub first_is : (count target : ℕ) (s : State) (status : Status) (registers : List ℕ) (pc : ℕ) (memory : Cells) (environment : Environment) (f : Flight) (q : Places) (renamed front loads stores most_renamed most_loads most_stores : ℕ) → status ≡ status_at count target
+    → registers ≡ s.registers → pc ≡ s.pc → memory ≡ s.memory → environment ≡ s.environment → f ≡ empty_flight (renamed + front) → renamed ≡ most_renamed → front ≡ front_room → q ≡ record { load_places = loads; store_places = stores } → loads ≡ most_loads → stores ≡ most_stores
+    → record {
+      context = record { status = status; count = count; target = target; state = record { registers = registers; pc = pc; memory = memory; environment = environment }; flight = f.entries };
+      renamed = f.renamed;
+      capacity = f.capacity;
+      load_places = q.load_places;
+      store_places = q.store_places;
+    } ≡ first_track count target s (most_renamed + front_room) most_loads most_stores
+first_is count target s status registers pc memory environment f q renamed front loads stores most_renamed most_loads most_stores status_is registers_are pc_is memory_is environment_is empty renamed_is front_is places loads_are stores_are =
+    rw (status_is, registers_are, pc_is, memory_is, environment_is, empty, renamed_is, front_is, places, loads_are, stores_are) refl
+
+-- an entry has completed, where its flight says so
+pub finished_is : (t now : Track) (f : Flight) (i : ℕ) → t ≡ now → f ≡ finished_one (flight_of t) i (execution_of (entry_at t.context i).stage)
+    → record t { context = record t.context { flight = f.entries }; renamed = f.renamed; capacity = f.capacity } ≡ finished now i (execution_of (entry_at now.context i).stage)
+finished_is t now f i is done = rw (done, ← is) refl
+
+-- an entry issued, where its flight says so
+pub issued_is : (t now : Track) (f : Flight) (i : ℕ) (x : Execution) → t ≡ now → f ≡ issued_one (flight_of t) i x
+    → record t { context = record t.context { flight = f.entries }; renamed = f.renamed; capacity = f.capacity } ≡ issued now i x
+issued_is t now f i x is left = rw (left, ← is) refl
 
 -- the oldest entry is done where it came to something
 pub first_is_done : (es : List Entry) → is_done (get_or es 0 no_entry).stage ≡ is_some (first_done es)

@@ -1,9 +1,18 @@
-use Rattle.std.proofs.Common.{◌≡◌, slice_get, Some, ap, sym, ◌∙◌}
+use Rattle.std.proofs.Common.{◌≡◌, ◌<◌, length, slice_get, Some, ap, sym, subst, ◌∙◌}
 use Rattle.std.specs.Prelude.{option_copied}
 use Rattle.std.proofs.lemmas.Option.{get_or_from_slice_get}
 use Rattle.core_view.specs.View.{no_entry, entry_at}
 use Rattle.core_context.specs.Track.{Track}
+use Rattle.core_context.proofs.Tracks.{not_there}
 use Rattle.core_context.proofs.track.Track.entry_at.Goals as goal
+
+pub assert_unchecked-requires : goal.assert_unchecked-requires
+assert_unchecked-requires g c =
+    absurd (not_there c.self.inside.flight.entries c.args.place (sym c.get.ensures ∙ ap option_copied c.in_default.is) (subst (λ (t : Track). c.args.place < length t.context.flight) (sym c.self.view_is) c.requires))
+
+pub unreachable-requires : goal.unreachable-requires
+unreachable-requires g c =
+    absurd (not_there c.self.inside.flight.entries c.args.place (sym c.get.ensures ∙ ap option_copied c.in_default.is) (subst (λ (t : Track). c.args.place < length t.context.flight) (sym c.self.view_is) c.requires))
 
 pub returns : goal.returns
 returns g c =

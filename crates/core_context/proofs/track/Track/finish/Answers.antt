@@ -14,7 +14,7 @@ use Rattle.core_view.specs.View.{no_entry, entry_at}
 use Rattle.entry_stages.specs.Mispredicted.{is_mispredicted_by}
 use Rattle.core_context.specs.Track.{Track, cut_stamp}
 use Rattle.core_context.specs.Ends.{IsEnd}
-use Rattle.core_context.proofs.Tracks.{set_read, cut_kept, cut_wrong_none, cut_wrong_some, writes_none}
+use Rattle.core_context.proofs.Tracks.{finished_is, set_read, cut_kept, cut_wrong_none, cut_wrong_some, writes_none}
 use Rattle.core_context.proofs.Ends.{end_finished}
 use Rattle.core_context.proofs.track.Track.finish.Given.{Over}
 use Rattle.core_context.proofs.track.Track.finish.Goals as goal
@@ -99,3 +99,35 @@ returns-clause-cut g c =
     let some : slice_get c.finish.new.self.entries (c.args.place + 1) ≡ Some c.in_ok-next.next.now = sym c.get-2.ensures ∙ ap option_copied c.in_ok-next.was in
     cut_wrong_some (entries g at) c.args.place c.unwrap-entry.result.now (execution g at) (read g at) c.finish.new.self.entries (written g at) c.in_ok-next.next.now (mispredicted g at ∙ c.if-not-mispredicted.false) some
     ∙ ap (λ (t : Track). cut_stamp t.context c.args.place (execution_of (entry_at t.context c.args.place).stage)) c.self.view_is
+
+-- ---- what each of these ways leaves
+
+pub returns-then-not-mispredicted-clause-finished : goal.returns-then-not-mispredicted-clause-finished
+returns-then-not-mispredicted-clause-finished g c = finished_is _ c.args.self.now c.finish.new.self c.args.place c.self.view_is c.finish.ensures
+
+pub returns-then-not-mispredicted-clause-growing : goal.returns-then-not-mispredicted-clause-growing
+returns-then-not-mispredicted-clause-growing g c = c.len-left.ensures.growing
+
+pub returns-in_err-next-clause-finished : goal.returns-in_err-next-clause-finished
+returns-in_err-next-clause-finished g c = finished_is _ c.args.self.now c.finish.new.self c.args.place c.self.view_is c.finish.ensures
+
+pub returns-in_err-next-clause-growing : goal.returns-in_err-next-clause-growing
+returns-in_err-next-clause-growing g c = c.len-left.ensures.growing
+
+pub returns-clause-finished : goal.returns-clause-finished
+returns-clause-finished g c = finished_is _ c.args.self.now c.finish.new.self c.args.place c.self.view_is c.finish.ensures
+
+pub returns-clause-growing : goal.returns-clause-growing
+returns-clause-growing g c = c.len-left.ensures.growing
+
+pub returns-then-is_store-clause-finished : goal.returns-then-is_store-clause-finished
+returns-then-is_store-clause-finished g c = c.finish_store.ensures.finished
+
+pub returns-then-is_store-clause-growing : goal.returns-then-is_store-clause-growing
+returns-then-is_store-clause-growing g c = c.finish_store.ensures.growing
+
+pub returns-then-is_store-clause-bound : goal.returns-then-is_store-clause-bound
+returns-then-is_store-clause-bound g c = c.finish_store.ensures.bound
+
+pub returns-then-is_store-clause-cut : goal.returns-then-is_store-clause-cut
+returns-then-is_store-clause-cut g c = c.finish_store.ensures.cut
