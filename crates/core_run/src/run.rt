@@ -1,11 +1,11 @@
 //! A run of a core.
 
-ghost use Rattle.std.specs.Prelude.{◌≡◌, ◌↔◌, ◌+◌, ◌≤◌, ◌^◌, IsTrue};
+ghost use Rattle.std.specs.Prelude.{◌≡◌, ◌↔◌, ◌+◌, ◌≤◌, ◌^◌, IsTrue, false};
 ghost use Rattle.lawful_cycle.specs.Cycle.{laws_of};
 ghost use Rattle.lawful_cycle.specs.Runs.{SomeRuns};
 ghost use Rattle.core_cycle.specs.Shown.{shown};
 ghost use Rattle.core_run.specs.Told.{figures_of};
-ghost use Rattle.core_run.specs.Ended.{IsRunFrom, IsRunOf};
+ghost use Rattle.core_run.specs.Ended.{IsRunFrom, IsRunOf, is_reached};
 
 use crate::figures::Figures;
 use branch_predict::Guess;
@@ -72,10 +72,23 @@ fn advance<G: Guess + Drop, P: Pick + Drop, O: Order + Drop, D: Delay + Drop, A:
         let counts = core.cycle_counted();
         figures.add(&counts);
     }
+    (outcome_at_limit(core), figures)
+}
+
+/// How a run ends whose cycles are used up.
+fn outcome_at_limit<
+    G: Guess + Drop,
+    P: Pick + Drop,
+    O: Order + Drop,
+    D: Delay + Drop,
+    A: Allocator,
+>(core: &Core<G, P, O, D, A>) -> Outcome
+    ensures { is_reached result ≡ false ↔ SomeRuns (shown core.now).view }
+{
     if some_runs(core) {
-        (Outcome::CycleLimit, figures)
+        Outcome::CycleLimit
     } else {
-        (Outcome::Reached, figures)
+        Outcome::Reached
     }
 }
 
