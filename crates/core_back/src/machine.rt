@@ -1,6 +1,6 @@
 //! Eight contexts, and the data flow that they share.
 
-ghost use Rattle.std.specs.Prelude.{◌≡◌, ℕ, ◌+◌, ◌-◌, ◌<◌, ◌≤◌, ◌^◌, ◌&&◌, ◌==◌, false, not, length, drop, count_by, slice_get, slice_index, [], IfOk, IfSome, IsSome, MatchOption, Some, None, true, is_some, option_map, IsTrue, ◌↔◌};
+ghost use Rattle.std.specs.Prelude.{◌≡◌, ℕ, ◌+◌, ◌-◌, ◌<◌, ◌≤◌, ◌^◌, ◌&&◌, ◌==◌, false, not, length, drop, count_by, slice_get, slice_index, [], IfOk, IfSome, IsSome, MatchOption, Some, None, true, is_some, option_map, min, IsTrue, ◌↔◌};
 ghost use Rattle.core_view.specs.declared.outcome.Outcome.TheVariants.{Stops};
 ghost use Rattle.core_view.specs.Events.{retire_event, stop_event, complete_event};
 ghost use Rattle.core_view.specs.Operations.{is_guessed};
@@ -450,6 +450,23 @@ impl<A: Allocator> Machine<A> {
         )
     }
 
+    /// The same, and returns which entry it is.
+    #[inline(always)]
+    fn rename_next(&mut self, context: Ctx, limit: u64) -> Option<EntryId>
+        requires { self.old.names ≡ [] }
+        ensures none { result ≡ None → self.new ≡ self.old }
+        ensures cannot { result ≡ None → (e : Entry) → e.stamp ≤ limit → ¬ (CanRename self.old.view context e) }
+        ensures named { IfSome result (λ entry. entry ≡ record { context = context; stamp = entry.stamp }) }
+        ensures within { IfSome result (λ entry. entry.stamp ≤ limit) }
+        ensures renamed { IfSome result (λ entry. IsRenamed self.old self.new context entry.stamp) }
+        ensures flights { in_flight self.new ≡ in_flight self.old }
+        ensures alike { IsAlike self.old self.new }
+        ensures idle { self.new.names ≡ [] }
+    {
+        let stamp = self.try_rename(context, limit)?;
+        Some(EntryId { context, stamp })
+    }
+
     /// The oldest fetched entries of a context are renamed, one by one, for as long as they can be, their stamps are no
     /// greater than a limit, and fewer than a width are listed. What is renamed is listed in order.
     // It stays out of line: in a caller's loop its conditional moves become jumps, which are guessed wrongly.
@@ -471,10 +488,10 @@ impl<A: Allocator> Machine<A> {
         ensures idle { self.new.names ≡ [] }
     {
         for _turn in renamed.len()..width {
-            let Some(stamp) = self.try_rename(context, limit) else {
+            let Some(entry) = self.rename_next(context, limit) else {
                 return;
             };
-            renamed.push(EntryId { context, stamp });
+            renamed.push(entry);
         }
     }
 
@@ -567,7 +584,7 @@ impl<A: Allocator> Machine<A> {
             ..
         } = self;
         let track = &mut tracks[context.index()];
-        let most = usize::from(num2.min(*fetch_room)).min(track.front_room());
+        let most = most_in_turn(num2, *fetch_room, track.front_room());
         let number = fetch_block(track, context, guess, *stamp, *cycle, most, fetched);
         *stamp += number as u64;
         *fetch_room -= number as u8;
@@ -608,4 +625,13 @@ fn issue_of(entry: EntryId, lag: Lag) -> Issue
         latency: lag.cycles,
         miss: lag.miss,
     }
+}
+
+/// How many entries a context fetches in its turn at most: as many as it may, as the cycle has left, and as its front list
+/// has room for.
+#[inline(always)]
+fn most_in_turn(num2: u8, fetch_room: u8, front_room: usize) -> usize
+    ensures { result ≡ min (min num2 fetch_room) front_room }
+{
+    usize::from(num2.min(fetch_room)).min(front_room)
 }

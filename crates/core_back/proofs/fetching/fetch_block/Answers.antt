@@ -7,7 +7,7 @@ use Rattle.core_back.proofs.Blocks.{block_open}
 use Rattle.core_back.proofs.BlockTurns.{HasFetched, fetched_none, fetched_next, ends_so, next_pc, block_by}
 use Rattle.core_back.proofs.fetching.fetch_block.Given.{Over}
 use Rattle.core_back.proofs.fetching.fetch_block.Goals as goal
-use Rattle.core_back.proofs.fetching.fetch_block.Goals.{After-fetch-onward}
+use Rattle.core_back.proofs.fetching.fetch_block.Goals.{After-fetch_listed-onward}
 
 pub loop-number-init : goal.loop-number-init
 loop-number-init g c = record {
@@ -19,8 +19,8 @@ loop-number-init g c = record {
   keeps = refl;
 }
 
-pub fetch-onward-requires-clause-before : goal.fetch-onward-requires-clause-before
-fetch-onward-requires-clause-before g c =
+pub fetch_listed-onward-requires-clause-before : goal.fetch_listed-onward-requires-clause-before
+fetch_listed-onward-requires-clause-before g c =
     let b = c.requires.before in
     record {
       start = b.start;
@@ -29,62 +29,62 @@ fetch-onward-requires-clause-before g c =
       core = c.loop-number.invariant.fetched.kept b.start b.reorder b.flow b.core;
     }
 
-pub fetch-onward-requires-clause-eligible : goal.fetch-onward-requires-clause-eligible
-fetch-onward-requires-clause-eligible g c =
+pub fetch_listed-onward-requires-clause-eligible : goal.fetch_listed-onward-requires-clause-eligible
+fetch_listed-onward-requires-clause-eligible g c =
     let i = c.loop-number.invariant in
     block_open (g.G.Guess.may_answer c.args.guess.now c.args.context) c.args.cycle c.args.stamp c.loop-number.number c.args.track.now.context c.loop-number.track.context i.fetched.block
     c.requires.eligible i.goes (omega (arith, c.requires.front, c.loop-number-test.true))
 
 -- ---- one more is fetched
 
-abbrev may : (g : Over) (c : After-fetch-onward g) → ℕ → Insn → ℕ → Bool
+abbrev may : (g : Over) (c : After-fetch_listed-onward g) → ℕ → Insn → ℕ → Bool
 may g c = g.G.Guess.may_answer c.args.guess.now c.args.context
 
-one : (g : Over) (c : After-fetch-onward g) → IsFetchedBy (may g c) (c.args.stamp + c.loop-number.number) c.args.cycle c.loop-number.track c.fetch-onward.new.track c.fetch-onward.result.pc c.fetch-onward.result.ends
+one : (g : Over) (c : After-fetch_listed-onward g) → IsFetchedBy (may g c) (c.args.stamp + c.loop-number.number) c.args.cycle c.loop-number.track c.fetch_listed-onward.new.track c.fetch_listed-onward.result.pc c.fetch_listed-onward.result.ends
 one g c =
-    subst (λ says. IsFetchedBy (says c.args.context) (c.args.stamp + c.loop-number.number) c.args.cycle c.loop-number.track c.fetch-onward.new.track c.fetch-onward.result.pc c.fetch-onward.result.ends)
-    c.loop-number.invariant.keeps c.fetch-onward.ensures.fetched
+    subst (λ says. IsFetchedBy (says c.args.context) (c.args.stamp + c.loop-number.number) c.args.cycle c.loop-number.track c.fetch_listed-onward.new.track c.fetch_listed-onward.result.pc c.fetch_listed-onward.result.ends)
+    c.loop-number.invariant.keeps c.fetch_listed-onward.ensures.fetched
 
-fetched : (g : Over) (c : After-fetch-onward g)
-    → HasFetched (may g c) c.args.cycle c.args.stamp c.args.context (c.loop-number.number + 1) c.args.track.now c.fetch-onward.new.track (g.L.Listing.items c.args.fetched.now) (g.L.Listing.items c.push.new.self)
+fetched : (g : Over) (c : After-fetch_listed-onward g)
+    → HasFetched (may g c) c.args.cycle c.args.stamp c.args.context (c.loop-number.number + 1) c.args.track.now c.fetch_listed-onward.new.track (g.L.Listing.items c.args.fetched.now) (g.L.Listing.items c.fetch_listed-onward.new.fetched)
 fetched g c =
     let i = c.loop-number.invariant in
-    fetched_next (may g c) c.args.cycle c.args.stamp c.args.context c.loop-number.number c.args.track.now c.loop-number.track c.fetch-onward.new.track (g.L.Listing.items c.args.fetched.now) (g.L.Listing.items c.loop-number.fetched) (g.L.Listing.items c.push.new.self)
-    i.fetched i.goes (c.args.stamp + c.loop-number.number) c.fetch-onward.result.pc c.fetch-onward.result.ends refl (one g c) c.fetch-onward.ensures.kept c.push.ensures.items
+    fetched_next (may g c) c.args.cycle c.args.stamp c.args.context c.loop-number.number c.args.track.now c.loop-number.track c.fetch_listed-onward.new.track (g.L.Listing.items c.args.fetched.now) (g.L.Listing.items c.loop-number.fetched) (g.L.Listing.items c.fetch_listed-onward.new.fetched)
+    i.fetched i.goes (c.args.stamp + c.loop-number.number) c.fetch_listed-onward.result.pc c.fetch_listed-onward.result.ends refl (one g c) c.fetch_listed-onward.ensures.kept c.fetch_listed-onward.ensures.listed
 
-ends : (g : Over) (c : After-fetch-onward g) → ends_block (entry_at c.fetch-onward.new.track.context (length c.fetch-onward.new.track.context.flight - 1)) ≡ c.fetch-onward.result.ends
+ends : (g : Over) (c : After-fetch_listed-onward g) → ends_block (entry_at c.fetch_listed-onward.new.track.context (length c.fetch_listed-onward.new.track.context.flight - 1)) ≡ c.fetch_listed-onward.result.ends
 ends g c =
     let i = c.loop-number.invariant in
-    ends_so (may g c) c.args.cycle c.args.stamp c.args.context c.loop-number.number c.args.track.now c.loop-number.track c.fetch-onward.new.track (g.L.Listing.items c.args.fetched.now) (g.L.Listing.items c.loop-number.fetched) (g.L.Listing.items c.push.new.self)
-    i.fetched i.goes (c.args.stamp + c.loop-number.number) c.fetch-onward.result.pc c.fetch-onward.result.ends refl (one g c)
+    ends_so (may g c) c.args.cycle c.args.stamp c.args.context c.loop-number.number c.args.track.now c.loop-number.track c.fetch_listed-onward.new.track (g.L.Listing.items c.args.fetched.now) (g.L.Listing.items c.loop-number.fetched) (g.L.Listing.items c.fetch_listed-onward.new.fetched)
+    i.fetched i.goes (c.args.stamp + c.loop-number.number) c.fetch_listed-onward.result.pc c.fetch_listed-onward.result.ends refl (one g c)
 
 pub returns-then-onward-clause-block : goal.returns-then-onward-clause-block
 returns-then-onward-clause-block g c =
-    let at = (goal.at.returns-then-onward-clause-block g c).After-fetch-onward in
-    block_by (may g at) c.args.cycle c.args.stamp c.args.context (c.loop-number.number + 1) c.args.track.now c.fetch-onward.new.track (g.L.Listing.items c.args.fetched.now) (g.L.Listing.items c.push.new.self) (fetched g at)
+    let at = (goal.at.returns-then-onward-clause-block g c).After-fetch_listed-onward in
+    block_by (may g at) c.args.cycle c.args.stamp c.args.context (c.loop-number.number + 1) c.args.track.now c.fetch_listed-onward.new.track (g.L.Listing.items c.args.fetched.now) (g.L.Listing.items c.fetch_listed-onward.new.fetched) (fetched g at)
 
 pub returns-then-onward-clause-fewer : goal.returns-then-onward-clause-fewer
 returns-then-onward-clause-fewer g c =
-    let at = (goal.at.returns-then-onward-clause-fewer g c).After-fetch-onward in
+    let at = (goal.at.returns-then-onward-clause-fewer g c).After-fetch_listed-onward in
     λ less. record { some = omega arith; ends = ends g at ∙ c.if-onward.true }
 
 pub returns-then-onward-clause-listed : goal.returns-then-onward-clause-listed
 returns-then-onward-clause-listed g c =
-    let at = (goal.at.returns-then-onward-clause-listed g c).After-fetch-onward in
+    let at = (goal.at.returns-then-onward-clause-listed g c).After-fetch_listed-onward in
     (fetched g at).listed
 
 pub loop-number-preserved : goal.loop-number-preserved
 loop-number-preserved g c =
-    let at = (goal.at.loop-number-preserved g c).After-fetch-onward in
+    let at = (goal.at.loop-number-preserved g c).After-fetch_listed-onward in
     let i = c.loop-number.invariant in
     record {
       within = omega (arith, c.loop-number-test.true);
       fetched = fetched g at;
       goes = λ some. ends g at ∙ c.if-onward.false;
-      pc = next_pc (may g at) c.args.cycle c.args.stamp c.args.context c.loop-number.number c.args.track.now c.loop-number.track c.fetch-onward.new.track (g.L.Listing.items c.args.fetched.now) (g.L.Listing.items c.loop-number.fetched) (g.L.Listing.items c.push.new.self)
-          i.fetched i.goes (c.args.stamp + c.loop-number.number) c.fetch-onward.result.pc c.fetch-onward.result.ends refl (one g at);
-      long = omega (arith, i.long, c.push.ensures.len);
-      keeps = c.fetch-onward.ensures.keeps ∙ i.keeps;
+      pc = next_pc (may g at) c.args.cycle c.args.stamp c.args.context c.loop-number.number c.args.track.now c.loop-number.track c.fetch_listed-onward.new.track (g.L.Listing.items c.args.fetched.now) (g.L.Listing.items c.loop-number.fetched) (g.L.Listing.items c.fetch_listed-onward.new.fetched)
+          i.fetched i.goes (c.args.stamp + c.loop-number.number) c.fetch_listed-onward.result.pc c.fetch_listed-onward.result.ends refl (one g at);
+      long = omega (arith, i.long, c.fetch_listed-onward.ensures.long);
+      keeps = c.fetch_listed-onward.ensures.keeps ∙ i.keeps;
     }
 
 pub returns-clause-block : goal.returns-clause-block

@@ -38,7 +38,7 @@ fetch_block-number-requires-clause-front g c =
     let h = here g (goal.at.fetch_block-number-requires-clause-front g c).After-index_mut-track in
     let t = c.index_mut-track.result.now in
     let front = c.front_room.ensures ∙ ap (λ n. 16 - n) (sym (fetched_count t.renamed t.context.flight h.core.are_renamed h.core.are_fetched)) in
-    omega (arith, front, c.min-most.ensures)
+    omega (arith, front, c.most_in_turn-most.ensures)
 
 pub invariant_of-self : goal.invariant_of-self
 invariant_of-self g c =
@@ -48,7 +48,7 @@ invariant_of-self g c =
     machine_fetched c.self.inside _ c.args.self.now c.args.context c.index.result c.fetch_block-number.result c.fetch_block-number.new.track c.self.view_is c.self.invariant c.requires.idle (omega (arith, c.index.ensures))
     (e.kept (start (arc_value c.self.inside.origins.c0) c.args.context) c.self.inside.profile.reorder_buffer c.self.inside.flow core)
     (e.loads ∙ ap (λ (t : Track). t.load_places) h.track) (e.stores ∙ ap (λ (t : Track). t.store_places) h.track) c.index.ensures.value refl refl refl refl refl refl
-    (omega (arith, c.fetch_block-number.ensures.most, c.min.ensures, c.from.ensures, c.min-most.ensures)) refl refl
+    (omega (arith, c.fetch_block-number.ensures.most, c.most_in_turn-most.ensures)) refl refl
 
 pub returns-clause-turn : goal.returns-clause-turn
 returns-clause-turn g c =
@@ -61,15 +61,15 @@ returns-clause-turn g c =
     (shown_fetched c.self.inside c.args.self.now c.args.context c.index.result c.fetch_block-number.result c.fetch_block-number.new.track (c.self.inside.fetch_room - c.fetch_block-number.result) c.self.view_is c.index.ensures.value)
     (omega (arith, h.in_tracks, contexts, length-map c.self.inside.tracks.items (λ (t : Track). t.context)))
     h.context (ap (λ (v : Machine). v.view.cycle) c.self.view_is) (ap (λ (v : Machine). v.view.stamp) c.self.view_is) c.fetch_block-number.ensures.block.block
-    (takes_turn t.context c.fetch_block-number.new.track.context c.args.num2 c.self.inside.fetch_room c.front_room.result (length (g.L.Listing.items c.args.fetched.now)) c.min-most.result c.fetch_block-number.result front
-    (omega (arith, room, c.requires.room)) (omega (arith, c.min.ensures, c.from.ensures, c.min-most.ensures)) c.fetch_block-number.ensures.most c.fetch_block-number.ensures.fewer)
+    (takes_turn t.context c.fetch_block-number.new.track.context c.args.num2 c.self.inside.fetch_room c.front_room.result (length (g.L.Listing.items c.args.fetched.now)) c.most_in_turn-most.result c.fetch_block-number.result front
+    (omega (arith, room, c.requires.room)) (omega (arith, c.most_in_turn-most.ensures)) c.fetch_block-number.ensures.most c.fetch_block-number.ensures.fewer)
     c.fetch_block-number.ensures.listed
 
 pub returns-clause-room : goal.returns-clause-room
 returns-clause-room g c =
     let room = ap (λ (v : Machine). v.fetch_room) c.self.view_is in
     let long = ids_length (g.L.Listing.items c.args.fetched.now) (g.L.Listing.items c.fetch_block-number.new.fetched) c.self.inside.stamp c.args.context c.fetch_block-number.result c.fetch_block-number.ensures.listed in
-    omega (arith, room, long, c.requires.room, c.fetch_block-number.ensures.most, c.min.ensures, c.from.ensures, c.min-most.ensures)
+    omega (arith, room, long, c.requires.room, c.fetch_block-number.ensures.most, c.most_in_turn-most.ensures)
 
 pub returns-clause-flights : goal.returns-clause-flights
 returns-clause-flights g c =

@@ -1,5 +1,4 @@
-use Rattle.std.proofs.Common.{◌∙◌, refl, sym, subst, ap, arith, List, length}
-use Rattle.std.proofs.lemmas.List.{length_push}
+use Rattle.std.proofs.Common.{◌∙◌, ◌∷◌, ◌++◌, [], refl, sym, subst, ap, arith, List}
 use Rattle.core_view.specs.declared.note.EntryId.{EntryId}
 use Rattle.core_back.specs.Fetched.{IsRenamedRun}
 use Rattle.core_back.proofs.AlikeMachines.{alike_none, alike_chain}
@@ -20,13 +19,14 @@ pub loop-turn-preserved : goal.loop-turn-preserved
 loop-turn-preserved g c =
     let i = c.loop-turn.invariant in
     let u = c.loop-turn.self in
-    let n = c.try_rename.new.self in
+    let n = c.rename_next.new.self in
+    let listed = c.push.ensures.items ∙ ap (λ (entry : EntryId). g.L.Listing.items c.loop-turn.renamed ++ entry ∷ []) c.in-Some.ensures.named in
     record {
-      alike = alike_chain c.args.self.now u n i.alike c.try_rename.ensures.alike;
-      idle = c.try_rename.ensures.idle;
-      flights = c.try_rename.ensures.flights ∙ i.flights;
-      listed = (let long = length_push (g.L.Listing.items c.loop-turn.renamed) (record { context = c.args.context; stamp = c.in-Some.stamp }) in ap length c.push.ensures.items ∙ omega (arith, long, i.listed));
+      alike = alike_chain c.args.self.now u n i.alike c.rename_next.ensures.alike;
+      idle = c.rename_next.ensures.idle;
+      flights = c.rename_next.ensures.flights ∙ i.flights;
+      listed = omega (arith, c.push.ensures.len, i.listed);
       within = omega (arith, c.loop-turn-test.true);
-      run = subst (λ (after : List EntryId). IsRenamedRun c.args.context c.args.limit c.args.width c.args.self.now n (g.L.Listing.items c.args.renamed.now) after) (sym c.push.ensures.items)
-          (run_more c.args.context c.args.limit c.args.width c.in-Some.stamp c.args.self.now u n (g.L.Listing.items c.args.renamed.now) (g.L.Listing.items c.loop-turn.renamed) c.in-Some.ensures.within (omega (arith, i.listed, c.loop-turn-test.true)) c.in-Some.ensures.renamed i.run);
+      run = subst (λ (after : List EntryId). IsRenamedRun c.args.context c.args.limit c.args.width c.args.self.now n (g.L.Listing.items c.args.renamed.now) after) (sym listed)
+          (run_more c.args.context c.args.limit c.args.width c.in-Some.entry.stamp c.args.self.now u n (g.L.Listing.items c.args.renamed.now) (g.L.Listing.items c.loop-turn.renamed) c.in-Some.ensures.within (omega (arith, i.listed, c.loop-turn-test.true)) c.in-Some.ensures.renamed i.run);
     }
