@@ -1,5 +1,4 @@
 use Rattle.std.proofs.Common.{ℕ, ◌+◌, Bool, ap, sym, subst, ◌∙◌, arith}
-use Rattle.std.specs.Prelude.{set, ◌%◌}
 use Rattle.rv64_decode.specs.declared.insn.Insn.{Insn}
 use Rattle.core_view.specs.View.{Context}
 use Rattle.lawful_cycle.specs.Fetch.{IsFetch}
@@ -24,7 +23,7 @@ pub returns-clause-lawful : goal.returns-clause-lawful
 returns-clause-lawful g c =
     let count_before = c.retire-dropped.ensures.lawful.contexts.contexts.count_before in
     let count_after = c.complete-completion.ensures.lawful.contexts.contexts.count_after in
-    subst (λ (m : Machine). IsLawfulCycle (laws_of (g.P.Pick.key_of c.args.pick.now) (g.O.Order.key_of c.args.order.now) (g.G.Guess.may_answer c.args.guess.now) (g.D.Delay.may_answer c.args.delay.now)) m.view c.tick.new.self.view (note_with (g.L.Listing.items c.fetch.new.fetched) (g.L.Listing.items c.rename.new.renamed) (g.I.Listing.items c.issue.new.issued) (g.R.Listing.items c.retire-dropped.new.retired) c.complete-completion.result.completed (c.retire-dropped.result + c.complete-completion.result.cut))) c.self.view_is (record {
+    rw c.new.ensures (subst (λ (m : Machine). IsLawfulCycle (laws_of (g.P.Pick.key_of c.args.pick.now) (g.O.Order.key_of c.args.order.now) (g.G.Guess.may_answer c.args.guess.now) (g.D.Delay.may_answer c.args.delay.now)) m.view c.tick.new.machine.view (note_with (g.L.Listing.items c.fetch.new.fetched) (g.L.Listing.items c.rename.new.renamed) (g.I.Listing.items c.issue.new.issued) (g.R.Listing.items c.retire-dropped.new.retired) c.complete-completion.result.completed (c.retire-dropped.result + c.complete-completion.result.cut))) c.self.view_is (record {
       retired = c.retire-dropped.new.machine.view;
       completed = c.complete-completion.new.machine.view;
       issued = c.issue.new.machine.view;
@@ -37,7 +36,7 @@ returns-clause-lawful g c =
       fetch = subst (λ (says : ℕ → ℕ → Insn → ℕ → Bool). IsFetch (g.P.Pick.key_of c.args.pick.now) says c.rename.new.machine.view c.fetch.new.machine.view (g.L.Listing.items c.fetch.new.fetched)) c.retire-dropped.ensures.keeps c.fetch.ensures.lawful;
       next = ap (λ (m : Machine). m.view) c.tick.ensures.next;
       cut = omega (arith, c.retire-dropped.ensures.dropped, c.complete-completion.ensures.cut, in_flight_is c.self.inside.machine count_before, in_flight_is c.complete-completion.new.machine count_after);
-    })
+    }))
 
 pub returns-clause-timely : goal.returns-clause-timely
 returns-clause-timely g c =
@@ -79,13 +78,13 @@ invariant_of-self g c =
     let renamed : HoldsOfEach (IsDated begun cycle) c.rename.new.machine.view = subst (HoldsOfEach (IsDated begun cycle)) (sym c.rename.ensures.lawful.is) (rename_keeps (IsDated begun cycle) c.issue.new.machine.view (g.L.Listing.items c.rename.new.renamed) issued) in
     let fetched : HoldsOfEach (IsDated begun cycle) c.fetch.new.machine.view =
     fetch_keeps (IsDated begun cycle) _ _ c.rename.new.machine.view c.fetch.new.machine.view _ (λ stamp. subst (IsDated begun cycle stamp) (sym now) (new_dated begun cycle stamp)) c.fetch.ensures.lawful renamed in
-    let v = c.tick.new.self.view in
+    let v = c.tick.new.machine.view in
     let contexts = ap (λ (m : Machine). m.view.contexts) c.tick.ensures.next in
     let next = ap (λ (m : Machine). m.view.cycle) c.tick.ensures.next ∙ ap (λ n. n + 1) (c.fetch.ensures.lawful.cycle ∙ now) in
-    let told = c.begin.ensures ∙ ap (λ n. set begun (n % 8) c.next_stamp.result) c.cycle.ensures.value ∙ ap (λ n. set begun (v.cycle % 8) n) c.next_stamp.ensures.value in (
+    (
       ap (λ (m : Machine). m.names) c.tick.ensures.next ∙ c.fetch.ensures.idle,
       ap (λ (m : Machine). m.fetch_room) c.tick.ensures.next,
       returns-clause-timely g c,
       same_kept c.fetch.new.machine.view v c.fetch.new.fronts contexts c.fetch.ensures.kept,
-      next_history begun c.begin.new.self.begun c.fetch.new.machine.view v cycle h.eight fetched contexts next (below_next v (λ d ld. (c.cycle-live.ensures.live d ld).flight.below)) told,
+      next_history begun c.tick.new.history.begun c.fetch.new.machine.view v cycle h.eight fetched contexts next (below_next v (λ d ld. (c.cycle-live.ensures.live d ld).flight.below)) c.tick.ensures.history,
     )
