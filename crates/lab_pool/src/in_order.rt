@@ -7,10 +7,10 @@ ghost use Rattle.lab_pool.specs.Book.{book_after};
 use crate::copies::copy_of;
 use crate::fault::PoolFault;
 use crate::job::run_job;
-use crate::result::{JobResult, LabResult};
+use crate::result::{JobEnd, JobResult, LabResult};
 use checkpoint::Mark;
 use join_law::Eight;
-use lab_plan::Plan;
+use lab_plan::{Job, Plan};
 use std::alloc::Global;
 
 /// Runs the jobs of a plan in order, from an opening of its origin. Each job's marks are merged into the book, and a job
@@ -35,11 +35,18 @@ pub fn run_in_order(
     for job in planned {
         let (after, end) = run_job(alloc, job, &opening, book);
         book = after;
-        let result = JobResult {
-            start: job.start,
-            end,
-        };
+        let result = result_of(job, end);
         jobs.push(result).map_err(|_| PoolFault::OutOfMemory)?;
     }
     Ok(LabResult { marks: book, jobs })
+}
+
+/// The result of a job, by how it ended.
+fn result_of(job: &Job, end: JobEnd) -> JobResult
+    ensures { result ≡ record { start = job.now.start; end = end } }
+{
+    JobResult {
+        start: job.start,
+        end,
+    }
 }

@@ -7,9 +7,9 @@ ghost use Rattle.issue_queue.specs.Keys.{order_of};
 ghost use Rattle.data_tags.specs.Latency.{HasLatenciesOf};
 ghost use Rattle.core_back.specs.First.{IsFirst};
 ghost use Rattle.core_cycle.specs.Shown.{shown};
-ghost use Rattle.lab_pool.specs.Counts.{AreTargets};
+ghost use Rattle.lab_pool.specs.Counts.{counts_in, AreTargets};
 ghost use Rattle.lab_pool.specs.Book.{merged};
-ghost use Rattle.lab_pool.specs.Allowed.{IsJobEnd, started_from};
+ghost use Rattle.lab_pool.specs.Allowed.{IsJobRun, IsJobEnd, started_from};
 
 use crate::copies::{copy_of, counts_of};
 use crate::result::{JobEnd, JobRun};
@@ -44,24 +44,37 @@ pub(crate) fn run_job(
     let Some(start) = start_of(alloc, job, opening, &book) else {
         return (book, JobEnd::Refused);
     };
-    let starts = counts_of(&start);
-    let targets = targets_of(job, &start);
-    let Some(core) = core_of(alloc, &job.profile, start, targets) else {
+    let Some((run, marks)) = run_from(alloc, job, start) else {
         return (book, JobEnd::Refused);
     };
-    let Run {
-        outcome,
-        figures,
-        marks,
-    } = run_to(core, job.limit);
-    let counts = counts_of(&marks);
-    let run = JobRun {
-        outcome,
-        figures,
+    (book.join(marks), JobEnd::Ran(run))
+}
+
+/// Runs a job on a core of its own, from marks. Returns what it did and the marks that it left, unless memory is refused.
+fn run_from(alloc: Global, job: &Job, start: Eight<Mark>) -> Option<(JobRun, Eight<Mark>)>
+    requires { IsAligned start }
+    ensures run { IfSome result (λ done. IsJobRun job.now start done.0) }
+    ensures left { IfSome result (λ done. AreMarksOf start.c0.origin done.1) }
+    ensures counts { IfSome result (λ done. done.0.counts ≡ counts_in done.1) }
+{
+    let starts = counts_of(&start);
+    let targets = targets_of(job, &start);
+    let core = core_of(alloc, job, start, targets)?;
+    let run = run_to(core, job.limit);
+    Some((told(starts, &run), run.marks))
+}
+
+/// What is told of a job's run, by the counts at which it started.
+fn told(starts: [u64; 8], run: &Run) -> JobRun
+    ensures { result ≡ record { outcome = run.now.outcome; figures = run.now.figures; starts = starts; counts = counts_in run.now.marks } }
+{
+    let counts = counts_of(&run.marks);
+    JobRun {
+        outcome: run.outcome,
+        figures: run.figures,
         starts,
         counts,
-    };
-    (book.join(marks), JobEnd::Ran(run))
+    }
 }
 
 /// The marks from which a job starts.
@@ -106,27 +119,41 @@ fn target_of(job: &Job, start: &Eight<Mark>, context: Ctx) -> u64
     wanted.max(start.place(context).count())
 }
 
-/// A core by a profile that starts at marks, unless memory is refused.
+/// The core of a job, which starts at marks, unless memory is refused.
 fn core_of(
     alloc: Global,
-    profile: &Profile,
+    job: &Job,
     marks: Eight<Mark>,
     targets: [u64; 8],
 ) -> Option<JobCore>
     requires aligned { IsAligned marks }
     requires targets { (c : ℕ) → c < 8 → slice_index targets c ≤ 2 ^ 60 }
-    ensures first { IfSome result (λ core. IsFirst profile.now marks targets (shown core)) }
-    ensures pick { IfSome result (λ core. core.pick ≡ named_as profile.now.fetch) }
-    ensures order { IfSome result (λ core. core.order ≡ order_of profile.now.issue) }
-    ensures delay { IfSome result (λ core. HasLatenciesOf profile.now core.delay.latencies) }
+    ensures first { IfSome result (λ core. IsFirst job.now.profile marks targets (shown core)) }
+    ensures pick { IfSome result (λ core. core.pick ≡ named_as job.now.profile.fetch) }
+    ensures order { IfSome result (λ core. core.order ≡ order_of job.now.profile.issue) }
+    ensures delay { IfSome result (λ core. HasLatenciesOf job.now.profile core.delay.latencies) }
 {
-    let Ok(guess) = Tables::new(alloc) else {
-        return None;
-    };
-    let Ok(delay) = Tags::new(alloc, Latencies::from(profile)) else {
-        return None;
-    };
-    let pick = NamedPick::from(profile.fetch);
-    let order = NamedOrder::from(profile.issue);
+    let profile = &job.profile;
+    let guess = Tables::new(alloc).ok()?;
+    let delay = tags_of(alloc, profile)?;
+    let (pick, order) = policies_of(profile);
     Core::new(alloc, profile, marks, targets, guess, pick, order, delay).ok()
+}
+
+/// The policies that a profile names.
+fn policies_of(profile: &Profile) -> (NamedPick, NamedOrder)
+    ensures pick { result.0 ≡ named_as profile.now.fetch }
+    ensures order { result.1 ≡ order_of profile.now.issue }
+{
+    (
+        NamedPick::from(profile.fetch),
+        NamedOrder::from(profile.issue),
+    )
+}
+
+/// Data tags with a profile's latencies, unless memory is refused.
+fn tags_of(alloc: Global, profile: &Profile) -> Option<Tags>
+    ensures { IfSome result (λ tags. HasLatenciesOf profile.now tags.latencies) }
+{
+    Tags::new(alloc, Latencies::from(profile)).ok()
 }

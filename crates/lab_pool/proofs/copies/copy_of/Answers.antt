@@ -1,4 +1,4 @@
-use Rattle.std.proofs.Common.{◌≡◌, refl}
+use Rattle.std.proofs.Common.{refl}
 use Rattle.lab_pool.proofs.copies.copy_of.Goals as goal
 
 pub returns : goal.returns

@@ -19,7 +19,7 @@ pub loop-job-preserved : goal.loop-job-preserved
 loop-job-preserved c =
     let done : JobResult = record { start = c.job-item.result.start; end = c.run_job-after.result.1 } in
     let pushed : is_ok c.push.result ≡ true = sym c.in_ok-map_err.ensures.variant in
-    let items : c.push.new.self.items ≡ c.loop-job.jobs.items ++ done ∷ [] = c.push.ensures.items ∙ ap (λ b. if b then c.loop-job.jobs.items ++ done ∷ [] else c.loop-job.jobs.items) pushed in
+    let items : c.push.new.self.items ≡ c.loop-job.jobs.items ++ done ∷ [] = c.push.ensures.items ∙ ap (λ b. if b then c.loop-job.jobs.items ++ c.result_of-result.result ∷ [] else c.loop-job.jobs.items) pushed ∙ ap (λ (r : JobResult). c.loop-job.jobs.items ++ r ∷ []) c.result_of-result.ensures in
     record {
       book = c.run_job-after.ensures.book ∙ ap (λ (b : Eight MarkValue). merged b done.end) c.loop-job.invariant.book ∙ sym (book_more c.args.opening c.loop-job.jobs.items done) ∙ ap (book_after c.args.opening) (sym items);
       results = results_more c.args.opening c.jobs-planned.result.now c.loop-job.job-index c.loop-job.jobs.items c.push.new.self.items c.job-item.result done c.loop-job-test.true c.job-item.is c.loop-job.invariant.results (record {
