@@ -1,5 +1,6 @@
 -- Marks of one origin: place by place, and as kin.
-use Rattle.std.proofs.Common.{ℕ, ◌<◌, ◌↔◌, List, All, sym, ◌∙◌, arith}
+use Rattle.std.proofs.Common.{◌≡◌, ℕ, ◌<◌, ◌↔◌, List, All, IsTrue, nat_eq, sym, ◌∙◌, arith}
+use Rattle.std.proofs.lemmas.Grind.{common_steps}
 use Rattle.std.proofs.lemmas.List.Elements.{All-contains}
 use Rattle.checkpoint.specs.Aligned.{AreMarksOf, IsMarkOf}
 use Rattle.checkpoint.specs.AlignedParts.{EachIsMarkOf}
@@ -28,6 +29,10 @@ to_parts origin marks a = record {
 
 pub parts_are_marks : (origin : OriginValue) (marks : Eight MarkValue) → EachIsMarkOf origin marks ↔ AreMarksOf origin marks
 parts_are_marks origin marks = (from_parts origin marks, to_parts origin marks)
+
+-- a mark of the origin is one of the context exactly where it has its number
+pub is_mark_along : (origin : OriginValue) (context index : ℕ) (mark : MarkValue) → mark.origin ≡ origin → index ≡ mark.context → IsTrue (nat_eq index context) ↔ IsMarkOf origin context mark
+is_mark_along origin context index mark same here = (λ h. record { of_origin = same; of_context = grind (arith, common_steps) }, λ m. let e : index ≡ context = here ∙ m.of_context in grind (arith, common_steps))
 
 -- marks of one origin are kin at each place
 pub AreMarksOf-kin : (origin : OriginValue) (eights : List (Eight MarkValue)) → All (AreMarksOf origin) eights → AllKin (EightKin MarkKin) eights

@@ -1,35 +1,44 @@
--- Marks as they are made, copied and joined.
-use Rattle.std.proofs.Common.{◌≡◌, ℕ, ◌<◌, ◌≤◌, Result, Ok, Err, Some, refl, sym, ap, ◌∙◌, arith, IfOk, MatchResult}
-use Rattle.std.specs.Result.{is_ok}
+-- Marks as they are made, copied, compared and joined.
+use Rattle.std.proofs.Common.{◌≡◌, ◌↔◌, ℕ, ◌<◌, Some, IsTrue, Bool, nat_lt, refl, sym, ap, ◌∙◌, true, false, nat_eq, arith}
+use Rattle.std.proofs.lemmas.Grind.{common_steps}
 use Rattle.checkpoint.specs.Further.{MarkKin, further, same_parts}
 use Rattle.checkpoint.specs.MarkValue.{MarkValue, state_of}
-use Rattle.hart_step.specs.Next.{after}
 use Rattle.hart_step.specs.State.{State}
 use Rattle.origin_set.specs.OriginValue.{OriginValue}
-use Rattle.origin_set.specs.Start.{start}
 
--- what a result's value is, is what it is under another error
-pub under_error : {X E F : Type 0} (P : X → Type 0) (r : Result X E) (s : Result X F) (Q : E → Type 0) → MatchResult r (λ x. s ≡ Ok x) Q → is_ok s ≡ is_ok r → IfOk r P → IfOk s P
-under_error P (Ok x) s Q same v p = rw same p
-under_error P (Err e) (Err f) Q same v p = tt
-under_error P (Err e) (Ok y) Q same v p = absurd (cc v)
-
-pub under_error_at : {X E F : Type 0} (P : X → Type 0) (r : Result X E) (s : Result X F) (Q : E → Type 0) (x : X) → MatchResult r (λ y. s ≡ Ok y) Q → is_ok s ≡ is_ok r → IfOk r P → s ≡ Ok x → P x
-under_error_at P (Ok y) s Q x same v p was = let e : y ≡ x = cc (same, was) in rw e at p
-under_error_at P (Err e) s Q x same v p was = absurd (cc (v, ap is_ok was))
-
-module _ (o p : OriginValue) (c n : ℕ) (seen : MarkValue) (same : p ≡ o) (view : ◌≡◌ {A = MarkValue} (record { origin = o; context = c; count = n }) seen) where
+module _ (o p : OriginValue) (c n : ℕ) (same : p ≡ o) where
   -- a mark with a copy of another's origin
-  pub with_origin : ◌≡◌ {A = MarkValue} (record { origin = p; context = c; count = n }) seen
-  with_origin = same_parts _ _ _ _ _ _ same refl refl ∙ view
+  pub with_origin : ◌≡◌ {A = MarkValue} (record { origin = p; context = c; count = n }) (record { origin = o; context = c; count = n })
+  with_origin = same_parts _ _ _ _ _ _ same refl refl
 
   -- and with a copy of its state
-  pub on_trajectory : (s : State) → state_of seen ≡ Some s → after n (start p c) ≡ Some s
-  on_trajectory s here = ap state_of with_origin ∙ here
+  pub reached_with : (s : State) → state_of (record { origin = o; context = c; count = n }) ≡ Some s → state_of (record { origin = p; context = c; count = n }) ≡ Some s
+  reached_with s here = ap state_of with_origin ∙ here
+
+-- what a test of two values says, it says of what they are
+pub same_along : {X P : Type 0} (x y a b : X) → x ≡ a → y ≡ b → P ↔ (x ≡ y) → P ↔ (a ≡ b)
+same_along x y a b e f h = (λ p. sym e ∙ h.0 p ∙ f, λ same. h.1 (e ∙ same ∙ sym f))
+
+pub is_less : (m n a b : ℕ) → m ≡ a → n ≡ b → IsTrue (nat_lt m n) ↔ (a < b)
+is_less m n a b e f = (λ h. grind (arith, common_steps), λ h. grind (arith, common_steps))
+
+pub is_equal : (r : Bool) (m n a b : ℕ) → r ≡ nat_eq m n → m ≡ a → n ≡ b → IsTrue r ↔ (a ≡ b)
+is_equal r m n a b is e f = rw (is, ← e, ← f) (λ h. grind (arith, common_steps), λ h. grind (arith, common_steps))
+
+-- what a test that holds says, and one that doesn't
+pub tested : {P : Type 0} → IsTrue true ↔ P → P
+tested h = h.0 refl
+
+pub not_tested : {P : Type 0} → IsTrue false ↔ P → P → ⊥
+not_tested h p = let e : false ≡ true = h.1 p in absurd (cc e)
+
+-- marks of one origin are kin exactly where their contexts are equal
+pub kin_along : {P : Type 0} (a b : MarkValue) → a.origin ≡ b.origin → P ↔ (a.context ≡ b.context) → P ↔ MarkKin a b
+kin_along a b same h = (λ p. record { origin = same; context = h.0 p }, λ k. h.1 k.context)
 
 -- the further of two marks is the one that isn't behind
-pub further_right : (a b : MarkValue) (m n : ℕ) → m ≡ a.count → n ≡ b.count → MarkKin a b → m < n → b ≡ further a b
-further_right a b m n e f k h = same_parts _ _ _ _ _ _ (sym k.origin) (sym k.context) (omega arith)
+pub further_right : (a b : MarkValue) → MarkKin a b → a.count < b.count → b ≡ further a b
+further_right a b k h = same_parts _ _ _ _ _ _ (sym k.origin) (sym k.context) (omega (arith, h))
 
-pub further_left : (a b : MarkValue) (m n : ℕ) → m ≡ a.count → n ≡ b.count → n ≤ m → a ≡ further a b
-further_left a b m n e f h = same_parts _ _ _ _ _ _ refl refl (omega arith)
+pub further_left : (a b : MarkValue) → (a.count < b.count → ⊥) → a ≡ further a b
+further_left a b h = same_parts _ _ _ _ _ _ refl refl (omega (arith, h))

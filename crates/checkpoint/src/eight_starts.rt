@@ -33,10 +33,41 @@ pub fn starts<A: Allocator + Copy>(
     ensures aligned { IfOk result (λ marks. IsAligned marks) }
     ensures err { OnErr result (result ≡ Err MarkFault.OutOfMemory) }
 {
-    let [n0, n1, n2, n3, n4, n5, n6, n7] = Ctx::all();
-    let low = four_starts(alloc, origin, n0, n1, n2, n3)?;
-    let high = four_starts(alloc, origin, n4, n5, n6, n7)?;
+    let low = low_starts(alloc, origin)?;
+    let high = high_starts(alloc, origin)?;
     Ok(eight_of(low, high))
+}
+
+// The starts of contexts 0 to 3.
+fn low_starts<A: Allocator + Copy>(
+    alloc: A,
+    origin: &Arc<Origin<A>, A>,
+) -> Result<Four<A>, MarkFault>
+    ensures ok { IfOk result (λ marks.
+        (marks.low.first ≡ start_of (arc_value origin.now) 0) ×
+        (marks.low.second ≡ start_of (arc_value origin.now) 1) ×
+        (marks.high.first ≡ start_of (arc_value origin.now) 2) ×
+        (marks.high.second ≡ start_of (arc_value origin.now) 3)) }
+    ensures err { OnErr result (result ≡ Err MarkFault.OutOfMemory) }
+{
+    let [n0, n1, n2, n3, ..] = Ctx::all();
+    four_starts(alloc, origin, n0, n1, n2, n3)
+}
+
+// The starts of contexts 4 to 7.
+fn high_starts<A: Allocator + Copy>(
+    alloc: A,
+    origin: &Arc<Origin<A>, A>,
+) -> Result<Four<A>, MarkFault>
+    ensures ok { IfOk result (λ marks.
+        (marks.low.first ≡ start_of (arc_value origin.now) 4) ×
+        (marks.low.second ≡ start_of (arc_value origin.now) 5) ×
+        (marks.high.first ≡ start_of (arc_value origin.now) 6) ×
+        (marks.high.second ≡ start_of (arc_value origin.now) 7)) }
+    ensures err { OnErr result (result ≡ Err MarkFault.OutOfMemory) }
+{
+    let [.., n4, n5, n6, n7] = Ctx::all();
+    four_starts(alloc, origin, n4, n5, n6, n7)
 }
 
 // Two times four marks, in order.

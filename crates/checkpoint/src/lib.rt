@@ -1,17 +1,19 @@
 //! Marks: how far contexts have come, each always on its trajectory of plain RV64I.
 #![tactic(auto)]
 
-ghost use Rattle.std.specs.Prelude.{◌≡◌, ◌↔◌, ◌+◌, ◌^◌, ◌≤◌, ℕ, max, IsTrue, IfOk, IfErr, IfNone, IfSome, OnErr, Some, Err};
+ghost use Rattle.std.specs.Prelude.{◌≡◌, ◌↔◌, ◌+◌, ◌^◌, ◌≤◌, ◌<◌, ℕ, max, IsTrue, IfOk, IfErr, IfNone, IfSome, OnErr, Some, Err};
 ghost use Rattle.std.specs.Arc.{arc_value};
 ghost use Rattle.checkpoint.specs.Further.{MarkKin, IsUnjoinable, further, mark_laws};
 ghost use Rattle.checkpoint.specs.Furthest.{IsFurthest};
 ghost use Rattle.checkpoint.specs.MarkValue.{Advances, state_of};
 ghost use Rattle.origin_set.specs.OriginValue.{OriginValue};
+ghost use Rattle.origin_set.specs.Start.{start};
 
 mod best;
 mod eight_starts;
 mod eights;
 mod fault;
+mod pairs;
 mod run;
 
 pub use best::{furthest, furthest_each, furthest_leaf, furthest_leaf_each};
@@ -55,16 +57,8 @@ impl<A: Allocator> Mark<A> {
         ensures ok { IfOk result (λ mark. mark ≡ record { origin = arc_value origin.now; context = context; count = 0 }) }
         ensures err { OnErr result (result ≡ Err MarkFault.OutOfMemory) }
     {
-        let hart = origin
-            .hart(alloc, context)
-            .map_err(|_| MarkFault::OutOfMemory)?;
-        let origin = Arc::try_clone(origin).map_err(|_| MarkFault::OutOfMemory)?;
-        Ok(Mark {
-            origin,
-            context,
-            count: 0,
-            hart,
-        })
+        let hart = start_state(alloc, origin, context)?;
+        Mark::sharing(origin, context, 0, hart)
     }
 
     /// The mark of a hart that plain RV64I reaches from the context's start in that count.
@@ -87,13 +81,25 @@ impl<A: Allocator> Mark<A> {
         ensures err { OnErr result (result ≡ Err MarkFault.OutOfMemory) }
     {
         let hart = self.hart(alloc)?;
-        let origin = Arc::try_clone(&self.origin).map_err(|_| MarkFault::OutOfMemory)?;
-        Ok(Mark {
-            origin,
-            context: self.context,
-            count: self.count,
-            hart,
-        })
+        Mark::sharing(&self.origin, self.context, self.count, hart)
+    }
+
+    // The mark of a hart, as `from_core` makes it, with a share of the origin.
+    fn sharing(
+        origin: &Arc<Origin<A>, A>,
+        context: Ctx,
+        count: u64,
+        hart: Hart<A>,
+    ) -> Result<Self, MarkFault>
+        requires bound { count ≤ 2 ^ 60 }
+        requires reached { state_of (record { origin = arc_value origin.now; context = context; count = count }) ≡ Some hart }
+        ensures ok { IfOk result (λ mark. mark ≡ record { origin = arc_value origin.now; context = context; count = count }) }
+        ensures err { OnErr result (result ≡ Err MarkFault.OutOfMemory) }
+    {
+        match Arc::try_clone(origin) {
+            Ok(origin) => Ok(Mark::from_core(origin, context, count, hart)),
+            Err(_) => Err(MarkFault::OutOfMemory),
+        }
     }
 
     /// How many instructions it is from the start, at most 2^60.
@@ -123,9 +129,10 @@ impl<A: Allocator> Mark<A> {
         ensures ok { IfOk result (λ hart. state_of self.now ≡ Some hart) }
         ensures err { OnErr result (result ≡ Err MarkFault.OutOfMemory) }
     {
-        self.hart
-            .try_clone(alloc)
-            .map_err(|_| MarkFault::OutOfMemory)
+        match self.hart.try_clone(alloc) {
+            Ok(copy) => Ok(copy),
+            Err(_) => Err(MarkFault::OutOfMemory),
+        }
     }
 
     /// The state.
@@ -150,8 +157,7 @@ impl<A: Allocator> Mark<A> {
         ensures furthest { IfOk result (λ _. self.old.count ≡ 0 → IsFurthest self.old.origin self.old.context n self.new) }
         ensures err { IfErr result (λ fault. (fault ≡ MarkFault.OutOfMemory) × (self.new ≡ self.old)) }
     {
-        let (done, why) = self.run(n);
-        Ok((done, why))
+        Ok(self.run(n))
     }
 
     /// The further of two marks of one origin and context. Else both are handed back, with C1 where the origins
@@ -168,19 +174,20 @@ impl<A: Allocator> Mark<A> {
             None => Ok(self.join(other)),
         }
     }
+}
 
-    // Why another mark isn't joined with this one, if it isn't.
-    fn unjoinable(&self, other: &Mark<A>) -> Option<MarkFault>
-        ensures some { IfSome result (IsUnjoinable self.now other.now) }
-        ensures none { IfNone result (MarkKin self.now other.now) }
-    {
-        if !self.same_origin(other) {
-            return Some(MarkFault::ForeignOrigin);
-        }
-        if self.context != other.context {
-            return Some(MarkFault::OtherContext);
-        }
-        None
+// The state of a context at its start.
+fn start_state<A: Allocator>(
+    alloc: A,
+    origin: &Origin<A>,
+    context: Ctx,
+) -> Result<Hart<A>, MarkFault>
+    ensures ok { IfOk result (λ hart. hart ≡ start origin.now context) }
+    ensures err { OnErr result (result ≡ Err MarkFault.OutOfMemory) }
+{
+    match origin.hart(alloc, context) {
+        Ok(hart) => Ok(hart),
+        Err(_) => Err(MarkFault::OutOfMemory),
     }
 }
 
@@ -193,14 +200,10 @@ impl<A: Allocator> Join for Mark<A> {
     ghost laws = { mark_laws };
 
     fn kin(&self, other: &Mark<A>) -> bool {
-        self.same_origin(other) && self.context == other.context
+        self.same_origin(other) && self.same_context(other)
     }
 
     fn join(self, other: Mark<A>) -> Mark<A> {
-        if self.count < other.count {
-            other
-        } else {
-            self
-        }
+        if self.is_behind(&other) { other } else { self }
     }
 }

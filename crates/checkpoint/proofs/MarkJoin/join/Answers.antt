@@ -1,10 +1,8 @@
-use Rattle.std.proofs.Common.{ap}
-use Rattle.checkpoint.proofs.MarkLemmas.{further_left, further_right}
-use Rattle.checkpoint.specs.MarkValue.{MarkValue}
+use Rattle.checkpoint.proofs.MarkLemmas.{further_left, further_right, tested, not_tested}
 use Rattle.checkpoint.proofs.MarkJoin.join.Goals as goal
 
-pub returns-then-self-other : goal.returns-then-self-other
-returns-then-self-other g c = further_right c.args.self c.args.other _ _ (ap (λ (mark : MarkValue). mark.count) c.self.view_is) (ap (λ (mark : MarkValue). mark.count) c.other.view_is) c.requires c.if-self-other.true
+pub returns-then-is_behind : goal.returns-then-is_behind
+returns-then-is_behind g c = further_right c.args.self c.args.other c.requires (tested c.if-is_behind.ensures)
 
-pub returns-else-self-other : goal.returns-else-self-other
-returns-else-self-other g c = further_left c.args.self c.args.other _ _ (ap (λ (mark : MarkValue). mark.count) c.self.view_is) (ap (λ (mark : MarkValue). mark.count) c.other.view_is) c.if-self-other.false
+pub returns-else-is_behind : goal.returns-else-is_behind
+returns-else-is_behind g c = further_left c.args.self c.args.other (not_tested c.if-is_behind.ensures)
