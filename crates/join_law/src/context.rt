@@ -1,6 +1,6 @@
 //! The number of a context.
 
-ghost use Rattle.std.specs.Prelude.{◌≡◌, ◌↔◌, ◌<◌, ◌∷◌, [], ℕ, IsSome, IfSome};
+ghost use Rattle.std.specs.Prelude.{◌≡◌, ◌↔◌, ◌<◌, ◌∷◌, [], ℕ, IsTrue, IsSome, IfSome};
 
 use std::marker::Model;
 
@@ -27,7 +27,7 @@ impl Ctx {
         ensures found { IsSome result ↔ (number < 8) }
         ensures value { IfSome result (λ c. c ≡ number) }
     {
-        if number < 8 {
+        if is_number(number) {
             Some(Ctx::numbered(number))
         } else {
             None
@@ -66,4 +66,12 @@ impl Ctx {
     {
         self.number
     }
+}
+
+// Whether a context has the number.
+#[inline(always)]
+fn is_number(number: usize) -> bool
+    ensures { IsTrue result ↔ (number < 8) }
+{
+    number < 8
 }

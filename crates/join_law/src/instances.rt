@@ -1,6 +1,6 @@
 //! Numbers, optional numbers and pairs join.
 
-ghost use Rattle.std.specs.Prelude.{max};
+ghost use Rattle.std.specs.Prelude.{◌≡◌, Some, max};
 ghost use Rattle.join_law.specs.Instances.{AlwaysKin, option_max, PairKin, pair_joined};
 ghost use Rattle.join_law.specs.InstanceLaws.{number_laws, option_laws, pair_laws};
 
@@ -19,8 +19,16 @@ impl Join for u64 {
     }
 
     fn join(self, other: u64) -> u64 {
-        if self < other { other } else { self }
+        greater(self, other)
     }
+}
+
+// The greater of two numbers.
+#[inline(always)]
+fn greater(left: u64, right: u64) -> u64
+    ensures { result ≡ max left right }
+{
+    if left < right { right } else { left }
 }
 
 /// Optional numbers join to the greatest that is there; `None` is neutral.
@@ -36,11 +44,21 @@ impl Join for Option<u64> {
     }
 
     fn join(self, other: Option<u64>) -> Option<u64> {
-        match (self, other) {
-            (None, right) => right,
-            (left, None) => left,
-            (Some(left), Some(right)) => Some(left.join(right)),
+        match other {
+            None => self,
+            Some(right) => Some(greater_of(self, right)),
         }
+    }
+}
+
+// The greater of a number that may be there and one that is.
+#[inline(always)]
+fn greater_of(left: Option<u64>, right: u64) -> u64
+    ensures { option_max left (Some right) ≡ Some result }
+{
+    match left {
+        None => right,
+        Some(left) => greater(left, right),
     }
 }
 
