@@ -1,3 +1,4 @@
 pub mod WordsBytes
 pub mod Fitting
 pub mod Joined
+pub mod Starting

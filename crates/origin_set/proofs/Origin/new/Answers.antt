@@ -13,3 +13,6 @@ returns-then-are_within_limits-clause-fits g c =
 pub returns-else-are_within_limits-clause-fits : goal.returns-else-are_within_limits-clause-fits
 returns-else-are_within_limits-clause-fits g c =
     (λ e. absurd (cc), false_none IsWithinLimits _ _ _ c.from_array-programs.ensures c.are_within_limits.ensures c.if-are_within_limits.false)
+
+pub returns-else-are_within_limits-clause-err : goal.returns-else-are_within_limits-clause-err
+returns-else-are_within_limits-clause-err g c = refl
