@@ -2,3 +2,4 @@ pub mod WordsBytes
 pub mod Fitting
 pub mod Joined
 pub mod Starting
+pub mod Same
