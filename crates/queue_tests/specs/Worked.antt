@@ -14,6 +14,14 @@ set_x1 f c value = with_lane f c (with_register (lane f c) 1 value)
 abbrev pub with_x1 : Flow
 with_x1 = set_x1 (set_x1 (first_flow 32 4 8) 0 10) 1 20
 
+-- an instruction has its result
+abbrev pub given : Flow → ℕ → ℕ → ℕ → Flow
+given f c i value = with_lane f c (with_result (lane f c) i value)
+
+-- one of context 0 makes x5 of x1, and has its result
+abbrev pub with_x5 : Flow
+with_x5 = given (with_lane with_x1 0 (with_node (lane with_x1 0) (named 1 5 1 0))) 0 0 15
+
 -- one more instruction, which waits
 abbrev pub entered : Flow → ℕ → Operands → Bool → Bool → Flow
 entered f c o guessed load = record (with_lane f c (with_node (lane f c) o)) { waiters = f.waiters ++ record { stamp = o.stamp; context = c; guessed = guessed; load = load; speculative = false; held = false } ∷ [] }
@@ -29,10 +37,6 @@ of_two = entered of_one 0 (named 2 5 5 1) true false
 -- a load of context 1 makes x6 of x1
 abbrev pub of_three : Flow
 of_three = entered of_two 1 (named 3 6 1 1) false true
-
--- an instruction has its result
-abbrev pub given : Flow → ℕ → ℕ → ℕ → Flow
-given f c i value = with_lane f c (with_result (lane f c) i value)
 
 -- both of context 0
 abbrev pub finished : Flow

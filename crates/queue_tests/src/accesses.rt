@@ -2,6 +2,7 @@
 ghost use Rattle.std.specs.Prelude.{◌≡◌, ◌<◌, length, All, IsTrue};
 ghost use Rattle.flight.specs.Flights.{entry_in};
 
+use crate::equal::assert_equal;
 use core_view::{Access, Bytes, Decoded, Entry, Execution, Operation, Outcome, Span, Stage, Step};
 use flight::Flight;
 use hart_step::Stop;
@@ -50,18 +51,8 @@ fn decoded(word: u32) -> Decoded {
     })
 }
 
-/// An execution that makes an access, or stops where it makes none.
-fn execution_of(access: Option<Access>, why: Stop) -> Execution {
-    let outcome = match access {
-        Some(access) => Outcome::Goes {
-            step: Step {
-                result: 0,
-                next: 4,
-                access,
-            },
-        },
-        None => Outcome::Stops { why },
-    };
+/// An execution that is due in cycle 1.
+fn execution(outcome: Outcome) -> Execution {
     Execution {
         due: 1,
         miss: false,
@@ -69,14 +60,49 @@ fn execution_of(access: Option<Access>, why: Stop) -> Execution {
     }
 }
 
+/// An execution that makes an access and goes on at 4.
+fn accessing(access: Access) -> Execution {
+    execution(Outcome::Goes {
+        step: Step {
+            result: 0,
+            next: 4,
+            access,
+        },
+    })
+}
+
+/// A load's execution: it reads so many bytes at an address, or stops.
+fn reading(span: Option<(u64, u8)>) -> Execution {
+    match span {
+        Some((address, size)) => accessing(Access::Reads {
+            span: Span { address, size },
+        }),
+        None => execution(Outcome::Stops {
+            why: Stop::LoadAccess,
+        }),
+    }
+}
+
+/// A store's execution: it writes to an address so many bytes of a value, or stops.
+fn writing(bytes: Option<(u64, u8, u64)>) -> Execution {
+    match bytes {
+        Some((address, size, value)) => accessing(Access::Writes {
+            bytes: Bytes {
+                span: Span { address, size },
+                value,
+            },
+        }),
+        None => execution(Outcome::Stops {
+            why: Stop::StoreAccess,
+        }),
+    }
+}
+
 impl Accesses {
     /// No entry, and so many places for loads and for stores.
     pub fn new(rt: &impl Abort, alloc: Global, load_places: usize, store_places: usize) -> Self {
-        let Ok(flight) = Flight::new(alloc, ROOM) else {
-            panic!(rt; "out of memory");
-        };
         Accesses {
-            flight,
+            flight: Flight::new(alloc, ROOM).expect(rt, "memory"),
             queue: LoadStoreQueue::new(load_places, store_places),
         }
     }
@@ -107,34 +133,42 @@ impl Accesses {
     /// What stands at a word is fetched and renamed.
     pub fn put(&mut self, rt: &impl Abort, stamp: u64, word: u32) {
         self.fetch(rt, stamp, word);
-        assert_eq!(rt; self.rename(rt), Ok(()), "{stamp}");
+        assert_equal(rt, (stamp, self.rename(rt)), (stamp, Ok(())));
     }
 
-    /// A load issues, and reads a span or stops.
-    pub fn issue_load(&mut self, rt: &impl Abort, stamp: u64, span: Option<Span>) {
+    /// A load issues, and reads so many bytes at an address or stops.
+    pub fn issue_load(&mut self, rt: &impl Abort, stamp: u64, span: Option<(u64, u8)>) {
         let place = self.place(rt, stamp);
         let load = self.entry(rt, place);
         assert!(rt; load.operation.is_load());
         assert!(rt; load.stage.is_queued());
-        let access = span.map(|span| Access::Reads { span });
-        let execution = execution_of(access, Stop::LoadAccess);
-        self.queue.issue_load(&mut self.flight, place, execution);
+        self.queue
+            .issue_load(&mut self.flight, place, reading(span));
     }
 
-    /// A store issues and completes, with its bytes or a stop. Gives the load that conflicts.
+    /// A store issues and completes, and writes to an address so many bytes of a value or stops. Gives the load that
+    /// conflicts.
     pub fn complete_store(
         &mut self,
         rt: &impl Abort,
         stamp: u64,
-        bytes: Option<Bytes>,
+        bytes: Option<(u64, u8, u64)>,
     ) -> Option<u64> {
         let place = self.place(rt, stamp);
+        self.issue_store(rt, place, writing(bytes));
+        self.resolve_store(rt, place)
+    }
+
+    /// The store at a place issues.
+    fn issue_store(&mut self, rt: &impl Abort, place: usize, execution: Execution) {
         let store = self.entry(rt, place);
         assert!(rt; !store.operation.is_load());
         assert!(rt; store.stage.is_queued());
-        let access = bytes.map(|bytes| Access::Writes { bytes });
-        let execution = execution_of(access, Stop::StoreAccess);
         self.flight.issue_other(place, execution);
+    }
+
+    /// The store at a place completes. Gives the load that conflicts.
+    fn resolve_store(&mut self, rt: &impl Abort, place: usize) -> Option<u64> {
         let store = self.entry(rt, place);
         assert!(rt; store.operation.is_store());
         assert!(rt; matches!(store.stage.to_stage(), Stage::Issued { .. }));
@@ -151,21 +185,38 @@ impl Accesses {
         width: Width,
     ) -> LoadAnswer {
         let place = self.place(rt, stamp);
-        let flight = &self.flight;
-        let answer = self.queue.ask_load(flight, memory, place, address, width);
-        if let Ok(number) = memory.load(address, width) {
-            let size = width.bytes();
-            let span = Span { address, size };
-            let same = self.queue.forward(flight, place, span, number);
-            assert_eq!(rt; same, answer, "load {stamp} of {address}");
-        }
+        let answer = self
+            .queue
+            .ask_load(&self.flight, memory, place, address, width);
+        let same = self.forwarded(memory, place, address, width);
+        assert_equal(
+            rt,
+            (stamp, address, same.unwrap_or(answer)),
+            (stamp, address, answer),
+        );
         answer
+    }
+
+    /// What the entry at a place gets that is lent memory's number at an address, where there is one.
+    fn forwarded(
+        &self,
+        memory: &Memory,
+        place: usize,
+        address: u64,
+        width: Width,
+    ) -> Option<LoadAnswer>
+        requires { place < self.now.renamed }
+    {
+        let number = memory.load(address, width).ok()?;
+        let size = width.bytes();
+        let span = Span { address, size };
+        Some(self.queue.forward(&self.flight, place, span, number))
     }
 
     /// The oldest entry, which has a stamp, retires.
     pub fn retire(&mut self, rt: &impl Abort, stamp: u64) {
         assert!(rt; self.flight.renamed_count() > 0);
-        assert_eq!(rt; self.entry(rt, 0).stamp, stamp);
+        assert_equal(rt, self.entry(rt, 0).stamp, stamp);
         self.queue.retire(&mut self.flight);
     }
 
@@ -202,10 +253,7 @@ impl Accesses {
         ensures within { place < length self.now.entries }
         ensures entry { result ≡ entry_in self.now.entries place }
     {
-        let Some(entry) = self.flight.get(place) else {
-            panic!(rt; "no entry at {place}");
-        };
-        *entry
+        *self.flight.get(place).expect(rt, "an entry at the place")
     }
 
     /// The place of the renamed entry with a stamp.

@@ -3,24 +3,22 @@
 use load_store_queue::QueueFault;
 use rename_file::RenameFault;
 use reorder_buffer::RingFault;
-use std::alloc::{AllocError, Global};
+use std::alloc::Global;
+use std::fmt::Display;
+use std::process::Abort;
 
-/// The codes of all refusals.
-fn codes(alloc: Global) -> Result<String, AllocError> {
-    format!(in alloc;
-        "{} {} {} {} {}",
-        RenameFault::NoneFree,
-        RenameFault::OutOfMemory,
-        RingFault::Full,
-        RingFault::OutOfMemory,
-        QueueFault::Full
-    )
+/// A refusal is printed as this code.
+fn assert_code(rt: &impl Abort, alloc: Global, refusal: &impl Display, code: &str) {
+    let printed = refusal.to_string(alloc).expect(rt, "memory");
+    assert!(rt; printed.as_str() == code);
 }
 
 #[test]
 fn refusals_are_printed_as_their_codes(rt: HostRuntime) {
-    let Ok(text) = codes(rt.alloc()) else {
-        panic!(rt; "out of memory");
-    };
-    assert_eq!(rt; text.as_str(), "N1 N2 B1 B2 L1");
+    let alloc = rt.alloc();
+    assert_code(&rt, alloc, &RenameFault::NoneFree, "N1");
+    assert_code(&rt, alloc, &RenameFault::OutOfMemory, "N2");
+    assert_code(&rt, alloc, &RingFault::Full, "B1");
+    assert_code(&rt, alloc, &RingFault::OutOfMemory, "B2");
+    assert_code(&rt, alloc, &QueueFault::Full, "L1");
 }

@@ -1,15 +1,16 @@
 //! A worked flow.
-ghost use Rattle.std.specs.Prelude.{◌≡◌, ◌<◌, IfOk, IsSome, length};
+ghost use Rattle.std.specs.Prelude.{◌≡◌, ◌<◌, IsSome, length};
 ghost use Rattle.data_flow.specs.Flow.{lane, node_at, with_lane, without_oldest};
-ghost use Rattle.queue_tests.specs.Worked.{named, with_x1, of_three, finished};
+ghost use Rattle.queue_tests.specs.Worked.{named, with_x1, with_x5, of_three, finished};
 
+use crate::equal::assert_equal;
 use crate::selected::has_stamps;
 use arrayvec::ArrayVec;
 use data_flow::{DataFlow, Operands};
 use issue_queue::{OldestFirst, Order, SpecLast};
 use join_law::Ctx;
 use rv64_decode::Register;
-use std::alloc::{AllocError, Global};
+use std::alloc::Global;
 use std::process::Abort;
 
 // The registers of an instruction, by their numbers.
@@ -28,26 +29,26 @@ fn named(stamp: u64, destination: u8, first: u8, second: u8) -> Operands
 }
 
 // Contexts 0 and 1 hold 10 and 20 in x1.
-fn with_x1(alloc: Global) -> Result<DataFlow, AllocError>
-    ensures { IfOk result (λ d. d ≡ with_x1) }
+fn with_x1(rt: &impl Abort, alloc: Global) -> DataFlow
+    ensures { result ≡ with_x1 }
 {
-    let mut flow = DataFlow::new(alloc, 32, 4, 8)?;
+    let mut flow = DataFlow::new(alloc, 32, 4, 8).expect(rt, "memory");
     let [first, second, ..] = Ctx::all();
     flow.set_register(first, Register::new(1), 10);
     flow.set_register(second, Register::new(1), 20);
-    Ok(flow)
+    flow
 }
 
 // In context 0 an instruction makes x5 of x1, and the next makes x5 of that. A load of context 1 makes x6 of x1.
-fn of_three(alloc: Global) -> Result<DataFlow, AllocError>
-    ensures { IfOk result (λ d. d ≡ of_three) }
+fn of_three(rt: &impl Abort, alloc: Global) -> DataFlow
+    ensures { result ≡ of_three }
 {
-    let mut flow = with_x1(alloc)?;
+    let mut flow = with_x1(rt, alloc);
     let [first, second, ..] = Ctx::all();
     flow.rename_waiting(first, named(1, 5, 1, 0), false, false, false);
     flow.rename_waiting(first, named(2, 5, 5, 1), true, false, false);
     flow.rename_waiting(second, named(3, 6, 1, 1), false, true, false);
-    Ok(flow)
+    flow
 }
 
 // By an order these are taken of what waits, first to last.
@@ -101,9 +102,10 @@ fn finish_two(rt: &impl Abort, flow: &mut DataFlow)
     assert_selected(rt, flow, &OldestFirst, &[1, 3]);
     flow.finish(first, 0, 15);
     let [of_first, of_second, of_third] = sources;
-    assert_eq!(rt;
+    assert_equal(
+        rt,
         [of_first, of_second, of_third, flow.sources(first, 1)],
-        [Some((10, 0)), None, Some((20, 20)), Some((15, 10))]
+        [Some((10, 0)), None, Some((20, 20)), Some((15, 10))],
     );
     assert_selected(rt, flow, &OldestFirst, &[2]);
     flow.finish(first, 1, 25);
@@ -111,66 +113,75 @@ fn finish_two(rt: &impl Abort, flow: &mut DataFlow)
 
 #[test]
 fn waits_for_an_older_result(rt: HostRuntime) {
-    let Ok(mut flow) = of_three(rt.alloc()) else {
-        panic!(rt; "out of memory");
-    };
+    let mut flow = of_three(&rt, rt.alloc());
     let [first, ..] = Ctx::all();
     finish_two(&rt, &mut flow);
     commit(&rt, &mut flow, first);
     commit(&rt, &mut flow, first);
     let free = flow.free_count();
     flow.rename(first, named(4, 0, 5, 1));
-    assert_eq!(rt; (free, read(&flow, first, 0)), (31, Some((25, 10))));
+    assert_equal(&rt, (free, read(&flow, first, 0)), (31, Some((25, 10))));
+}
+
+// In context 0 an instruction makes x5 of x1, and has its result.
+fn with_x5(rt: &impl Abort, alloc: Global) -> DataFlow
+    ensures { result ≡ with_x5 }
+{
+    let mut flow = with_x1(rt, alloc);
+    let [first, ..] = Ctx::all();
+    flow.rename(first, named(1, 5, 1, 0));
+    flow.finish(first, 0, 15);
+    flow
+}
+
+// An instruction that makes x5 anew is forgotten.
+fn forget_the_second(flow: &mut DataFlow, context: Ctx)
+    requires flow { flow.old ≡ with_x5 }
+    requires context { context ≡ 0 }
+    ensures { flow.new ≡ with_x5 }
+{
+    flow.rename(context, named(2, 5, 5, 1));
+    flow.cut_from(context, 2, 1);
 }
 
 #[test]
 fn restores_an_older_value(rt: HostRuntime) {
-    let Ok(mut flow) = with_x1(rt.alloc()) else {
-        panic!(rt; "out of memory");
-    };
+    let mut flow = with_x5(&rt, rt.alloc());
     let [first, ..] = Ctx::all();
-    flow.rename(first, named(1, 5, 1, 0));
-    flow.finish(first, 0, 15);
-    flow.rename(first, named(2, 5, 5, 1));
-    flow.cut_from(first, 2, 1);
+    forget_the_second(&mut flow, first);
     flow.rename(first, named(3, 0, 5, 1));
     let restored = flow.sources(first, 1);
     flow.cut_from(first, 1, 0);
     flow.rename(first, named(4, 0, 5, 1));
-    assert_eq!(rt;
+    assert_equal(
+        &rt,
         [restored, flow.sources(first, 0)],
-        [Some((15, 10)), Some((0, 10))]
+        [Some((15, 10)), Some((0, 10))],
     );
 }
 
 #[test]
 fn counts_what_waits(rt: HostRuntime) {
-    let Ok(mut flow) = of_three(rt.alloc()) else {
-        panic!(rt; "out of memory");
-    };
+    let mut flow = of_three(&rt, rt.alloc());
     let [first, second, third, ..] = Ctx::all();
-    assert_eq!(rt;
-        (
-            flow.has_place(),
-            flow.oldest_place(second),
-            flow.oldest_place(third)
-        ),
-        (true, Some(2), None)
-    );
+    let places = [flow.oldest_place(second), flow.oldest_place(third)];
+    assert_equal(&rt, (flow.has_place(), places), (true, [Some(2), None]));
     let before = counts(&flow, first);
     flow.cut_from(first, 2, 1);
-    assert_eq!(rt; [before, counts(&flow, first)], [[29, 2, 1], [30, 1, 0]]);
+    assert_equal(
+        &rt,
+        [before, counts(&flow, first)],
+        [[29, 2, 1], [30, 1, 0]],
+    );
 }
 
 #[test]
 fn leaves_a_held_one(rt: HostRuntime) {
-    let Ok(mut flow) = of_three(rt.alloc()) else {
-        panic!(rt; "out of memory");
-    };
+    let mut flow = of_three(&rt, rt.alloc());
     let [_, second, ..] = Ctx::all();
     let let_go = flow.contexts_with_ready_load();
     flow.hold(second, 3, true);
-    assert_eq!(rt; [let_go, flow.contexts_with_ready_load()], [0b10, 0]);
+    assert_equal(&rt, [let_go, flow.contexts_with_ready_load()], [0b10, 0]);
     assert_selected(&rt, &mut flow, &OldestFirst, &[1]);
     flow.hold(second, 3, false);
     assert_selected(&rt, &mut flow, &OldestFirst, &[3]);
@@ -178,9 +189,7 @@ fn leaves_a_held_one(rt: HostRuntime) {
 
 #[test]
 fn takes_a_speculative_one_last(rt: HostRuntime) {
-    let Ok(mut flow) = of_three(rt.alloc()) else {
-        panic!(rt; "out of memory");
-    };
+    let mut flow = of_three(&rt, rt.alloc());
     let [first, ..] = Ctx::all();
     flow.speculate(first, 1, true);
     assert_selected(&rt, &mut flow, &SpecLast, &[3, 1]);

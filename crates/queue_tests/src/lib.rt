@@ -7,6 +7,8 @@ mod accesses;
 #[cfg(test)]
 mod codes;
 #[cfg(test)]
+mod equal;
+#[cfg(test)]
 mod flows;
 #[cfg(test)]
 mod issuing;

@@ -1,6 +1,6 @@
 //! The queues on a few loads and stores. The values follow from the bytes, least first.
 use crate::accesses::{Accesses, LOAD, NOP, STORE};
-use core_view::{Bytes, Span};
+use crate::equal::assert_equal;
 use load_store_queue::{LoadAnswer, QueueFault};
 use paged_memory::{Memory, Width};
 use std::alloc::Global;
@@ -147,17 +147,6 @@ const A_CUT_DROPS_THE_YOUNGEST_LOADS_AND_STORES_ALIKE: &[Step] = &[
     Loads(6, DATA, Width::Byte, Some(0x88)),
 ];
 
-fn span_of(span: Option<(u64, u8)>) -> Option<Span> {
-    let (address, size) = span?;
-    Some(Span { address, size })
-}
-
-fn bytes_of(bytes: Option<(u64, u8, u64)>) -> Option<Bytes> {
-    let (address, size, value) = bytes?;
-    let span = Span { address, size };
-    Some(Bytes { span, value })
-}
-
 /// The number that a load gets, if it need not wait.
 fn number_of(answer: LoadAnswer) -> Option<u64> {
     match answer {
@@ -167,29 +156,29 @@ fn number_of(answer: LoadAnswer) -> Option<u64> {
 }
 
 /// One word of text and eight bytes of data, which spell 0x1122334455667788.
-fn small_memory(alloc: Global) -> Option<Memory> {
+fn small_memory(rt: &impl Abort, alloc: Global) -> Memory {
     let data = [0x88, 0x77, 0x66, 0x55, 0x44, 0x33, 0x22, 0x11];
-    Memory::new(alloc, &[0x73], &data).ok()
+    Memory::new(alloc, &[0x73], &data).expect(rt, "memory")
 }
 
 /// The entries and their queues take the step, and show what it says.
 fn assert_step(rt: &impl Abort, accesses: &mut Accesses, memory: &Memory, step: &Step) {
     match *step {
         Completes(stamp, bytes, conflict) => {
-            let found = accesses.complete_store(rt, stamp, bytes_of(bytes));
-            assert_eq!(rt; found, conflict, "store {stamp}");
+            let found = accesses.complete_store(rt, stamp, bytes);
+            assert_equal(rt, (stamp, found), (stamp, conflict));
         }
-        Issues(stamp, span) => accesses.issue_load(rt, stamp, span_of(span)),
+        Issues(stamp, span) => accesses.issue_load(rt, stamp, span),
         Loads(stamp, address, width, number) => {
             let found = number_of(accesses.load(rt, memory, stamp, address, width));
-            assert_eq!(rt; found, number, "load {stamp} of {address}");
+            assert_equal(rt, (stamp, address, found), (stamp, address, number));
         }
         Retires(stamp) => accesses.retire(rt, stamp),
         DropsFrom(stamp) => accesses.drop_from(rt, stamp),
         Places(stamp) => accesses.put(rt, stamp, LOAD),
         Has(place, no_store) => {
-            assert_eq!(rt; accesses.has_place(LOAD), place);
-            assert_eq!(rt; accesses.has_no_store(), no_store);
+            let found = (accesses.has_place(LOAD), accesses.has_no_store());
+            assert_equal(rt, found, (place, no_store));
         }
     }
 }
@@ -203,9 +192,7 @@ fn assert_script(
     entries: &[(u64, u32)],
     script: &[Step],
 ) {
-    let Some(memory) = small_memory(alloc) else {
-        panic!(rt; "out of memory");
-    };
+    let memory = small_memory(rt, alloc);
     let [load_places, store_places] = places;
     let mut accesses = Accesses::new(rt, alloc, load_places, store_places);
     for &(stamp, word) in entries {
@@ -244,32 +231,30 @@ fn loads_conflict_retire_and_are_dropped(rt: HostRuntime) {
     }
 }
 
-/// Of these entries, fetched and renamed one by one, each has one of two places for loads or the one for a store where
-/// it says so, or needs none.
-fn assert_places(rt: &impl Abort, alloc: Global, entries: &[(u64, u32, bool)]) {
+/// What an entry gets that finds no place.
+const FULL: Result<(), QueueFault> = Err(QueueFault::Full);
+
+/// These entries are fetched and renamed one by one, with two places for loads and one for a store, and get what is said.
+fn assert_places(rt: &impl Abort, alloc: Global, entries: &[(u64, u32, Result<(), QueueFault>)]) {
     let mut accesses = Accesses::new(rt, alloc, 2, 1);
-    for &(stamp, word, has_place) in entries {
-        let renamed = if has_place {
-            Ok(())
-        } else {
-            Err(QueueFault::Full)
-        };
+    for &(stamp, word, want) in entries {
         accesses.fetch(rt, stamp, word);
-        assert_eq!(rt; accesses.has_place(word), has_place, "{stamp}");
-        assert_eq!(rt; accesses.rename(rt), renamed, "{stamp}");
+        let has_place = accesses.has_place(word);
+        let renamed = accesses.rename(rt);
+        assert_equal(rt, (stamp, has_place, renamed), (stamp, want.is_ok(), want));
     }
 }
 
 #[test]
 fn loads_and_stores_are_refused_exactly_at_the_capacity(rt: HostRuntime) {
-    let stores = &[(1, STORE, true), (2, NOP, true), (4, STORE, false)];
+    let stores = &[(1, STORE, Ok(())), (2, NOP, Ok(())), (4, STORE, FULL)];
     assert_places(&rt, rt.alloc(), stores);
     // That the one place for a store is taken leaves the places for loads.
     let loads = &[
-        (1, STORE, true),
-        (2, LOAD, true),
-        (3, LOAD, true),
-        (4, LOAD, false),
+        (1, STORE, Ok(())),
+        (2, LOAD, Ok(())),
+        (3, LOAD, Ok(())),
+        (4, LOAD, FULL),
     ];
     assert_places(&rt, rt.alloc(), loads);
 }

@@ -1,23 +1,23 @@
 //! Renames at concrete values.
+ghost use Rattle.std.specs.Prelude.{◌<◌};
+
+use crate::equal::assert_equal;
 use join_law::Ctx;
 use rename_file::{PhysicalRegister, Registers, Rename};
-use std::alloc::Global;
 use std::process::Abort;
 
 // The value that a source reads, once it is there.
-fn read(registers: &Registers, context: Ctx, rs: u8) -> Option<u64> {
-    if rs >= 32 {
-        return None;
-    }
+fn read(registers: &Registers, context: Ctx, rs: u8) -> Option<u64>
+    requires { rs < 32 }
+{
     let register = registers.source(context, rs);
     registers.value(register)
 }
 
 // The same, read where it is there.
-fn read_ready(registers: &Registers, context: Ctx, rs: u8) -> Option<u64> {
-    if rs >= 32 {
-        return None;
-    }
+fn read_ready(registers: &Registers, context: Ctx, rs: u8) -> Option<u64>
+    requires { rs < 32 }
+{
     let register = registers.source(context, rs);
     if !registers.ready(register) {
         return None;
@@ -44,64 +44,74 @@ fn index_of(number: usize) -> Option<usize> {
 
 #[test]
 fn a_register_has_its_number(rt: HostRuntime) {
-    assert_eq!(rt; [index_of(479), index_of(480)], [Some(479), None]);
+    assert_equal(&rt, [index_of(479), index_of(480)], [Some(479), None]);
 }
 
-// Whether a renamed register of a context is there, and what x5 reads, before it is written and then.
-fn seen(alloc: Global) -> Option<[(bool, Option<u64>); 2]> {
-    let mut registers = Registers::new(alloc, 32).ok()?;
+// Of a renamed register: whether it is there, and what x5 reads, before it is written and then.
+#[test]
+fn a_result_is_read_once_it_is_written(rt: HostRuntime) {
+    let mut registers = Registers::new(rt.alloc(), 32).expect(&rt, "memory");
     let [first, ..] = Ctx::all();
     registers.set_committed(first, 5, 70);
-    let register = registers.rename(first, 5).ok()?;
+    let register = registers.rename(first, 5).expect(&rt, "a free register");
     let before = (registers.ready(register), read(&registers, first, 5));
     registers.write(register, 71);
     let after = (registers.ready(register), read_ready(&registers, first, 5));
-    Some([before, after])
+    assert_equal(&rt, [before, after], [(false, None), (true, Some(71))]);
 }
 
 // What x5 holds beside a rename that is written, and what that of another context reads.
-fn beside(alloc: Global) -> Option<(u64, Option<u64>)> {
-    let mut registers = Registers::new(alloc, 32).ok()?;
+#[test]
+fn a_rename_is_of_its_context_alone(rt: HostRuntime) {
+    let mut registers = Registers::new(rt.alloc(), 32).expect(&rt, "memory");
     let [first, second, ..] = Ctx::all();
     registers.set_committed(first, 5, 70);
-    if !produce(&mut registers, first, 5, 71) {
-        return None;
-    }
-    Some((registers.committed(first, 5), read(&registers, second, 5)))
+    let was_free = produce(&mut registers, first, 5, 71);
+    assert_equal(
+        &rt,
+        (
+            was_free,
+            registers.committed(first, 5),
+            read(&registers, second, 5),
+        ),
+        (true, 70, Some(0)),
+    );
 }
 
 // What x5 reads before a rename is undone and after it, and how many registers are free then.
-fn undone(alloc: Global) -> Option<(Option<u64>, Option<u64>, usize)> {
-    let mut registers = Registers::new(alloc, 32).ok()?;
+#[test]
+fn an_undone_rename_leaves_the_value_before_it(rt: HostRuntime) {
+    let mut registers = Registers::new(rt.alloc(), 32).expect(&rt, "memory");
     let [context, ..] = Ctx::all();
     registers.set_committed(context, 5, 70);
-    let register = registers.rename(context, 5).ok()?;
+    let register = registers.rename(context, 5).expect(&rt, "a free register");
     registers.write(register, 71);
     let before = read(&registers, context, 5);
     registers.undo(context, Rename { rd: 5, register });
-    Some((before, read(&registers, context, 5), registers.free_count()))
+    assert_equal(
+        &rt,
+        (before, read(&registers, context, 5), registers.free_count()),
+        (Some(71), Some(70), 32),
+    );
 }
 
 // What x31 holds once its rename is committed, how many registers are free then, and what x0 reads.
-fn committed(alloc: Global) -> Option<(u64, usize, Option<u64>)> {
-    let mut registers = Registers::new(alloc, 32).ok()?;
+#[test]
+fn a_committed_rename_sets_its_register(rt: HostRuntime) {
+    let mut registers = Registers::new(rt.alloc(), 32).expect(&rt, "memory");
     let [_, context, ..] = Ctx::all();
-    let register = registers.rename(context, 31).ok()?;
+    let register = registers.rename(context, 31).expect(&rt, "a free register");
     registers.write(register, 9);
     registers.commit(context, Rename { rd: 31, register });
-    Some((
-        registers.committed(context, 31),
-        registers.free_count(),
-        read(&registers, context, 0),
-    ))
-}
-
-#[test]
-fn renames(rt: HostRuntime) {
-    assert_eq!(rt; seen(rt.alloc()), Some([(false, None), (true, Some(71))]));
-    assert_eq!(rt; beside(rt.alloc()), Some((70, Some(0))));
-    assert_eq!(rt; undone(rt.alloc()), Some((Some(71), Some(70), 32)));
-    assert_eq!(rt; committed(rt.alloc()), Some((9, 32, Some(0))));
+    assert_equal(
+        &rt,
+        (
+            registers.committed(context, 31),
+            registers.free_count(),
+            read(&registers, context, 0),
+        ),
+        (9, 32, Some(0)),
+    );
 }
 
 // Renames x1 to x31 of the context, and writes 0 to 30.
@@ -113,17 +123,16 @@ fn produce_each(rt: &impl Abort, registers: &mut Registers, context: Ctx) {
 
 #[test]
 fn none_is_free_once_the_extra_ones_are_in_use(rt: HostRuntime) {
-    let Ok(mut registers) = Registers::new(rt.alloc(), 32) else {
-        panic!(rt; "out of memory");
-    };
+    let mut registers = Registers::new(rt.alloc(), 32).expect(&rt, "memory");
     let [.., context] = Ctx::all();
     produce_each(&rt, &mut registers, context);
     let is_last = produce(&mut registers, context, 1, 100);
     let free = registers.free_count();
     let is_one_more = produce(&mut registers, context, 2, 101);
-    assert_eq!(rt; (is_last, free, is_one_more), (true, 0, false));
-    assert_eq!(rt;
+    assert_equal(&rt, (is_last, free, is_one_more), (true, 0, false));
+    assert_equal(
+        &rt,
         [read(&registers, context, 1), read(&registers, context, 31)],
-        [Some(100), Some(30)]
+        [Some(100), Some(30)],
     );
 }

@@ -1,7 +1,9 @@
 //! A ring at a concrete type.
 ghost use Rattle.std.specs.Prelude.{◌≡◌};
 
+use crate::equal::assert_equal;
 use reorder_buffer::{Ring, RingFault, Stamped};
+use std::alloc::Global;
 use std::process::Abort;
 
 // An instruction in flight: its stamp, and whether it is done.
@@ -57,7 +59,7 @@ fn fault_of(pushed: Result<(), (Entry, RingFault)>) -> Option<RingFault> {
 // Pushes entries with these stamps, of which none is refused.
 fn push_each(rt: &impl Abort, ring: &mut Ring<Entry>, stamps: &[u64]) {
     for &stamp in stamps {
-        assert_eq!(rt; try_push(ring, stamp), None, "{stamp}");
+        assert_equal(rt, (stamp, try_push(ring, stamp)), (stamp, None));
     }
 }
 
@@ -66,33 +68,6 @@ fn push_from_10(rt: &impl Abort, ring: &mut Ring<Entry>, count: u64) {
     for k in 0..count {
         push_each(rt, ring, &[k.saturating_add(10)]);
     }
-}
-
-// Entries with these stamps retire one after another.
-fn assert_retire(rt: &impl Abort, ring: &mut Ring<Entry>, stamps: &[u64]) {
-    for &stamp in stamps {
-        assert_eq!(rt; held(ring.retire()), Some((stamp, false)));
-    }
-}
-
-// So many entries, with these stamps at the head, at a place and at the end.
-fn assert_ring(
-    rt: &impl Abort,
-    ring: &Ring<Entry>,
-    len: usize,
-    place: usize,
-    want: [Option<u64>; 3],
-) {
-    let [head, at, last] = want;
-    assert_eq!(rt;
-        (
-            ring.len(),
-            stamp_of(ring.head()),
-            stamp_of(ring.get(place)),
-            stamp_of(ring.last())
-        ),
-        (len, head, at, last)
-    );
 }
 
 // Whether the entries are those with these stamps, in this order.
@@ -106,72 +81,128 @@ fn has_entries(ring: &Ring<Entry>, stamps: &[u64]) -> bool {
     left.next().is_none()
 }
 
-#[test]
-fn a_full_ring_hands_the_entry_back(rt: HostRuntime) {
-    let Ok(mut ring) = Ring::new(rt.alloc(), 64) else {
-        panic!(rt; "out of memory");
-    };
-    let was_empty = ring.is_empty();
-    push_from_10(&rt, &mut ring, 64);
-    let refused = try_push(&mut ring, 100);
-    assert_eq!(rt;
-        (was_empty, ring.is_full(), ring.capacity(), refused),
-        (true, true, 64, Some(RingFault::Full))
-    );
-    assert_ring(&rt, &ring, 64, 63, [Some(10), Some(73), Some(73)]);
+/// A step of a script, and what it shows. Entries go by their stamps.
+enum Step {
+    /// Entries with these stamps are pushed, and none is refused.
+    Pushes(&'static [u64]),
+    /// So many entries are pushed, with stamps from 10 on.
+    PushesFrom10(u64),
+    /// The ring is full, and hands an entry back.
+    Refuses(u64),
+    /// The oldest entry retires, if there is one: its stamp, and whether it is done.
+    Retires(Option<(u64, bool)>),
+    /// The same of the youngest, which is taken out.
+    PopsLast(Option<(u64, bool)>),
+    /// The entries from a stamp on are squashed.
+    CutsFrom(u64),
+    /// The oldest entry is done.
+    Finishes,
+    /// There are so many entries, with these stamps at the head, at a place and at the end.
+    Shows(usize, usize, [Option<u64>; 3]),
+    /// The entries are these, in this order.
+    Holds(&'static [u64]),
+}
+
+use Step::{CutsFrom, Finishes, Holds, PopsLast, Pushes, PushesFrom10, Refuses, Retires, Shows};
+
+const A_FULL_RING_HANDS_THE_ENTRY_BACK: &[Step] = &[
+    Shows(0, 0, [None, None, None]),
+    PushesFrom10(64),
+    Refuses(100),
+    Shows(64, 63, [Some(10), Some(73), Some(73)]),
     // Behind place 63 there is nothing to squash, from it on one entry.
-    ring.cut_from(74);
-    assert_ring(&rt, &ring, 64, 63, [Some(10), Some(73), Some(73)]);
-    ring.cut_from(73);
-    assert_ring(&rt, &ring, 63, 62, [Some(10), Some(72), Some(72)]);
-}
+    CutsFrom(74),
+    Shows(64, 63, [Some(10), Some(73), Some(73)]),
+    CutsFrom(73),
+    Shows(63, 62, [Some(10), Some(72), Some(72)]),
+];
 
-#[test]
-fn a_ring_wraps_round_and_is_cut_in_the_middle(rt: HostRuntime) {
-    let Ok(mut ring) = Ring::new(rt.alloc(), 4) else {
-        panic!(rt; "out of memory");
-    };
-    push_each(&rt, &mut ring, &[1, 2, 3, 4]);
-    assert_retire(&rt, &mut ring, &[1, 2]);
-    push_each(&rt, &mut ring, &[8, 9]);
-    assert_ring(&rt, &ring, 4, 2, [Some(3), Some(8), Some(9)]);
-    assert!(rt; has_entries(&ring, &[3, 4, 8, 9]));
+const A_RING_WRAPS_ROUND_AND_IS_CUT_IN_THE_MIDDLE: &[Step] = &[
+    Pushes(&[1, 2, 3, 4]),
+    Retires(Some((1, false))),
+    Retires(Some((2, false))),
+    Pushes(&[8, 9]),
+    Shows(4, 2, [Some(3), Some(8), Some(9)]),
+    Holds(&[3, 4, 8, 9]),
     // No entry has the stamp 6.
-    ring.cut_from(6);
-    assert_ring(&rt, &ring, 2, 2, [Some(3), None, Some(4)]);
-    ring.cut_from(0);
-    assert!(rt; ring.retire().is_none());
+    CutsFrom(6),
+    Shows(2, 2, [Some(3), None, Some(4)]),
+    CutsFrom(0),
+    Retires(None),
+];
+
+const THE_YOUNGEST_ENTRY_IS_TAKEN_OUT: &[Step] = &[
+    Pushes(&[1, 2, 3]),
+    Retires(Some((1, false))),
+    Pushes(&[4]),
+    PopsLast(Some((4, false))),
+    Holds(&[2, 3]),
+    CutsFrom(0),
+    PopsLast(None),
+];
+
+const AN_ENTRY_IS_REPLACED: &[Step] = &[Pushes(&[5]), Finishes, Retires(Some((5, true)))];
+
+// The oldest entry is done.
+fn finish(rt: &impl Abort, ring: &mut Ring<Entry>) {
+    let mut entry = ring.head().copied().expect(rt, "an entry");
+    entry.done = true;
+    ring.set(0, entry);
 }
 
-#[test]
-fn the_youngest_entry_is_taken_out(rt: HostRuntime) {
-    let Ok(mut ring) = Ring::new(rt.alloc(), 3) else {
-        panic!(rt; "out of memory");
-    };
-    push_each(&rt, &mut ring, &[1, 2, 3]);
-    assert_retire(&rt, &mut ring, &[1]);
-    push_each(&rt, &mut ring, &[4]);
-    let youngest = held(ring.pop_last());
-    assert!(rt; has_entries(&ring, &[2, 3]));
-    ring.cut_from(0);
-    assert_eq!(rt; [youngest, held(ring.pop_last())], [Some((4, false)), None]);
-}
-
-#[test]
-fn an_entry_is_replaced(rt: HostRuntime) {
-    let Ok(mut ring) = Ring::new(rt.alloc(), 8) else {
-        panic!(rt; "out of memory");
-    };
-    push_each(&rt, &mut ring, &[5]);
-    let Some(entry) = ring.head().copied() else {
-        panic!(rt; "no entry");
-    };
-    ring.set(
-        0,
-        Entry {
-            done: true,
-            ..entry
-        },
+// So many entries, with these stamps at the head, at a place and at the end.
+fn assert_ring(
+    rt: &impl Abort,
+    ring: &Ring<Entry>,
+    len: usize,
+    place: usize,
+    stamps: [Option<u64>; 3],
+) {
+    let found = [
+        stamp_of(ring.head()),
+        stamp_of(ring.get(place)),
+        stamp_of(ring.last()),
+    ];
+    assert_equal(
+        rt,
+        (ring.len(), ring.is_empty(), ring.is_full()),
+        (len, len == 0, len == ring.capacity()),
     );
-    assert_eq!(rt; held(ring.retire()), Some((5, true)));
+    assert_equal(rt, found, stamps);
+}
+
+/// The ring takes the step, and shows what it says.
+fn assert_step(rt: &impl Abort, ring: &mut Ring<Entry>, step: &Step) {
+    match *step {
+        Pushes(stamps) => push_each(rt, ring, stamps),
+        PushesFrom10(count) => push_from_10(rt, ring, count),
+        Refuses(stamp) => assert_equal(rt, try_push(ring, stamp), Some(RingFault::Full)),
+        Retires(oldest) => assert_equal(rt, held(ring.retire()), oldest),
+        PopsLast(youngest) => assert_equal(rt, held(ring.pop_last()), youngest),
+        CutsFrom(stamp) => ring.cut_from(stamp),
+        Finishes => finish(rt, ring),
+        Shows(len, place, stamps) => assert_ring(rt, ring, len, place, stamps),
+        Holds(stamps) => assert!(rt; has_entries(ring, stamps)),
+    }
+}
+
+/// An empty ring with so many places shows what the script says.
+fn assert_script(rt: &impl Abort, alloc: Global, capacity: usize, script: &[Step]) {
+    let mut ring = Ring::new(alloc, capacity).expect(rt, "memory");
+    assert_equal(rt, ring.capacity(), capacity);
+    for step in script {
+        assert_step(rt, &mut ring, step);
+    }
+}
+
+#[test]
+fn rings_fill_wrap_and_are_cut(rt: HostRuntime) {
+    for (capacity, script) in [
+        (64, A_FULL_RING_HANDS_THE_ENTRY_BACK),
+        (4, A_RING_WRAPS_ROUND_AND_IS_CUT_IN_THE_MIDDLE),
+        (3, THE_YOUNGEST_ENTRY_IS_TAKEN_OUT),
+        (8, AN_ENTRY_IS_REPLACED),
+    ] {
+        assert_script(&rt, rt.alloc(), capacity, script);
+    }
 }
