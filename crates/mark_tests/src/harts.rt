@@ -1,12 +1,14 @@
 //! Programs whose end is known from the standard's text.
 
+use crate::equal::assert_equal;
 use hart_step::{
     Effect, Environment, Hart, Stop, destination, execute, first_source, following, load_width,
     loaded, offset_by, second_source, store_width,
 };
-use paged_memory::{Fault, Memory, Width};
+use paged_memory::{Memory, Width};
 use rv64_decode::{LoadKind, StoreWidth, decode};
 use std::alloc::Global;
+use std::process::Abort;
 
 const ECALL: u32 = 0x0000_0073;
 /// `lui x5, 0x100`: the address of the first data page.
@@ -142,78 +144,69 @@ const EXAMPLES: &[Example] = &[
 ];
 
 /// The hart of a program before its first instruction.
-fn hart_at_start(alloc: Global, words: &[u32], bytes: &[u8]) -> Option<Hart> {
-    if words.len() > 65536 || bytes.len() > 1_048_576 {
-        return None;
-    }
-    let memory = Memory::new(alloc, words, bytes).ok()?;
-    Some(Hart::new([0; 32], 0x10000, memory, Environment::One))
+fn hart_at_start(rt: &impl Abort, alloc: Global, words: &[u32], bytes: &[u8]) -> Hart {
+    assert!(rt; words.len() <= 65536);
+    assert!(rt; bytes.len() <= 1_048_576);
+    let memory = Memory::new(alloc, words, bytes).expect(rt, "memory");
+    Hart::new([0; 32], 0x10000, memory, Environment::One)
 }
 
-/// What an example's run returns, and then the pc, the stop there, the example's register and x0.
-type Ran = ((u64, Option<Stop>), (u64, Option<Stop>, Option<u64>, u64));
+/// The hart of a program after so many instructions.
+fn hart_after(rt: &impl Abort, alloc: Global, words: &[u32], bytes: &[u8], count: u64) -> Hart {
+    let mut hart = hart_at_start(rt, alloc, words, bytes);
+    hart.run(count);
+    hart
+}
 
-fn ran(alloc: Global, it: &Example) -> Option<Ran> {
-    let mut hart = hart_at_start(alloc, it.words, it.bytes)?;
-    let answer = hart.run(it.goes_on);
+/// The pc, the stop there, a register and x0.
+fn end(hart: &Hart, register: usize) -> (u64, Option<Stop>, Option<u64>, u64) {
     let registers = hart.regs();
-    let register = registers.get(it.register.0).copied();
-    Some((
-        answer,
-        (hart.pc(), hart.stop_here(), register, registers[0]),
-    ))
+    (
+        hart.pc(),
+        hart.stop_here(),
+        registers.get(register).copied(),
+        registers[0],
+    )
+}
+
+/// An example shows what it says.
+fn assert_example(rt: &impl Abort, alloc: Global, it: &Example) {
+    let mut hart = hart_at_start(rt, alloc, it.words, it.bytes);
+    let (register, value) = it.register;
+    let answer = hart.run(it.goes_on);
+    assert_equal(
+        rt,
+        (answer, end(&hart, register)),
+        ((it.count, it.stop), (it.pc, it.stop, Some(value), 0)),
+    );
 }
 
 #[test]
 fn examples(rt: HostRuntime) {
     for it in EXAMPLES {
-        let end = (it.pc, it.stop, Some(it.register.1), 0);
-        assert_eq!(rt; ran(rt.alloc(), it), Some(((it.count, it.stop), end)));
+        assert_example(&rt, rt.alloc(), it);
     }
-}
-
-/// What a step of a program returns, and then the pc, the registers and the doubleword at the start
-/// of the data.
-#[derive(Clone, Copy)]
-struct AfterAStep {
-    answer: Result<(), Stop>,
-    pc: u64,
-    registers: [u64; 32],
-    stored: Result<u64, Fault>,
-}
-
-/// The same of the step after so many instructions.
-fn stepped(alloc: Global, words: &[u32], bytes: &[u8], goes_on: u64) -> Option<AfterAStep> {
-    let mut hart = hart_at_start(alloc, words, bytes)?;
-    hart.run(goes_on);
-    let answer = hart.step();
-    Some(AfterAStep {
-        answer,
-        pc: hart.pc(),
-        registers: *hart.regs(),
-        stored: hart.memory().load(0x100000, Width::Double),
-    })
 }
 
 #[test]
 fn steps(rt: HostRuntime) {
     let data = 0x1122_3344_5566_7788u64.to_le_bytes();
-    let Some(it) = stepped(rt.alloc(), BYTE_IN_A_DOUBLEWORD, &data, 2) else {
-        panic!(rt; "no hart");
-    };
-    assert_eq!(rt;
-        (it.answer, it.pc, it.registers[6], it.stored),
-        (Ok(()), 0x1000C, 255, Ok(0x1122_3344_5566_77FF))
+    let mut hart = hart_after(&rt, rt.alloc(), BYTE_IN_A_DOUBLEWORD, &data, 2);
+    let answer = hart.step();
+    let stored = hart.memory().load(0x100000, Width::Double);
+    assert_equal(
+        &rt,
+        (answer, hart.pc(), hart.regs()[6], stored),
+        (Ok(()), 0x1000C, 255, Ok(0x1122_3344_5566_77FF)),
     );
 }
 
 #[test]
 fn steps_at_the_stop(rt: HostRuntime) {
-    let Some(it) = stepped(rt.alloc(), COUNTDOWN, &[], 21) else {
-        panic!(rt; "no hart");
-    };
-    assert_eq!(rt; (it.answer, it.pc), (Err(Stop::Ecall), 0x1000C));
-    assert_eq!(rt; it.registers, [0; 32]);
+    let mut hart = hart_after(&rt, rt.alloc(), COUNTDOWN, &[], 21);
+    let answer = hart.step();
+    assert_equal(&rt, (answer, hart.pc()), (Err(Stop::Ecall), 0x1000C));
+    assert_equal(&rt, *hart.regs(), [0; 32]);
 }
 
 /// The pc, x5 and the stop there.
@@ -223,38 +216,28 @@ fn shown(hart: &Hart) -> Shown {
     (hart.pc(), hart.regs()[5], hart.stop_here())
 }
 
-/// Where a copy of the countdown after 7 instructions stands once the hart itself is at its stop,
-/// and where that stands.
-fn copied(alloc: Global) -> Option<[Shown; 2]> {
-    let mut hart = hart_at_start(alloc, COUNTDOWN, &[])?;
-    hart.run(7);
-    let copy = hart.try_clone(alloc).ok()?;
-    hart.run(100);
-    Some([shown(&copy), shown(&hart)])
-}
-
-/// A copy of the countdown at its start.
-fn copy_at_start(alloc: Global) -> Option<Hart> {
-    hart_at_start(alloc, COUNTDOWN, &[])?.try_clone(alloc).ok()
-}
-
-/// The environment, its number and the first word of that copy.
-fn copied_whole(alloc: Global) -> Option<(Environment, u8, Result<u32, Fault>)> {
-    let copy = copy_at_start(alloc)?;
-    let environment = copy.environment();
-    Some((
-        environment,
-        environment.number(),
-        copy.memory().fetch(0x10000),
-    ))
-}
-
+/// A copy of the countdown after 7 instructions stays there, with its environment and its words, once the hart itself is
+/// at its stop.
 #[test]
 fn copies(rt: HostRuntime) {
-    let ends = [(0x10004, 7, None), (0x1000C, 0, Some(Stop::Ecall))];
-    assert_eq!(rt; copied(rt.alloc()), Some(ends));
-    let whole = (Environment::One, 1, Ok(0x00A0_0293));
-    assert_eq!(rt; copied_whole(rt.alloc()), Some(whole));
+    let mut hart = hart_after(&rt, rt.alloc(), COUNTDOWN, &[], 7);
+    let copy = hart.try_clone(rt.alloc()).expect(&rt, "memory");
+    hart.run(100);
+    assert_equal(
+        &rt,
+        [shown(&copy), shown(&hart)],
+        [(0x10004, 7, None), (0x1000C, 0, Some(Stop::Ecall))],
+    );
+    let environment = copy.environment();
+    assert_equal(
+        &rt,
+        (
+            environment,
+            environment.number(),
+            copy.memory().fetch(0x10000),
+        ),
+        (Environment::One, 1, Ok(0x00A0_0293)),
+    );
 }
 
 /// The word of an instruction, its registers, and its effect at 0x10000 on the values of its sources.
@@ -309,29 +292,30 @@ fn effect_of(word: u32, values: (u64, u64)) -> Option<(u8, u8, u8, Effect)> {
 #[test]
 fn effects(rt: HostRuntime) {
     for it in WORKED_EFFECTS {
-        let found = effect_of(it.word, it.values);
         let want = (it.first_source, it.second_source, it.destination, it.effect);
-        assert_eq!(rt; found, Some(want));
+        assert_equal(&rt, effect_of(it.word, it.values), Some(want));
     }
 }
 
 #[test]
 fn values(rt: HostRuntime) {
-    assert_eq!(rt;
+    assert_equal(
+        &rt,
         [
             following(u64::MAX - 3),
             offset_by(2, -4),
             loaded(LoadKind::Byte, 0x80),
-            loaded(LoadKind::ByteUnsigned, 0x180)
+            loaded(LoadKind::ByteUnsigned, 0x180),
         ],
-        [0, u64::MAX - 1, 0xFFFF_FFFF_FFFF_FF80, 0x80]
+        [0, u64::MAX - 1, 0xFFFF_FFFF_FFFF_FF80, 0x80],
     );
-    assert_eq!(rt;
+    assert_equal(
+        &rt,
         [
             load_width(LoadKind::WordUnsigned),
-            store_width(StoreWidth::Half)
+            store_width(StoreWidth::Half),
         ],
-        [Width::Word, Width::Half]
+        [Width::Word, Width::Half],
     );
 }
 
@@ -349,6 +333,6 @@ fn causes(rt: HostRuntime) {
         Stop::Ecall,
     ];
     for (number, stop) in stops.iter().enumerate() {
-        assert_eq!(rt; usize::from(stop.cause()), number);
+        assert_equal(&rt, usize::from(stop.cause()), number);
     }
 }

@@ -1,8 +1,9 @@
 //! Worked joins at concrete types, through the bound.
 
+use crate::equal::assert_equal;
 use crate::trees::{join_of, merge};
 use join_law::{Ctx, Eight, Join, Tree, fold_eights, fold_tree, join_all, join_eights};
-use std::alloc::{AllocError, Global};
+use std::alloc::Global;
 use std::fmt::Debug;
 use std::process::Abort;
 
@@ -25,7 +26,7 @@ fn ahead_at_1() -> Eight<u64> {
 
 /// The join of two values, as a caller with a bound alone asks for it, is this one.
 fn assert_join<J: Join + PartialEq + Debug>(rt: &impl Abort, left: J, right: J, want: J) {
-    assert_eq!(rt; join_of(Some(left), Some(right)), Some(want));
+    assert_eq!(rt; join_of(left, right), Some(want));
 }
 
 #[test]
@@ -54,7 +55,8 @@ fn joins_of_values(rt: HostRuntime) {
 
 #[test]
 fn eights_join_place_by_place(rt: HostRuntime) {
-    assert_eq!(rt; ahead_at_0().join(ahead_at_1()).into_array(), FURTHEST);
+    let joined = ahead_at_0().join(ahead_at_1());
+    assert_equal(&rt, joined.into_array(), FURTHEST);
 }
 
 /// The number of the context with this number.
@@ -64,16 +66,16 @@ fn index_of(number: usize) -> Option<usize> {
 
 #[test]
 fn contexts_are_the_numbers_below_eight(rt: HostRuntime) {
-    assert_eq!(rt; [index_of(7), index_of(8)], [Some(7), None]);
-    let mut number = 0;
-    for context in Ctx::all() {
-        assert_eq!(rt;
+    assert_equal(&rt, [index_of(7), index_of(8)], [Some(7), None]);
+    let all = Ctx::all();
+    assert_equal(&rt, all.len(), 8);
+    for (number, context) in all.iter().enumerate() {
+        assert_equal(
+            &rt,
             (context.index(), Ctx::new(number)),
-            (number, Some(context))
+            (number, Some(*context)),
         );
-        number += 1;
     }
-    assert!(rt; number == 8);
 }
 
 #[test]
@@ -81,83 +83,87 @@ fn each_context_has_its_place(rt: HostRuntime) {
     let mut eight = Eight::from_array([10, 11, 12, 13, 14, 15, 16, 17]);
     for context in Ctx::all() {
         let number = context.index() as u64;
-        assert_eq!(rt; *eight.place(context), number + 10);
+        assert_equal(&rt, *eight.place(context), number + 10);
         *eight.place_mut(context) = number + 20;
     }
-    assert_eq!(rt; eight.into_array(), [20, 21, 22, 23, 24, 25, 26, 27]);
+    assert_equal(&rt, eight.into_array(), [20, 21, 22, 23, 24, 25, 26, 27]);
 }
 
-fn leaf_0() -> Option<Tree<Eight<u64>>> {
-    Some(Tree::Leaf(ahead_at_0()))
+fn leaf_0() -> Tree<Eight<u64>> {
+    Tree::Leaf(ahead_at_0())
 }
 
-fn leaf_1() -> Option<Tree<Eight<u64>>> {
-    Some(Tree::Leaf(ahead_at_1()))
+fn leaf_1() -> Tree<Eight<u64>> {
+    Tree::Leaf(ahead_at_1())
 }
 
-// What a tree folds to, if it is there.
-fn folded(tree: Option<Tree<Eight<u64>>>) -> Option<[u64; 8]> {
-    Some(fold_tree(tree?).into_array())
+// What a tree folds to.
+fn folded(tree: Tree<Eight<u64>>) -> [u64; 8] {
+    fold_tree(tree).into_array()
 }
 
-// What a tree folds to as one of eights, if it is there.
-fn folded_as_eights(tree: Option<Tree<Eight<u64>>>) -> Option<[u64; 8]> {
-    Some(fold_eights(tree?).into_array())
-}
-
-// What a tree of both leaves folds to, its mirror, one that repeats a leaf, and one that is grouped otherwise.
-fn folded_trees(alloc: Global) -> [Option<[u64; 8]>; 5] {
-    let repeated = merge(alloc, leaf_0(), leaf_0());
-    let regrouped = merge(alloc, leaf_0(), leaf_1());
+// What a tree of both leaves folds to, its mirror, one that repeats a leaf, and two that are grouped otherwise, the last
+// as one of eights.
+fn folded_trees(rt: &impl Abort, alloc: Global) -> [[u64; 8]; 5] {
+    let repeated = merge(rt, alloc, leaf_0(), leaf_0());
+    let both = merge(rt, alloc, leaf_0(), leaf_1());
+    let regrouped = merge(rt, alloc, leaf_0(), leaf_1());
     [
-        folded(merge(alloc, leaf_0(), leaf_1())),
-        folded(merge(alloc, leaf_1(), leaf_0())),
-        folded(merge(alloc, repeated, merge(alloc, leaf_0(), leaf_1()))),
-        folded(merge(alloc, regrouped, leaf_0())),
-        folded_as_eights(merge(alloc, leaf_1(), leaf_0())),
+        folded(merge(rt, alloc, leaf_0(), leaf_1())),
+        folded(merge(rt, alloc, leaf_1(), leaf_0())),
+        folded(merge(rt, alloc, repeated, both)),
+        folded(merge(rt, alloc, regrouped, leaf_0())),
+        fold_eights(merge(rt, alloc, leaf_1(), leaf_0())).into_array(),
     ]
 }
 
 #[test]
 fn leaves_alone_decide_a_tree(rt: HostRuntime) {
-    assert_eq!(rt; folded_trees(rt.alloc()), [Some(FURTHEST); 5]);
+    assert_equal(&rt, folded_trees(&rt, rt.alloc()), [FURTHEST; 5]);
 }
 
-// What the tree of depth 1000 that merges the numbers below 1001 on the right folds to. The one that merges them on the
-// left is dropped.
-fn folded_deep(alloc: Global) -> Option<u64> {
-    let mut tree = Some(Tree::Leaf(0));
-    let mut dropped = Some(Tree::Leaf(0));
+// The tree of depth 1000 that merges the numbers below 1001 on the right.
+fn deep_on_the_right(rt: &impl Abort, alloc: Global) -> Tree<u64> {
+    let mut tree = Tree::Leaf(0);
     for count in 1..1001 {
-        tree = merge(alloc, tree, Some(Tree::Leaf(count)));
-        dropped = merge(alloc, Some(Tree::Leaf(count)), dropped);
+        tree = merge(rt, alloc, tree, Tree::Leaf(count));
     }
-    drop(dropped?);
-    Some(fold_tree(tree?))
+    tree
+}
+
+// The one that merges them on the left.
+fn deep_on_the_left(rt: &impl Abort, alloc: Global) -> Tree<u64> {
+    let mut tree = Tree::Leaf(0);
+    for count in 1..1001 {
+        tree = merge(rt, alloc, Tree::Leaf(count), tree);
+    }
+    tree
 }
 
 // The join of a number and others.
-fn joined(alloc: Global, first: u64, others: &[u64]) -> Option<u64> {
-    Some(join_all(first, Vec::from_slice(alloc, others).ok()?))
+fn joined(rt: &impl Abort, alloc: Global, first: u64, others: &[u64]) -> u64 {
+    join_all(first, others.to_vec(alloc).expect(rt, "memory"))
 }
 
 // The join of eights as a list.
-fn joined_eights(alloc: Global) -> Result<[u64; 8], AllocError> {
-    let others = vec![in alloc; ahead_at_1(), ahead_at_0(), ahead_at_1()]?;
-    Ok(join_eights(ahead_at_0(), others).into_array())
+fn joined_eights(rt: &impl Abort, alloc: Global) -> [u64; 8] {
+    let others = vec![in alloc; ahead_at_1(), ahead_at_0(), ahead_at_1()].expect(rt, "memory");
+    join_eights(ahead_at_0(), others).into_array()
 }
 
 #[test]
 fn joins_lists_and_a_deep_tree(rt: HostRuntime) {
     let alloc = rt.alloc();
-    assert_eq!(rt;
+    drop(deep_on_the_left(&rt, alloc));
+    assert_equal(
+        &rt,
         [
-            joined(alloc, 4, &[9, 2, 9]),
-            joined(alloc, 9, &[2, 4]),
-            joined(alloc, 4, &[]),
-            folded_deep(alloc)
+            joined(&rt, alloc, 4, &[9, 2, 9]),
+            joined(&rt, alloc, 9, &[2, 4]),
+            joined(&rt, alloc, 4, &[]),
+            fold_tree(deep_on_the_right(&rt, alloc)),
         ],
-        [Some(9), Some(9), Some(4), Some(1000)]
+        [9, 9, 4, 1000],
     );
-    assert_eq!(rt; joined_eights(alloc).ok(), Some(FURTHEST));
+    assert_equal(&rt, joined_eights(&rt, alloc), FURTHEST);
 }

@@ -1,15 +1,17 @@
 //! Digests, comparisons and starts of small origins.
 //!
-//! What a function holds is dropped on each of its ways out, and each drop of an origin has a cost in proof: so a helper
-//! holds one origin and returns plain data.
+//! What a function holds is dropped where it ends, and each drop of an origin has a cost in proof: so a helper that
+//! holds one returns plain data, and ends the test where memory runs out.
 
+use crate::equal::assert_equal;
 use crate::programs::{COUNTDOWN, program};
 use hart_step::{Environment, Hart, Stop};
 use join_law::Ctx;
 use origin_set::{Origin, OriginFault};
 use paged_memory::{Fault, Width};
 use rv64_asm::Program;
-use std::alloc::{AllocError, Global};
+use std::alloc::Global;
+use std::process::Abort;
 use std::sync::Arc;
 
 /// The origin with a program at context 0 and another at context 7.
@@ -21,9 +23,14 @@ fn outer(first: Option<Program>, last: Option<Program>) -> Result<Origin, Origin
 }
 
 /// The same origin, behind a pointer: what holds a whole origin has a cost in proof.
-fn shared(alloc: Global, first: Option<Program>, last: Option<Program>) -> Option<Arc<Origin>> {
-    let origin = outer(first, last).ok()?;
-    Arc::new(alloc, origin).ok()
+fn shared(
+    rt: &impl Abort,
+    alloc: Global,
+    first: Option<Program>,
+    last: Option<Program>,
+) -> Arc<Origin> {
+    let origin = outer(first, last).expect(rt, "an origin");
+    Arc::new(alloc, origin).expect(rt, "memory")
 }
 
 /// The words and bytes of a program.
@@ -39,22 +46,22 @@ struct Sketch {
 }
 
 /// The program of the words and bytes, where there are any.
-fn program_of(alloc: Global, source: &Option<Source>) -> Result<Option<Program>, AllocError> {
+fn program_of(rt: &impl Abort, alloc: Global, source: &Option<Source>) -> Option<Program> {
     match source {
-        None => Ok(None),
-        Some(source) => Ok(Some(program(alloc, source.words, source.bytes)?)),
+        None => None,
+        Some(source) => Some(program(alloc, source.words, source.bytes).expect(rt, "memory")),
     }
 }
 
-fn origin_of(alloc: Global, sketch: &Sketch) -> Option<Arc<Origin>> {
-    let first = program_of(alloc, &sketch.first).ok()?;
-    let last = program_of(alloc, &sketch.last).ok()?;
-    shared(alloc, first, last)
+fn origin_of(rt: &impl Abort, alloc: Global, sketch: &Sketch) -> Arc<Origin> {
+    let first = program_of(rt, alloc, &sketch.first);
+    let last = program_of(rt, alloc, &sketch.last);
+    shared(rt, alloc, first, last)
 }
 
-fn digest_of(alloc: Global, sketch: &Sketch) -> Option<[u8; 32]> {
-    let origin = origin_of(alloc, sketch)?;
-    Some(origin.digest())
+fn digest_of(rt: &impl Abort, alloc: Global, sketch: &Sketch) -> [u8; 32] {
+    let origin = origin_of(rt, alloc, sketch);
+    origin.digest()
 }
 
 const NOTHING: Sketch = Sketch {
@@ -112,7 +119,7 @@ const DIGESTS: &[Digested] = &[
 #[test]
 fn digests(rt: HostRuntime) {
     for it in DIGESTS {
-        assert_eq!(rt; digest_of(rt.alloc(), &it.sketch), Some(it.digest));
+        assert_equal(&rt, digest_of(&rt, rt.alloc(), &it.sketch), it.digest);
     }
 }
 
@@ -190,38 +197,32 @@ const COMPARED: &[Compared] = &[
     },
 ];
 
-/// Whether an origin is that of a sketch.
-fn is_same(alloc: Global, left: &Arc<Origin>, right: &Sketch) -> Option<bool> {
-    let right = origin_of(alloc, right)?;
-    Some(left.same(&right))
-}
-
-fn are_same(alloc: Global, left: &Sketch, right: &Sketch) -> Option<bool> {
-    let left = origin_of(alloc, left)?;
-    is_same(alloc, &left, right)
+/// Whether the origins of two sketches are the same.
+fn are_same(rt: &impl Abort, alloc: Global, left: &Sketch, right: &Sketch) -> bool {
+    let left = origin_of(rt, alloc, left);
+    let right = origin_of(rt, alloc, right);
+    left.same(&right)
 }
 
 #[test]
 fn compares_programs_and_contexts(rt: HostRuntime) {
     for it in COMPARED {
-        let found = are_same(rt.alloc(), &it.left, &it.right);
-        assert_eq!(rt; found, Some(it.are_same));
+        let found = are_same(&rt, rt.alloc(), &it.left, &it.right);
+        assert_equal(&rt, found, it.are_same);
     }
 }
 
 /// A program of so many words `addi x0, x0, 0` and bytes of 0.
-fn sized(alloc: Global, words: usize, bytes: usize) -> Result<Program, AllocError> {
-    let mut text = Vec::new(alloc);
-    text.resize(words, 0x0000_0013)?;
-    let mut data = Vec::new(alloc);
-    data.resize(bytes, 0)?;
-    Ok(Program::new(text, data))
+fn sized(rt: &impl Abort, alloc: Global, words: usize, bytes: usize) -> Program {
+    Program::new(
+        vec![in alloc; 0x0000_0013; words].expect(rt, "memory"),
+        vec![in alloc; 0; bytes].expect(rt, "memory"),
+    )
 }
 
-/// Why a program of so many words and bytes has no origin.
-fn refusal_of(alloc: Global, words: usize, bytes: usize) -> Option<Option<OriginFault>> {
-    let program = sized(alloc, words, bytes).ok()?;
-    Some(outer(None, Some(program)).err())
+/// Why a program of so many words and bytes has no origin, if it has none.
+fn refusal_of(rt: &impl Abort, alloc: Global, words: usize, bytes: usize) -> Option<OriginFault> {
+    outer(None, Some(sized(rt, alloc, words, bytes))).err()
 }
 
 /// What is loaded at the last places of full pages and behind them, of text and then of data.
@@ -238,107 +239,82 @@ fn loaded_at_ends(hart: &Hart) -> AtTheEnds {
 }
 
 /// The same of the start of an origin's context 7.
-fn loaded_of_last(alloc: Global, origin: &Arc<Origin>) -> Option<AtTheEnds> {
+fn loaded_of_last(rt: &impl Abort, alloc: Global, origin: &Arc<Origin>) -> AtTheEnds {
     let [.., last] = Ctx::all();
-    let hart = origin.hart(alloc, last).ok()?;
-    Some(loaded_at_ends(&hart))
-}
-
-/// The same where the program of context 7 has so many words and bytes.
-fn loaded_of_sized(alloc: Global, words: usize, bytes: usize) -> Option<AtTheEnds> {
-    let program = sized(alloc, words, bytes).ok()?;
-    let origin = shared(alloc, None, Some(program))?;
-    loaded_of_last(alloc, &origin)
+    let hart = origin.hart(alloc, last).expect(rt, "a hart");
+    loaded_at_ends(&hart)
 }
 
 #[test]
 fn full_pages_and_one_page_too_many(rt: HostRuntime) {
     let alloc = rt.alloc();
-    assert_eq!(rt;
+    assert_equal(
+        &rt,
         [
-            refusal_of(alloc, 65_537, 0),
-            refusal_of(alloc, 0, 1_048_577),
-            refusal_of(alloc, 65_536, 1_048_576)
+            refusal_of(&rt, alloc, 65_537, 0),
+            refusal_of(&rt, alloc, 0, 1_048_577),
+            refusal_of(&rt, alloc, 65_536, 1_048_576),
         ],
         [
-            Some(Some(OriginFault::TooManyPages)),
-            Some(Some(OriginFault::TooManyPages)),
-            Some(None)
-        ]
+            Some(OriginFault::TooManyPages),
+            Some(OriginFault::TooManyPages),
+            None,
+        ],
     );
-    let ends = [
-        Ok(0x13),
-        Err(Fault::LoadAccess),
-        Ok(0),
-        Err(Fault::LoadAccess),
-    ];
-    assert_eq!(rt; loaded_of_sized(alloc, 65_536, 1_048_576), Some(ends));
-}
-
-/// The registers and pc of a start, its first data word, and what a run of 100 instructions returns.
-#[derive(Clone, Copy)]
-struct Start {
-    registers: [u64; 32],
-    pc: u64,
-    first_data: Result<u64, Fault>,
-    answer: (u64, Option<Stop>),
-}
-
-/// What a context of an origin starts from.
-fn start_of(alloc: Global, origin: &Arc<Origin>, context: Ctx) -> Option<Start> {
-    let mut hart = origin.hart(alloc, context).ok()?;
-    Some(Start {
-        registers: *hart.regs(),
-        pc: hart.pc(),
-        first_data: hart.memory().load(0x10_0000, Width::Word),
-        answer: hart.run(100),
-    })
-}
-
-/// What a context starts from where the countdown with the data byte 7 is the program of context 0.
-fn start_beside_countdown(alloc: Global, context: Ctx) -> Option<Start> {
-    let countdown = program(alloc, &COUNTDOWN, &[7]).ok()?;
-    let origin = shared(alloc, Some(countdown), None)?;
-    start_of(alloc, &origin, context)
-}
-
-#[test]
-fn starts(rt: HostRuntime) {
-    let [first, ..] = Ctx::all();
-    let Some(it) = start_beside_countdown(rt.alloc(), first) else {
-        panic!(rt; "no hart");
-    };
-    assert_eq!(rt; it.registers, [0; 32]);
-    assert_eq!(rt;
-        (it.pc, it.first_data, it.answer),
-        (0x10000, Ok(7), (21, Some(Stop::Ecall)))
+    let program = sized(&rt, alloc, 65_536, 1_048_576);
+    let origin = shared(&rt, alloc, None, Some(program));
+    assert_equal(
+        &rt,
+        loaded_of_last(&rt, alloc, &origin),
+        [
+            Ok(0x13),
+            Err(Fault::LoadAccess),
+            Ok(0),
+            Err(Fault::LoadAccess),
+        ],
     );
 }
 
+/// A context with the countdown and the data byte 7 starts with all registers 0, and runs to the stop.
+fn assert_start(rt: &impl Abort, alloc: Global, origin: &Arc<Origin>, context: Ctx) {
+    let mut hart = origin.hart(alloc, context).expect(rt, "a hart");
+    assert_equal(rt, *hart.regs(), [0; 32]);
+    let pc = hart.pc();
+    let first_data = hart.memory().load(0x10_0000, Width::Word);
+    assert_equal(
+        rt,
+        (pc, first_data, hart.run(100)),
+        (0x10000, Ok(7), (21, Some(Stop::Ecall))),
+    );
+}
+
+/// A context without a program stops at once.
+fn assert_no_program(rt: &impl Abort, alloc: Global, origin: &Arc<Origin>, context: Ctx) {
+    let mut hart = origin.hart(alloc, context).expect(rt, "a hart");
+    assert_equal(rt, hart.run(100), (0, Some(Stop::FetchAccess)));
+}
+
 #[test]
-fn starts_without_a_program(rt: HostRuntime) {
-    let [_, second, ..] = Ctx::all();
-    let Some(it) = start_beside_countdown(rt.alloc(), second) else {
-        panic!(rt; "no hart");
-    };
-    assert_eq!(rt; it.answer, (0, Some(Stop::FetchAccess)));
+fn starts_with_and_without_a_program(rt: HostRuntime) {
+    let alloc = rt.alloc();
+    let [first, second, ..] = Ctx::all();
+    let countdown = program(alloc, &COUNTDOWN, &[7]).expect(&rt, "memory");
+    let origin = shared(&rt, alloc, Some(countdown), None);
+    assert_start(&rt, alloc, &origin, first);
+    assert_no_program(&rt, alloc, &origin, second);
 }
 
-/// The environment of the origin with no program.
-fn environment(alloc: Global) -> Option<Environment> {
-    let origin = shared(alloc, None, None)?;
-    Some(origin.environment())
-}
-
-/// Whether a fault is printed as this code.
-fn is_code(alloc: Global, fault: OriginFault, code: &str) -> Option<bool> {
-    Some(fault.to_string(alloc).ok()?.as_str() == code)
+/// A fault is printed as this code.
+fn assert_code(rt: &impl Abort, alloc: Global, fault: OriginFault, code: &str) {
+    let printed = fault.to_string(alloc).expect(rt, "memory");
+    assert!(rt; printed.as_str() == code);
 }
 
 #[test]
 fn environments_and_codes(rt: HostRuntime) {
     let alloc = rt.alloc();
-    assert!(rt; environment(alloc) == Some(Environment::One));
-    assert!(rt; is_code(alloc, OriginFault::TooManyPages, "O1") == Some(true));
-    assert!(rt; is_code(alloc, OriginFault::OutOfMemory, "O2") == Some(true));
+    let origin = shared(&rt, alloc, None, None);
+    assert!(rt; origin.environment() == Environment::One);
+    assert_code(&rt, alloc, OriginFault::TooManyPages, "O1");
+    assert_code(&rt, alloc, OriginFault::OutOfMemory, "O2");
 }

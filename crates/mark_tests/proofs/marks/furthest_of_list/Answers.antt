@@ -1,10 +1,11 @@
 use Rattle.std.specs.Arc.{arc_value}
+use Rattle.std.proofs.Common.{sym, ◌∙◌}
 use Rattle.mark_tests.proofs.Merged.{kin_of_marks}
 use Rattle.mark_tests.proofs.marks.furthest_of_list.Goals as goal
 
 pub furthest-requires : goal.furthest-requires
-furthest-requires c =
-    let both = c.in_ok-first in
-    kin_of_marks (arc_value c.args.origin.now) c.args.context c.mark_at-first.result c.mark_at-second.result both.first both.others.items
-    c.mark_at-first.ensures.origin c.mark_at-first.ensures.context c.mark_at-second.ensures.origin c.mark_at-second.ensures.context
-    both.ensures.first both.ensures.second
+furthest-requires g c =
+    let x = c.mark_at-first in
+    let y = c.mark_at in
+    kin_of_marks (arc_value c.args.origin.now) x.result y.result c.listed-others.result.items
+    x.ensures.origin y.ensures.origin (x.ensures.context ∙ sym y.ensures.context) c.listed-others.ensures
