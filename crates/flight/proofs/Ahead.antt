@@ -1,5 +1,5 @@
 -- How many of the entries that are not renamed are guessed, event by event.
-use Rattle.std.proofs.Common.{◌≡◌, ℕ, zero, suc, ◌+◌, ◌-◌, ◌<◌, ◌≤◌, Bool, true, false, cond, List, [], ◌∷◌, ◌++◌, length, drop, set, refl, sym, ◌∙◌, ap, arith, length-drop}
+use Rattle.std.proofs.Common.{◌≡◌, ℕ, zero, suc, ◌+◌, ◌-◌, ◌%◌, ◌^◌, ◌<◌, ◌≤◌, Bool, true, false, cond, List, [], ◌∷◌, ◌++◌, length, drop, set, refl, sym, ◌∙◌, ap, arith, length-drop}
 use Rattle.std.proofs.lemmas.List.Sums.{sum_by-cons, count_by-le-length}
 use mir.Val.{bool_byte}
 use Rattle.core_view.specs.declared.entry.Entry.{Entry}
@@ -68,9 +68,12 @@ guesses-pushed g r es fs e is within made k one =
     let here : cond (is_guessed e.operation) 1 0 ≡ bool_byte (is_guessed e.operation) = one-is (is_guessed e.operation) in
     omega (arith, is, most, here, one)
 
--- the oldest of them is renamed
-pub guesses-renamed : (g r : ℕ) (es fs : List Entry) (e : Entry) → g ≡ guesses_ahead r es → r < length es → is_guessed e.operation ≡ is_guessed (entry_in es r).operation → fs ≡ set es r e → g - bool_byte (is_guessed e.operation) ≡ guesses_ahead (r + 1) fs
-guesses-renamed g r es fs e is within same made =
-    let left : guesses_ahead (r + 1) fs ≡ guesses_ahead (r + 1) es = ap (guesses_ahead (r + 1)) made ∙ guesses-set (r + 1) r es e (omega arith) in
-    let here : guesses_ahead r es ≡ bool_byte (is_guessed e.operation) + guesses_ahead (r + 1) es = guesses-next r es within ∙ ap (λ b. cond b 1 0 + guesses_ahead (r + 1) es) (sym same) ∙ ap (λ n. n + guesses_ahead (r + 1) es) (one-is (is_guessed e.operation)) in
-    omega (arith, is, left, here)
+-- the first of them, if it is guessed, is counted no more
+pub guesses-less : (g r : ℕ) (es : List Entry) (k n : ℕ) → g ≡ guesses_ahead r es → g < 2 ^ 64 → r < length es → k ≡ bool_byte (is_guessed (entry_in es r).operation) → n ≡ (g + (2 ^ 64 - k)) % 2 ^ 64 → n ≡ guesses_ahead (r + 1) es
+guesses-less g r es k n is small within one left =
+    let here : guesses_ahead r es ≡ bool_byte (is_guessed (entry_in es r).operation) + guesses_ahead (r + 1) es = guesses-next r es within ∙ ap (λ m. m + guesses_ahead (r + 1) es) (one-is (is_guessed (entry_in es r).operation)) in
+    omega (arith, is, small, here, one, left, one-most (is_guessed (entry_in es r).operation))
+
+-- the one at the first of their places is renamed
+pub guesses-set-first : (n r : ℕ) (es fs : List Entry) (e : Entry) → n ≡ guesses_ahead (r + 1) es → fs ≡ set es r e → n ≡ guesses_ahead (r + 1) fs
+guesses-set-first n r es fs e is made = is ∙ sym (ap (guesses_ahead (r + 1)) made ∙ guesses-set (r + 1) r es e (omega arith))

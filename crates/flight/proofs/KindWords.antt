@@ -1,14 +1,12 @@
 -- The words of the kinds.
-use Rattle.std.proofs.Common.{◌≡◌, ◌≢◌, ℕ, zero, suc, ◌<◌, ◌≤◌, Bool, true, List, [], ◌∷◌, ◌++◌, length, map, set, get_or, refl, sym, ◌∙◌, ap, arith, bit_and}
+use Rattle.std.proofs.Common.{◌≡◌, ◌≢◌, ℕ, zero, suc, ◌<◌, ◌≤◌, Bool, true, false, List, [], ◌∷◌, ◌++◌, length, map, set, get_or, refl, sym, ◌∙◌, ap, arith, bit_and}
 use Rattle.std.specs.Prelude.{◌==◌, ◌&&◌, not}
 use Rattle.std.specs.Int.{bit_not, w64}
 use Rattle.std.specs.Simd.Lanes.{mask_l}
 use Rattle.std.proofs.lemmas.Bool.{eq-eqb, ne_eqb}
 use Rattle.core_view.specs.declared.entry.Entry.{Entry}
 use Rattle.core_view.specs.Kinds.{kind_index, kind_of}
-use Rattle.core_view.proofs.KindTests.{load-kind}
-use Rattle.core_view.specs.Flight.{is_queued}
-use Rattle.flight.specs.Marked.{word_of, kinds_of, is_of_kind, is_waiting, is_waiting_load}
+use Rattle.flight.specs.Marked.{word_of, kinds_of, is_of_kind}
 use Rattle.flight.specs.Flights.{entry_in}
 use Rattle.flight.proofs.Words.{word-push, word-unset, word-same, word-both, word-without}
 
@@ -75,9 +73,11 @@ kinds-same es e place same = each _ _ (λ k. word-same (is_of_kind k) es e _ pla
 
 -- ---- what waits and what is open
 
-pub waiting-loads : (es : List Entry) (v w : ℕ) → v ≡ word_of is_waiting es → w ≡ word_of (is_of_kind 3) es → bit_and v w ≡ word_of is_waiting_load es
-waiting-loads es v w waits loads = ap (bit_and v) loads ∙ ap (λ n. bit_and n (word_of (is_of_kind 3) es)) waits
-    ∙ word-both is_waiting (is_of_kind 3) is_waiting_load (λ e. ap (λ b. is_queued e.stage && b) (load-kind e.operation)) es
+pub and-turned : (a b : Bool) → (a && b) ≡ (b && a)
+and-turned true true = refl
+and-turned true false = refl
+and-turned false true = refl
+and-turned false false = refl
 
 -- those of a kind that pass a test, and those that don't
 pub of-kind-and : (k : ℕ) (q r : Entry → Bool) → ((e : Entry) → (is_of_kind k e && q e) ≡ r e) → (es : List Entry) (w v : ℕ) → w ≡ word_of (is_of_kind k) es → v ≡ word_of q es → bit_and w v ≡ word_of r es

@@ -1,10 +1,10 @@
 //! The entries of a context in flight.
 
-ghost use Rattle.std.specs.Prelude.{◌≡◌, ◌≢◌, ℕ, ◌+◌, ◌-◌, ◌<◌, ◌≤◌, ◌%◌, Bool, true, false, [], ◌∷◌, ◌++◌, length, take, drop, slice_get, slice_set, option_copied, None, Some, IfOk, IfSome, IsTrue, MatchOption, All, count_by, nat_lt};
+ghost use Rattle.std.specs.Prelude.{◌≡◌, ◌≢◌, ℕ, List, ◌+◌, ◌-◌, ◌<◌, ◌≤◌, ◌%◌, Bool, true, false, [], ◌∷◌, ◌++◌, length, take, drop, slice_get, slice_set, option_copied, None, Some, IfOk, IfSome, IsTrue, MatchOption, All, count_by, nat_lt};
 ghost use Rattle.std.specs.Int.{bit_at};
 ghost use Rattle.std.specs.List.{list_any};
 ghost use Rattle.circular_buffer.specs.Buffer.{buffer, last_item};
-ghost use Rattle.reorder_buffer.specs.Growing.{IsGrowing};
+ghost use Rattle.reorder_buffer.specs.Growing.{IsGrowing, below};
 ghost use Rattle.core_view.specs.declared.entry.Stage.TheVariants.{Fetched, Queued, Issued};
 ghost use Rattle.core_view.specs.Events.{due_at, with_stage, completed_entry};
 ghost use Rattle.core_view.specs.declared.entry.Entry.{Entry};
@@ -12,9 +12,10 @@ ghost use Rattle.core_view.specs.declared.entry.Execution.{Execution};
 ghost use Rattle.core_view.specs.declared.outcome.Step.{Step};
 ghost use Rattle.core_view.specs.declared.outcome.Outcome.TheVariants.{Goes};
 ghost use Rattle.core_view.specs.Flight.{GoesOnAt, is_done, is_open_guess, is_missed_load, result_in};
-ghost use Rattle.core_view.specs.Operations.{is_guessed, is_load, stops_at_fetch};
+ghost use Rattle.core_view.specs.Operations.{is_guessed, is_load, is_store, stops_at_fetch};
 ghost use Rattle.core_view.specs.Kinds.{kind_index};
 ghost use Rattle.core_view.specs.Queues.{is_renamed};
+ghost use Rattle.flight.specs.declared.finished.Finished.{Finished};
 ghost use Rattle.flight.specs.Marked.{is_of_kind, is_waiting, is_waiting_load, is_issued_load, is_completed_store, word_of};
 ghost use Rattle.core_view.specs.Stages.{execution_of, IsIssued};
 ghost use Rattle.flight.specs.Flights.{entry_in, empty_flight, fetched_one, renamed_one, issued_one, finished_one, retired_one, none_left, cut_at, guesses_ahead, is_due, NoneFrom, IsNext, NoneRenamedFrom, IsNextRenamed, NoneRenamedBelow, IsLastRenamed, IsPlain, NoneOpenBelow, Frees};
@@ -24,7 +25,7 @@ use crate::marks::{Marks, is_waiting};
 use bit_vector::{
     both, clear_slot, count, has_from, has_more, last, lowest, next, set_slot, turn, up_to_first,
 };
-use core_view::{Entry, Execution, OperationKind};
+use core_view::{Entry, Execution, OperationKind, Step};
 use hint::assert_unchecked;
 use reorder_buffer::Ring;
 use std::alloc::{AllocError, Allocator, Global};
@@ -163,7 +164,7 @@ impl<A: Allocator> Flight<A> {
         self.marks.push(self.renamed, &entry);
         self.slots[(entry.stamp % 256) as usize] = slot_of(self.base, self.renamed) as u8;
         self.renamed += 1;
-        self.guessed -= usize::from(entry.operation.is_guessed());
+        self.guessed = guesses_left(self.guessed, &entry);
     }
 
     /// The oldest fetched entry, which doesn't stop at fetch, is renamed: it waits for issue.
@@ -181,8 +182,7 @@ impl<A: Allocator> Flight<A> {
         self.marks.push_queued(place, &entry);
         self.slots[(entry.stamp % 256) as usize] = slot_of(self.base, place) as u8;
         self.renamed = place + 1;
-        let guessed = usize::from(entry.operation.is_guessed());
-        self.guessed -= guessed;
+        self.guessed = guesses_left(self.guessed, &entry);
     }
 
     /// The entry at a place, which waits for issue, issues.
@@ -257,7 +257,7 @@ impl<A: Allocator> Flight<A> {
         requires kept { (entry_in self.old.entries place).stamp < stamp }
         ensures { self.new ≡ cut_at self.old stamp }
     {
-        self.ring.cut_past(place, stamp);
+        cut_in(&mut self.ring, place, stamp);
         self.renamed = self.renamed.min(self.ring.len());
         self.marks.keep(self.renamed);
         self.guessed = guesses_from(&self.ring, self.renamed);
@@ -313,7 +313,7 @@ impl<A: Allocator> Flight<A> {
     {
         let place = place_of(self.base, self.slots[(stamp % 256) as usize]);
         let entry = self.get(place)?;
-        if entry.stamp == stamp && is_waiting(entry) {
+        if is_waiting_as(entry, stamp) {
             Some(place)
         } else {
             None
@@ -433,15 +433,37 @@ impl<A: Allocator> Flight<A> {
         ensures more { IfSome result (λ f. f.more ≡ false → (i : ℕ) → is_due cycle (entry_in self.new.entries i) ≡ false) }
     {
         let value = plain_result(at(&self.ring, place))?;
-        let stores = self.marks.of_kind(OperationKind::Store);
-        if has_from(self.marks.issued_loads(), place, stores) {
+        if self.may_be_read(place) {
             return None;
         }
-        let before = self.unguarded();
-        self.finish_where(place, true);
-        let frees = has_more(self.unguarded(), before);
+        let frees = self.finish_followed(place);
         let more = self.may_be_due(cycle);
         Some(Finished { value, frees, more })
+    }
+
+    /// Whether the entry at a place is a store behind which a load has issued.
+    #[inline(always)]
+    fn may_be_read(&self, place: usize) -> bool
+        requires { place < self.now.renamed }
+        ensures { result ≡ false → is_store (entry_in self.now.entries place).operation ≡ true → NoneRenamedFrom is_issued_load self.now (place + 1) }
+    {
+        let stores = self.marks.of_kind(OperationKind::Store);
+        has_from(self.marks.issued_loads(), place, stores)
+    }
+
+    /// The entry at a place, which is issued, completes, where fetch went on after it where it goes, or it stops. Returns
+    /// whether one that waits is behind no open guess any more.
+    #[inline(always)]
+    fn finish_followed(&mut self, place: usize) -> bool
+        requires place { place < length self.old.entries }
+        requires issued { IsIssued (entry_in self.old.entries place).stage }
+        requires followed { GoesOnAt (entry_in self.old.entries place).followed (execution_of (entry_in self.old.entries place).stage).outcome }
+        ensures done { self.new ≡ finished_one self.old place (execution_of (entry_in self.old.entries place).stage) }
+        ensures frees { (f : Finished) → f.frees ≡ result → Frees self.old self.new place f }
+    {
+        let before = self.unguarded();
+        self.finish_where(place, true);
+        has_more(self.unguarded(), before)
     }
 
     /// A word with a bit for each entry that waits behind no guessed one that has not completed.
@@ -562,6 +584,15 @@ fn at<A: Allocator>(ring: &Ring<Entry, A>, place: usize) -> &Entry
     entry
 }
 
+/// Whether an entry has a stamp and waits for issue.
+#[inline(always)]
+fn is_waiting_as(entry: &Entry, stamp: u64) -> bool
+    ensures stamp { IsTrue result → entry.now.stamp ≡ stamp }
+    ensures waits { IsTrue result → is_waiting entry.now ≡ true }
+{
+    entry.stamp == stamp && is_waiting(entry)
+}
+
 /// An entry is pushed into a ring with room.
 #[inline]
 fn push_in<A: Allocator>(ring: &mut Ring<Entry, A>, entry: Entry)
@@ -573,6 +604,17 @@ fn push_in<A: Allocator>(ring: &mut Ring<Entry, A>, entry: Entry)
         assert_unchecked(false);
         unreachable!();
     };
+}
+
+/// The entries from a stamp on leave a ring. The one at a place stays.
+#[inline(always)]
+fn cut_in<A: Allocator>(ring: &mut Ring<Entry, A>, place: usize, stamp: u64)
+    requires place { place < length ring.old.items }
+    requires kept { (entry_in ring.old.items place).stamp < stamp }
+    ensures below { ring.new ≡ buffer (below (λ (e : Entry). e.stamp) stamp ring.old.items) ring.old.capacity }
+    ensures front { ring.new.items ≡ take (length ring.new.items) ring.old.items }
+{
+    ring.cut_past(place, stamp);
 }
 
 /// An entry takes the place of one with its stamp.
@@ -661,10 +703,26 @@ fn plain_result(entry: &Entry) -> Option<u64>
     ensures result { IfSome result (λ value. result_in (execution_of entry.now.stage).outcome ≡ Some value) }
 {
     let step = entry.stage.step()?;
-    if entry.followed != step.next {
+    if !goes_where_followed(entry, &step) {
         return None;
     }
     Some(step.result)
+}
+
+/// Whether fetch went on after an entry where a step goes.
+#[inline(always)]
+fn goes_where_followed(entry: &Entry, step: &Step) -> bool
+    ensures { IsTrue result → entry.now.followed ≡ step.now.next }
+{
+    entry.followed == step.next
+}
+
+/// How many of so many guessed entries are left without one, the first of them if it is guessed.
+#[inline(always)]
+fn guesses_left(guessed: usize, entry: &Entry) -> usize
+    ensures { (r : ℕ) (es : List Entry) → guessed ≡ guesses_ahead r es → r < length es → entry.now.operation ≡ (entry_in es r).operation → result ≡ guesses_ahead (r + 1) es }
+{
+    guessed.wrapping_sub(usize::from(entry.operation.is_guessed()))
 }
 
 /// How many entries from a place on are guessed.

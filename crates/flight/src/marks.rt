@@ -1,13 +1,13 @@
 //! The words of a flight.
 
-ghost use Rattle.std.specs.Prelude.{◌≡◌, ℕ, false, ◌&&◌, ◌<◌, ◌≤◌, List, [], ◌∷◌, ◌++◌, length, take, drop, slice_set, count_by};
+ghost use Rattle.std.specs.Prelude.{◌≡◌, ℕ, Bool, false, ◌&&◌, not, ◌<◌, ◌≤◌, List, [], ◌∷◌, ◌++◌, length, take, drop, slice_set, count_by};
 ghost use Rattle.core_view.specs.declared.entry.Entry.{Entry};
 ghost use Rattle.core_view.specs.declared.entry.Execution.{Execution};
 ghost use Rattle.core_view.specs.declared.entry.Stage.TheVariants.{Queued, Issued, Done};
 ghost use Rattle.core_view.specs.Operations.{is_load};
 ghost use Rattle.core_view.specs.Kinds.{kind_index};
 ghost use Rattle.core_view.specs.Flight.{is_open_guess, is_missed_load};
-ghost use Rattle.flight.specs.Marked.{marks_of, kinds_of, word_of, is_of_kind, is_waiting, is_waiting_load, is_issued_load, is_completed_store, is_load_that_missed, missed_at_issue};
+ghost use Rattle.flight.specs.Marked.{marks_of, kinds_of, words_of, word_of, is_of_kind, is_waiting, is_waiting_load, is_issued_load, is_completed_store, is_load_that_missed, missed_at_issue};
 ghost use Rattle.flight.specs.Flights.{entry_in};
 
 use bit_vector::{assign, count, first, push, without_first, without_first_of_each};
@@ -46,7 +46,7 @@ impl Marks {
         ensures { (es : List Entry) → self.old ≡ marks_of es → place ≡ length es → self.new ≡ marks_of (es ++ entry.now ∷ []) }
     {
         push_kind(&mut self.words, place, entry);
-        self.words[WAITING] = push(self.words[WAITING], place, is_waiting(entry));
+        push_waiting(&mut self.words, place, is_waiting(entry));
         let missed = is_load_that_missed(entry);
         self.words[MISSED_LOADS] = push(self.words[MISSED_LOADS], place, missed);
         self.done = push(self.done, place, entry.stage.is_done());
@@ -60,7 +60,7 @@ impl Marks {
     {
         // The other bits at the place are clear already.
         push_kind(&mut self.words, place, entry);
-        self.words[WAITING] = push(self.words[WAITING], place, true);
+        push_waiting(&mut self.words, place, true);
     }
 
     /// With an entry at a place that has issued, where it waited.
@@ -101,7 +101,7 @@ impl Marks {
     pub(crate) fn retire(&mut self)
         ensures { (es : List Entry) → self.old ≡ marks_of es → self.new ≡ marks_of (drop 1 es) }
     {
-        self.words = without_first_of_each(self.words);
+        drop_oldest(&mut self.words);
         self.done = without_first(self.done);
     }
 
@@ -132,6 +132,24 @@ impl Marks {
         self.words[kind.index()]
     }
 
+    /// A word of those of a kind that have their bit in another word.
+    #[inline(always)]
+    fn of_kind_in(&self, kind: OperationKind, word: u64) -> u64
+        ensures { (es : List Entry) (test both : Entry → Bool) → self.now ≡ marks_of es → word ≡ word_of test es → ((e : Entry) → (is_of_kind (kind_index kind) e && test e) ≡ both e) →
+            result ≡ word_of both es }
+    {
+        self.of_kind(kind) & word
+    }
+
+    /// A word of those of a kind that don't have their bit in another word.
+    #[inline(always)]
+    fn of_kind_but(&self, kind: OperationKind, word: u64) -> u64
+        ensures { (es : List Entry) (test rest : Entry → Bool) → self.now ≡ marks_of es → length es ≤ 64 → word ≡ word_of test es → ((e : Entry) → (is_of_kind (kind_index kind) e && not (test e)) ≡ rest e) →
+            result ≡ word_of rest es }
+    {
+        self.of_kind(kind) & !word
+    }
+
     /// A word of those that wait for issue.
     #[inline(always)]
     pub(crate) fn waiting(&self) -> u64
@@ -145,7 +163,7 @@ impl Marks {
     pub(crate) fn waiting_loads(&self) -> u64
         ensures { (es : List Entry) → self.now ≡ marks_of es → length es ≤ 64 → result ≡ word_of is_waiting_load es }
     {
-        self.waiting() & self.of_kind(OperationKind::Load)
+        self.of_kind_in(OperationKind::Load, self.waiting())
     }
 
     /// A word of the loads that have issued.
@@ -153,7 +171,7 @@ impl Marks {
     pub(crate) fn issued_loads(&self) -> u64
         ensures { (es : List Entry) → self.now ≡ marks_of es → length es ≤ 64 → result ≡ word_of is_issued_load es }
     {
-        self.of_kind(OperationKind::Load) & !self.waiting()
+        self.of_kind_but(OperationKind::Load, self.waiting())
     }
 
     /// A word of the stores that have completed.
@@ -161,7 +179,7 @@ impl Marks {
     pub(crate) fn completed_stores(&self) -> u64
         ensures { (es : List Entry) → self.now ≡ marks_of es → result ≡ word_of is_completed_store es }
     {
-        self.of_kind(OperationKind::Store) & self.done
+        self.of_kind_in(OperationKind::Store, self.done)
     }
 
     /// A word of those that are guessed and have not completed.
@@ -169,7 +187,7 @@ impl Marks {
     pub(crate) fn open_guesses(&self) -> u64
         ensures { (es : List Entry) → self.now ≡ marks_of es → length es ≤ 64 → result ≡ word_of is_open_guess es }
     {
-        self.of_kind(OperationKind::Guessed) & !self.done
+        self.of_kind_but(OperationKind::Guessed, self.done)
     }
 
     /// How many loads were issued, have not completed, and missed.
@@ -190,6 +208,24 @@ fn push_kind(words: &mut [u64; 8], place: usize, entry: &Entry)
 {
     let kind = entry.operation.kind().index();
     words[kind] = push(words[kind], place, true);
+}
+
+/// The word of what waits for issue gets the bit of the youngest entry.
+#[inline(always)]
+fn push_waiting(words: &mut [u64; 8], place: usize, waits: bool)
+    requires { place < 64 }
+    ensures { (es fs : List Entry) (e : Entry) (more : ℕ) → words.old ≡ kinds_of fs ++ word_of is_waiting es ∷ more ∷ [] → place ≡ length es → waits ≡ is_waiting e →
+        words.new ≡ kinds_of fs ++ word_of is_waiting (es ++ e ∷ []) ∷ more ∷ [] }
+{
+    words[WAITING] = push(words[WAITING], place, waits);
+}
+
+/// The oldest entry leaves the words.
+#[inline(always)]
+fn drop_oldest(words: &mut [u64; 8])
+    ensures { (es : List Entry) → words.old ≡ words_of es → words.new ≡ words_of (drop 1 es) }
+{
+    *words = without_first_of_each(*words);
 }
 
 /// Whether an entry waits for issue.

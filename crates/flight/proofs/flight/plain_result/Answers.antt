@@ -24,10 +24,10 @@ gives (Goes s) = refl
 gives (Stops why) = refl
 
 pub returns-clause-followed : goal.returns-clause-followed
-returns-clause-followed c step is = subst (λ o. GoesOnAt c.args.entry.now.followed o) is (goes-on (execution_of c.args.entry.now.stage).outcome c.in_ok-step.step c.args.entry.now.followed (sym c.step.ensures ∙ c.in_ok-step.was) c.if-entry-step.false)
+returns-clause-followed c step is = subst (λ o. GoesOnAt c.args.entry.now.followed o) is (goes-on (execution_of c.args.entry.now.stage).outcome c.in_ok-step.step c.args.entry.now.followed (sym c.step.ensures ∙ c.in_ok-step.was) (c.if-not-goes_where_followed.ensures refl))
 
 pub returns-clause-goes_on : goal.returns-clause-goes_on
-returns-clause-goes_on c = goes-on (execution_of c.args.entry.now.stage).outcome c.in_ok-step.step c.args.entry.now.followed (sym c.step.ensures ∙ c.in_ok-step.was) c.if-entry-step.false
+returns-clause-goes_on c = goes-on (execution_of c.args.entry.now.stage).outcome c.in_ok-step.step c.args.entry.now.followed (sym c.step.ensures ∙ c.in_ok-step.was) (c.if-not-goes_where_followed.ensures refl)
 
 pub returns-clause-result : goal.returns-clause-result
 returns-clause-result c = gives (execution_of c.args.entry.now.stage).outcome ∙ ap result_of_step (sym c.step.ensures ∙ c.in_ok-step.was)

@@ -1,17 +1,15 @@
-use mir.Val.{bool_byte}
-use Rattle.std.proofs.Common.{◌≡◌, ◌+◌, ◌-◌, ◌<◌, ℕ, true, length, slice_set, ap, sym, ◌∙◌, refl}
+use Rattle.std.proofs.Common.{◌≡◌, ◌+◌, ◌<◌, ℕ, true, length, slice_set, ap, sym, ◌∙◌, refl}
 use Rattle.circular_buffer.specs.Buffer.{Buffer}
 use Rattle.core_view.specs.declared.entry.Entry.{Entry}
 use Rattle.core_view.specs.declared.entry.Execution.{Execution}
 use Rattle.core_view.specs.declared.entry.Stage.TheVariants.{Issued}
 use Rattle.core_view.specs.declared.operation.Operation.{Operation}
 use Rattle.core_view.specs.declared.operation.Operation.TheVariants.{Performs, Stops}
-use Rattle.core_view.specs.Operations.{is_guessed}
 use Rattle.core_view.specs.Events.{with_stage, renamed_stage}
 use Rattle.core_view.specs.Queues.{is_renamed}
 use Rattle.flight.specs.Flights.{renamed_one}
 use Rattle.flight.proofs.Kept.{flight_of, flight-renamed}
-use Rattle.flight.proofs.Ahead.{guesses-renamed}
+use Rattle.flight.proofs.Ahead.{guesses-set-first}
 use Rattle.flight.proofs.flight.Flight.rename.Goals as goal
 
 renamed : (cycle : ℕ) (o : Operation) → is_renamed (renamed_stage cycle o) ≡ true
@@ -25,13 +23,13 @@ idle cycle (Stops why) x is = cc
 pub invariant_of-self : goal.invariant_of-self
 invariant_of-self g c =
     let stage = ap (λ (e : Entry). e.stage) c.renamed-entry.ensures in
-    let same = ap (λ (e : Entry). is_guessed e.operation) (c.renamed-entry.ensures) ∙ ap (λ (e : Entry). is_guessed e.operation) c.at.ensures in
+    let same = ap (λ (e : Entry). e.operation) c.renamed-entry.ensures ∙ ap (λ (e : Entry). e.operation) c.at.ensures in
     let made = ap (λ (b : Buffer Entry). b.items) c.set_in.ensures in
     let some : c.self.inside.renamed < length c.self.inside.ring.items = rw (← c.self.view_is) at c.requires.some in
     let few : c.self.inside.renamed < 64 = rw (← c.self.view_is) at c.requires.few in (
       flight-renamed _ _ c.renamed-entry.result _ _ _ _ _ c.self.invariant.0 some few (ap is_renamed stage ∙ renamed c.args.cycle c.at.result.now.operation) (λ x is. idle c.args.cycle c.at.result.now.operation x (sym stage ∙ is)) made
           (λ xs was long room. c.push.ensures xs was long),
-      ap (λ n. c.self.inside.guessed - n) (c.from.ensures ∙ ap bool_byte c.is_guessed.ensures) ∙ guesses-renamed _ _ _ _ c.renamed-entry.result c.self.invariant.1 some same made,
+      guesses-set-first _ c.self.inside.renamed c.self.inside.ring.items _ c.renamed-entry.result (c.guesses_left-self-inside.ensures c.self.inside.renamed c.self.inside.ring.items c.self.invariant.1 some same) made,
     )
 
 pub returns : goal.returns
