@@ -1,13 +1,14 @@
 -- The extra registers in use are the instructions with a destination.
-use Rattle.std.proofs.Common.{◌≡◌, ℕ, ◌+◌, Bool, true, false, not, cond, List, [], ◌∷◌, length, map, Option, refl, ap, subst, ◌∙◌, arith}
+use Rattle.std.proofs.Common.{◌≡◌, ℕ, ◌+◌, Bool, true, false, not, cond, List, [], ◌∷◌, length, map, Option, refl, ap, sym, subst, ◌∙◌, arith}
 use Rattle.std.specs.Prelude.{sum_by, count_by, ◌==◌, if◌then◌else◌}
 use Rattle.std.proofs.lemmas.List.Sums.{sum_by-cons}
 use Rattle.rename_file.specs.File.{Bank, rename_count}
+use Rattle.issue_queue.specs.Entry.{Entry}
 use Rattle.circular_buffer.specs.Buffer.{Buffer}
 use Rattle.data_flow.specs.declared.operands.Renamed.{Renamed}
 use Rattle.data_flow.specs.declared.data_flow.DataFlow.TheInside.{Inside}
-use Rattle.data_flow.specs.Flow.{Node, Flow, takes, taken_in, taken}
-use Rattle.data_flow.specs.Wired.{node_of, lane_of, lanes_of, renames_of, AreTied, IsWiredUp, flow}
+use Rattle.data_flow.specs.Flow.{Node, Flow, Waiter, takes, taken_in, taken}
+use Rattle.data_flow.specs.Wired.{waiter_of, node_of, lane_of, lanes_of, renames_of, AreTied, IsWiredUp, flow}
 
 pub counted : (cells : List (Option ℕ)) (ns : List Renamed) → count_by takes (map (node_of cells) ns) ≡ length (renames_of ns)
 counted cells [] = refl
@@ -29,3 +30,11 @@ pub free_left : {A : Type 0} (d : Inside A) (now : Flow) (k : ℕ) → flow d �
 free_left d now k shows up is =
     let count : taken (flow d) ≡ rename_count d.registers = counted_all d.registers.cells d.registers.banks d.renamed up.tied in
     subst (λ (f : Flow). k + taken f ≡ f.extra) shows (omega (arith, count, up.file.extra, is))
+
+-- ---- what waits
+
+pub count_waiters : (p : Waiter → Bool) (es : List Entry) → count_by (λ e. p (waiter_of e)) es ≡ count_by p (map waiter_of es)
+count_waiters p [] = refl
+count_waiters p (e ∷ es) =
+    sum_by-cons (λ (x : Entry). cond (p (waiter_of x)) 1 0) e es ∙ ap (λ n. cond (p (waiter_of e)) 1 0 + n) (count_waiters p es)
+    ∙ sym (sum_by-cons (λ (x : Waiter). cond (p x) 1 0) (waiter_of e) (map waiter_of es))

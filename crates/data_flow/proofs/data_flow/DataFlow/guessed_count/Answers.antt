@@ -1,0 +1,10 @@
+use Rattle.std.proofs.Common.{ap, ◌∙◌}
+use Rattle.std.specs.Prelude.{count_by, ◌==◌, ◌&&◌}
+use Rattle.data_flow.specs.Flow.{Flow, Waiter}
+use Rattle.data_flow.proofs.Counts.{count_waiters}
+use Rattle.data_flow.proofs.data_flow.DataFlow.guessed_count.Goals as goal
+
+pub returns : goal.returns
+returns g c =
+    c.guessed_count.ensures ∙ count_waiters (λ (w : Waiter). (w.context == c.args.context) && w.guessed) c.self.inside.queue.entries
+    ∙ ap (λ (f : Flow). count_by (λ (w : Waiter). (w.context == c.args.context) && w.guessed) f.waiters) c.self.view_is
