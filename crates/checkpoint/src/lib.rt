@@ -1,7 +1,7 @@
 //! Marks: how far contexts have come, each always on its trajectory of plain RV64I.
 #![tactic(auto)]
 
-ghost use Rattle.std.specs.Prelude.{◌≡◌, ◌↔◌, ◌+◌, ◌^◌, ◌≤◌, ◌<◌, ℕ, max, IsTrue, IfOk, IfErr, IfNone, IfSome, OnErr, Some, Err};
+ghost use Rattle.std.specs.Prelude.{◌≡◌, ◌↔◌, ◌+◌, ◌^◌, ◌≤◌, ℕ, max, IsTrue, IfOk, IfErr, OnErr, Some, Err};
 ghost use Rattle.std.specs.Arc.{arc_value};
 ghost use Rattle.checkpoint.specs.Further.{MarkKin, IsUnjoinable, further, mark_laws};
 ghost use Rattle.checkpoint.specs.Furthest.{IsFurthest};
