@@ -164,7 +164,7 @@ impl<A: Allocator> Flight<A> {
         self.marks.push(self.renamed, &entry);
         self.slots[(entry.stamp % 256) as usize] = slot_of(self.base, self.renamed) as u8;
         self.renamed += 1;
-        self.guessed = guesses_left(self.guessed, &entry);
+        self.guessed = guesses_left(self.guessed, entry.operation.is_guessed());
     }
 
     /// The oldest fetched entry, which doesn't stop at fetch, is renamed: it waits for issue.
@@ -182,7 +182,7 @@ impl<A: Allocator> Flight<A> {
         self.marks.push_queued(place, &entry);
         self.slots[(entry.stamp % 256) as usize] = slot_of(self.base, place) as u8;
         self.renamed = place + 1;
-        self.guessed = guesses_left(self.guessed, &entry);
+        self.guessed = guesses_left(self.guessed, entry.operation.is_guessed());
     }
 
     /// The entry at a place, which waits for issue, issues.
@@ -313,7 +313,7 @@ impl<A: Allocator> Flight<A> {
     {
         let place = place_of(self.base, self.slots[(stamp % 256) as usize]);
         let entry = self.get(place)?;
-        if is_waiting_as(entry, stamp) {
+        if entry.stamp == stamp && is_waiting(entry) {
             Some(place)
         } else {
             None
@@ -584,15 +584,6 @@ fn at<A: Allocator>(ring: &Ring<Entry, A>, place: usize) -> &Entry
     entry
 }
 
-/// Whether an entry has a stamp and waits for issue.
-#[inline(always)]
-fn is_waiting_as(entry: &Entry, stamp: u64) -> bool
-    ensures stamp { IsTrue result → entry.now.stamp ≡ stamp }
-    ensures waits { IsTrue result → is_waiting entry.now ≡ true }
-{
-    entry.stamp == stamp && is_waiting(entry)
-}
-
 /// An entry is pushed into a ring with room.
 #[inline]
 fn push_in<A: Allocator>(ring: &mut Ring<Entry, A>, entry: Entry)
@@ -717,12 +708,12 @@ fn goes_where_followed(entry: &Entry, step: &Step) -> bool
     entry.followed == step.next
 }
 
-/// How many of so many guessed entries are left without one, the first of them if it is guessed.
+/// How many of the entries ahead are guessed, of so many, without the first of them, guessed or not.
 #[inline(always)]
-fn guesses_left(guessed: usize, entry: &Entry) -> usize
-    ensures { (r : ℕ) (es : List Entry) → guessed ≡ guesses_ahead r es → r < length es → entry.now.operation ≡ (entry_in es r).operation → result ≡ guesses_ahead (r + 1) es }
+fn guesses_left(guessed: usize, first: bool) -> usize
+    ensures { (r : ℕ) (es : List Entry) → guessed ≡ guesses_ahead r es → r < length es → first ≡ is_guessed (entry_in es r).operation → result ≡ guesses_ahead (r + 1) es }
 {
-    guessed.wrapping_sub(usize::from(entry.operation.is_guessed()))
+    guessed.wrapping_sub(usize::from(first))
 }
 
 /// How many entries from a place on are guessed.

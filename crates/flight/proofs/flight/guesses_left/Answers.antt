@@ -1,9 +1,7 @@
 use mir.Val.{bool_byte}
 use Rattle.std.proofs.Common.{ap, refl, ◌∙◌}
-use Rattle.core_view.specs.declared.operation.Operation.{Operation}
-use Rattle.core_view.specs.Operations.{is_guessed}
 use Rattle.flight.proofs.Ahead.{guesses-less}
 use Rattle.flight.proofs.flight.guesses_left.Goals as goal
 
 pub returns : goal.returns
-returns c r es is within same = guesses-less c.args.guessed r es c.from.result _ is c.ranges.guessed.fits within (c.from.ensures ∙ ap bool_byte c.is_guessed.ensures ∙ ap (λ (o : Operation). bool_byte (is_guessed o)) same) refl
+returns c r es is within same = guesses-less c.args.guessed r es c.from.result _ is c.ranges.guessed.fits within (c.from.ensures ∙ ap bool_byte same) refl

@@ -20,11 +20,11 @@ found [] i = refl
 found (d ∷ es) zero = refl
 found (d ∷ es) (suc i) = found es i
 
-pub returns-then-is_waiting_as-clause-within : goal.returns-then-is_waiting_as-clause-within
-returns-then-is_waiting_as-clause-within g c = there c.args.self.now.entries c.place_of-place.result c.in_ok-entry.entry.now (sym c.get.ensures ∙ ap option_copied c.in_ok-entry.was)
+pub returns-then-is_waiting-clause-within : goal.returns-then-is_waiting-clause-within
+returns-then-is_waiting-clause-within g c = there c.args.self.now.entries c.place_of-place.result c.in_ok-entry.entry.now (sym c.get.ensures ∙ ap option_copied c.in_ok-entry.was)
 
-pub returns-then-is_waiting_as-clause-stamp : goal.returns-then-is_waiting_as-clause-stamp
-returns-then-is_waiting_as-clause-stamp g c = ap (λ (e : Entry). e.stamp) (found c.args.self.now.entries c.place_of-place.result ∙ ap entry_or (sym c.get.ensures ∙ ap option_copied c.in_ok-entry.was)) ∙ c.if-is_waiting_as.ensures.stamp refl
+pub returns-then-is_waiting-clause-stamp : goal.returns-then-is_waiting-clause-stamp
+returns-then-is_waiting-clause-stamp g c = ap (λ (e : Entry). e.stamp) (found c.args.self.now.entries c.place_of-place.result ∙ ap entry_or (sym c.get.ensures ∙ ap option_copied c.in_ok-entry.was)) ∙ c.if-entry-stamp.true
 
-pub returns-then-is_waiting_as-clause-waits : goal.returns-then-is_waiting_as-clause-waits
-returns-then-is_waiting_as-clause-waits g c = ap is_waiting (found c.args.self.now.entries c.place_of-place.result ∙ ap entry_or (sym c.get.ensures ∙ ap option_copied c.in_ok-entry.was)) ∙ c.if-is_waiting_as.ensures.waits refl
+pub returns-then-is_waiting-clause-waits : goal.returns-then-is_waiting-clause-waits
+returns-then-is_waiting-clause-waits g c = ap is_waiting (found c.args.self.now.entries c.place_of-place.result ∙ ap entry_or (sym c.get.ensures ∙ ap option_copied c.in_ok-entry.was)) ∙ sym c.is_waiting.ensures ∙ c.if-is_waiting.true

@@ -5,6 +5,7 @@ use Rattle.core_view.specs.declared.entry.Execution.{Execution}
 use Rattle.core_view.specs.declared.entry.Stage.TheVariants.{Issued}
 use Rattle.core_view.specs.declared.operation.Operation.{Operation}
 use Rattle.core_view.specs.declared.operation.Operation.TheVariants.{Performs, Stops}
+use Rattle.core_view.specs.Operations.{is_guessed}
 use Rattle.core_view.specs.Events.{with_stage, renamed_stage}
 use Rattle.core_view.specs.Queues.{is_renamed}
 use Rattle.flight.specs.Flights.{renamed_one}
@@ -29,7 +30,7 @@ invariant_of-self g c =
     let few : c.self.inside.renamed < 64 = rw (← c.self.view_is) at c.requires.few in (
       flight-renamed _ _ c.renamed-entry.result _ _ _ _ _ c.self.invariant.0 some few (ap is_renamed stage ∙ renamed c.args.cycle c.at.result.now.operation) (λ x is. idle c.args.cycle c.at.result.now.operation x (sym stage ∙ is)) made
           (λ xs was long room. c.push.ensures xs was long),
-      guesses-set-first _ c.self.inside.renamed c.self.inside.ring.items _ c.renamed-entry.result (c.guesses_left-self-inside.ensures c.self.inside.renamed c.self.inside.ring.items c.self.invariant.1 some same) made,
+      guesses-set-first _ c.self.inside.renamed c.self.inside.ring.items _ c.renamed-entry.result (c.guesses_left-self-inside.ensures c.self.inside.renamed c.self.inside.ring.items c.self.invariant.1 some (c.is_guessed.ensures ∙ ap is_guessed same)) made,
     )
 
 pub returns : goal.returns
