@@ -1,6 +1,7 @@
 //! The jobs of a plan, one after another.
-ghost use Rattle.std.specs.Prelude.{◌≡◌, [], IfOk};
+ghost use Rattle.std.specs.Prelude.{◌≡◌, List, [], ◌∷◌, ◌++◌, IfOk};
 ghost use Rattle.checkpoint.specs.Aligned.{IsAligned};
+ghost use Rattle.lab_plan.specs.declared.job.Job.{Job};
 ghost use Rattle.lab_pool.specs.Allowed.{AreJobResults};
 ghost use Rattle.lab_pool.specs.Book.{book_after};
 
@@ -29,15 +30,57 @@ pub fn run_in_order(
     ensures jobs { IfOk result (λ done. AreJobResults opening [] plan.now.jobs done.jobs.items) }
     ensures book { IfOk result (λ done. done.marks ≡ book_after opening done.jobs.items) }
 {
-    let mut book = copy_of(alloc, &opening).map_err(|_| PoolFault::OutOfMemory)?;
     let planned = plan.jobs();
-    let mut jobs = Vec::with_capacity(alloc, planned.len()).map_err(|_| PoolFault::OutOfMemory)?;
+    let begun = before_jobs(alloc, planned.len(), &opening)?;
+    run_jobs(alloc, planned, &opening, begun)
+}
+
+/// What there is before any of so many jobs: the book is the opening.
+fn before_jobs(alloc: Global, count: usize, opening: &Eight<Mark>) -> Result<LabResult, PoolFault>
+    ensures none { IfOk result (λ begun. begun.jobs.items ≡ []) }
+    ensures book { IfOk result (λ begun. begun.marks ≡ opening.now) }
+{
+    let jobs = Vec::with_capacity(alloc, count).map_err(|_| PoolFault::OutOfMemory)?;
+    let marks = copy_of(alloc, opening).map_err(|_| PoolFault::OutOfMemory)?;
+    Ok(LabResult { marks, jobs })
+}
+
+/// Runs jobs in order, after none.
+fn run_jobs(
+    alloc: Global,
+    planned: &[Job],
+    opening: &Eight<Mark>,
+    begun: LabResult,
+) -> Result<LabResult, PoolFault>
+    requires aligned { IsAligned opening.now }
+    requires none { begun.jobs.items ≡ [] }
+    requires book { begun.marks ≡ opening.now }
+    ensures jobs { IfOk result (λ done. AreJobResults opening.now [] planned.now done.jobs.items) }
+    ensures book { IfOk result (λ done. done.marks ≡ book_after opening.now done.jobs.items) }
+{
+    let mut done = begun;
     for job in planned {
-        let (after, end) = run_job(alloc, job, &opening, book);
-        book = after;
-        let result = result_of(job, end);
-        jobs.push(result).map_err(|_| PoolFault::OutOfMemory)?;
+        done = run_next(alloc, job, opening, done)?;
     }
+    Ok(done)
+}
+
+/// Runs one job more, after those that are done.
+fn run_next(
+    alloc: Global,
+    job: &Job,
+    opening: &Eight<Mark>,
+    done: LabResult,
+) -> Result<LabResult, PoolFault>
+    requires aligned { IsAligned opening.now }
+    requires book { done.marks ≡ book_after opening.now done.jobs.items }
+    ensures jobs { IfOk result (λ after. (js : List Job) → AreJobResults opening.now [] js done.jobs.items → AreJobResults opening.now [] (js ++ job.now ∷ []) after.jobs.items) }
+    ensures book { IfOk result (λ after. after.marks ≡ book_after opening.now after.jobs.items) }
+{
+    let LabResult { marks, mut jobs } = done;
+    let (book, end) = run_job(alloc, job, opening, marks);
+    let result = result_of(job, end);
+    jobs.push(result).map_err(|_| PoolFault::OutOfMemory)?;
     Ok(LabResult { marks: book, jobs })
 }
 

@@ -120,12 +120,7 @@ fn target_of(job: &Job, start: &Eight<Mark>, context: Ctx) -> u64
 }
 
 /// The core of a job, which starts at marks, unless memory is refused.
-fn core_of(
-    alloc: Global,
-    job: &Job,
-    marks: Eight<Mark>,
-    targets: [u64; 8],
-) -> Option<JobCore>
+fn core_of(alloc: Global, job: &Job, marks: Eight<Mark>, targets: [u64; 8]) -> Option<JobCore>
     requires aligned { IsAligned marks }
     requires targets { (c : ℕ) → c < 8 → slice_index targets c ≤ 2 ^ 60 }
     ensures first { IfSome result (λ core. IsFirst job.now.profile marks targets (shown core)) }
