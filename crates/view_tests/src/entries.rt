@@ -1,6 +1,7 @@
 //! Operations, outcomes and entries of programs whose figures are known.
 ghost use Rattle.std.specs.Prelude.{◌≡◌};
 
+use crate::equal::assert_equal;
 use core_view::{
     Access, Bytes, CycleNote, Decoded, Entry, Execution, Operation, OperationKind, Outcome,
     Progress, Span, Stage, Status, Step, access_fault, goes_to, write_access,
@@ -86,7 +87,7 @@ fn operation_at(rt: &impl Abort, alloc: Global, words: &[u32], pc: u64) -> Opera
 fn operations_of_texts(rt: HostRuntime) {
     for (words, pc, wanted) in STANDS {
         let found = operation_at(&rt, rt.alloc(), *words, *pc);
-        assert_eq!(rt; found, operation(*wanted), "at {pc}");
+        assert_equal(&rt, (*pc, found), (*pc, operation(*wanted)));
     }
 }
 
@@ -104,7 +105,7 @@ const KINDS: &[(u32, OperationKind)] = &[
 #[test]
 fn what_a_decoded_operation_tells(rt: HostRuntime) {
     for (word, kind) in KINDS {
-        assert_eq!(rt; Decoded::new(performs(*word)).kind(), *kind);
+        assert_equal(&rt, Decoded::new(performs(*word)).kind(), *kind);
     }
     let it = Decoded::new(performs(SW));
     let others = [
@@ -115,11 +116,12 @@ fn what_a_decoded_operation_tells(rt: HostRuntime) {
     ];
     assert!(rt; it.is_store() && others == [false; 4]);
     let [first, second] = [it.first_source(), it.second_source()];
-    assert_eq!(rt;
+    assert_equal(
+        &rt,
         [first.index(), second.index(), it.destination().index()],
-        [11, 10, 0]
+        [11, 10, 0],
     );
-    assert_eq!(rt; *it.operation(), performs(SW));
+    assert_equal(&rt, *it.operation(), performs(SW));
 }
 
 /// A word at a pc on the values of its sources, and the value and the next pc that it computes.
@@ -184,7 +186,8 @@ const COMPUTED: &[Computed] = &[
 fn what_a_decoded_operation_computes(rt: HostRuntime) {
     for (word, pc, first, second, wanted) in COMPUTED {
         let it = Decoded::new(performs(*word));
-        assert_eq!(rt; it.compute(*pc, *first, *second), *wanted, "{word} at {pc}");
+        let found = it.compute(*pc, *first, *second);
+        assert_equal(&rt, (*word, *pc, found), (*word, *pc, *wanted));
     }
 }
 
@@ -309,7 +312,8 @@ fn outcomes(rt: HostRuntime) {
             Ok((value, next)) => goes(value, next),
             Err(why) => Outcome::Stops { why },
         };
-        assert_eq!(rt; outcome(*word, *pc, *source), Some(wanted), "{word:#x}");
+        let found = outcome(*word, *pc, *source);
+        assert_equal(&rt, (*word, found), (*word, Some(wanted)));
     }
 }
 
@@ -335,23 +339,30 @@ fn stages_of_the_first(rt: HostRuntime) {
     let done = issued.completed();
     assert_eq!(rt; fetched.queued(), renamed);
     assert_eq!(rt; issued.settled(), done);
-    assert_eq!(rt;
+    assert_equal(
+        &rt,
         [fetched, renamed, issued, done].map(|entry| entry.stage.to_stage()),
         [
             Stage::Fetched,
             Stage::Queued,
             Stage::Issued { execution },
-            Stage::Done { execution }
-        ]
+            Stage::Done { execution },
+        ],
     );
-    assert_eq!(rt;
+    assert_equal(
+        &rt,
         [2, 3].map(|cycle| issued.stage.is_due(cycle)),
-        [false, true]
+        [false, true],
     );
-    assert_eq!(rt; (issued.stage.due(), issued.stage.has_missed()), (3, false));
-    assert_eq!(rt;
+    assert_equal(
+        &rt,
+        (issued.stage.due(), issued.stage.has_missed()),
+        (3, false),
+    );
+    assert_equal(
+        &rt,
         (done.stage.step(), done.stage.stop()),
-        (Some(value_and_next(10, 0x10004)), None)
+        (Some(value_and_next(10, 0x10004)), None),
     );
     assert!(rt; !issued.stage.is_done() && done.stage.is_done() && done.followed == 0x10004);
 }
@@ -362,16 +373,17 @@ fn branch_and_end_of_countdown(rt: HostRuntime) {
     let entry = Entry::new(2, 0, 0x10008, branch, 0x1000C);
     let back = entry.is_mispredicted(&value_and_next(0, 0x10004));
     let on = entry.is_mispredicted(&value_and_next(0, 0x1000C));
-    assert_eq!(rt; [back, on], [true, false]);
+    assert_equal(&rt, [back, on], [true, false]);
     let turned = entry.issued(due_in(5, goes(0, 0x10004))).completed();
     let stop = Decoded::new(Operation::Stops { why: Stop::Ecall });
     let done = Entry::new(3, 0, 0x1000C, stop, 0x10010).renamed(2);
     let execution = due_in(2, Outcome::Stops { why: Stop::Ecall });
-    assert_eq!(rt;
+    assert_equal(
+        &rt,
         (done.stage.to_stage(), done.stage.step(), done.stage.stop()),
-        (Stage::Done { execution }, None, Some(Stop::Ecall))
+        (Stage::Done { execution }, None, Some(Stop::Ecall)),
     );
-    assert_eq!(rt; [turned.followed, done.followed], [0x10004, 0x10010]);
+    assert_equal(&rt, [turned.followed, done.followed], [0x10004, 0x10010]);
 }
 
 fn store_of(width: StoreWidth, address: u64, value: u64) -> Effect {
@@ -404,15 +416,17 @@ fn store_faults(rt: HostRuntime) {
         fault_at(&memory, 0x100001),
         fault_at(&memory, 0x100000),
     ];
-    assert_eq!(rt;
+    assert_equal(
+        &rt,
         found,
-        [Some(Fault::StoreAccess), Some(Fault::StoreMisaligned), None]
+        [Some(Fault::StoreAccess), Some(Fault::StoreMisaligned), None],
     );
     let text = store_of(StoreWidth::Double, 0x10000, 0);
     let why = Stop::StoreAccess;
-    assert_eq!(rt;
+    assert_equal(
+        &rt,
         Outcome::of_effect(0x10004, text, Err(Fault::StoreAccess)),
-        Outcome::Stops { why }
+        Outcome::Stops { why },
     );
 }
 
@@ -438,7 +452,7 @@ fn byte_over_a_doubleword(rt: HostRuntime) {
         Access::Writes { bytes: one_byte() },
     );
     let loaded = memory.load(0x100000, Width::Double);
-    assert_eq!(rt; loaded, Ok(0x1122_3344_5566_77FF));
+    assert_equal(&rt, loaded, Ok(0x1122_3344_5566_77FF));
 }
 
 #[test]
@@ -456,22 +470,23 @@ fn spans_and_bytes_of_accesses(rt: HostRuntime) {
     let reads = Access::Reads { span };
     let stores = accessing(0, 0x1000C, writes);
     let loads = accessing(0xFFFF_FFFF_FFFF_FF80, 0x10004, reads);
-    assert_eq!(rt; [stored, loaded], [stores, loads]);
-    assert_eq!(rt; [writes.bytes(), issued.bytes()], [Some(bytes), None]);
-    assert_eq!(rt; [issued.span(), reads.span()], [Some(span); 2]);
-    assert_eq!(rt; [writes.span(), Access::Free.span()], [None; 2]);
+    assert_equal(&rt, [stored, loaded], [stores, loads]);
+    assert_equal(&rt, [writes.bytes(), issued.bytes()], [Some(bytes), None]);
+    assert_equal(&rt, [issued.span(), reads.span()], [Some(span); 2]);
+    assert_equal(&rt, [writes.span(), Access::Free.span()], [None; 2]);
 }
 
 #[test]
 fn statuses_and_an_empty_note(rt: HostRuntime) {
     let stopped = Status::Stopped { why: Stop::Ecall };
-    assert_eq!(rt;
+    assert_equal(
+        &rt,
         [Status::at(3, 4), Status::at(4, 4)],
-        [Status::Running, Status::Parked]
+        [Status::Running, Status::Parked],
     );
     assert!(rt; Status::at(0, 1).is_running() && !stopped.is_running());
     let note = CycleNote::new();
     let entries = [note.fetched.len(), note.renamed.len(), note.retired.len()];
     assert!(rt; entries == [0; 3] && note.issued.is_empty());
-    assert_eq!(rt; (note.completed, note.cut), (0, 0));
+    assert_equal(&rt, (note.completed, note.cut), (0, 0));
 }

@@ -4,4 +4,6 @@
 #[cfg(test)]
 mod entries;
 #[cfg(test)]
+mod equal;
+#[cfg(test)]
 mod spans;

@@ -1,6 +1,7 @@
 //! Spans that touch at their ends, and what loads take of stores. The values follow from the
 //! addresses and from the bytes of a value, least first.
 
+use crate::equal::assert_equal;
 use core_view::{Bytes, Span};
 
 /// The last address.
@@ -27,7 +28,8 @@ const HOLDS: &[(Ends, u64, bool)] = &[
 #[test]
 fn spans_hold_their_addresses(rt: HostRuntime) {
     for (it, address, want) in HOLDS {
-        assert!(rt; span(*it).contains(*address) == *want, "{address:#x}");
+        let found = span(*it).contains(*address);
+        assert_equal(&rt, (*address, found), (*address, *want));
     }
 }
 
@@ -46,12 +48,9 @@ const SHARES: &[(Ends, Ends, bool)] = &[
 #[test]
 fn spans_share_a_first_or_last_byte(rt: HostRuntime) {
     for (one, other, want) in SHARES {
-        let [one, other] = [span(*one), span(*other)];
-        assert_eq!(rt;
-            [one.shares(other), other.shares(one)],
-            [*want; 2],
-            "{one:?}"
-        );
+        let [left, right] = [span(*one), span(*other)];
+        let found = [left.shares(right), right.shares(left)];
+        assert_equal(&rt, (*one, found), (*one, [*want; 2]));
     }
 }
 
@@ -69,7 +68,8 @@ const COVERS: &[(Ends, Ends, bool)] = &[
 #[test]
 fn spans_cover_what_lies_within(rt: HostRuntime) {
     for (one, other, want) in COVERS {
-        assert!(rt; span(*one).covers(span(*other)) == *want, "{other:?}");
+        let found = span(*one).covers(span(*other));
+        assert_equal(&rt, (*other, found), (*other, *want));
     }
 }
 
@@ -105,6 +105,7 @@ fn loads_take_their_part(rt: HostRuntime) {
             span: span(*stored),
             value: *value,
         };
-        assert_eq!(rt; store.part(span(*loaded)), *want, "{loaded:?}");
+        let found = store.part(span(*loaded));
+        assert_equal(&rt, (*loaded, found), (*loaded, *want));
     }
 }
