@@ -1,5 +1,6 @@
 //! The predictor's table, by the guesses that it gives.
 
+use crate::equal::assert_equal;
 use branch_predict::{Always, Guess, Sequential, Tables};
 use join_law::Ctx;
 use rv64_decode::{AluOp, BranchCondition, BranchOffset, Immediate, Insn, JumpOffset, Register};
@@ -194,15 +195,13 @@ fn goes_on<G: Guess>(guess: &mut G, step: &Step) -> (u64, u64) {
 fn assert_script<G: Guess>(rt: &impl Abort, guess: &mut G, script: &[Step]) {
     for (number, step) in script.iter().enumerate() {
         let (found, want) = goes_on(guess, step);
-        assert_eq!(rt; found, want, "step {number}");
+        assert_equal(rt, (number, found), (number, want));
     }
 }
 
 /// New tables give the script's guesses.
 fn assert_tables(rt: &impl Abort, alloc: Global, script: &[Step]) {
-    let Ok(mut tables) = Tables::new(alloc) else {
-        panic!(rt; "out of memory");
-    };
+    let mut tables = Tables::new(alloc).expect(rt, "memory");
     assert_script(rt, &mut tables, script);
 }
 

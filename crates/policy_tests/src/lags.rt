@@ -1,4 +1,5 @@
 //! Lags by the table of kinds and tags.
+use crate::equal::assert_equal;
 use core_profile::Profile;
 use data_tags::{Alternating, Delay, Flat, Kind, Lag, Latencies, Tags};
 use join_law::Ctx;
@@ -176,11 +177,10 @@ const OTHER_KINDS_TOUCH_NO_TAG: &[Issued] = &[
 fn assert_lags<D: Delay>(rt: &impl Abort, delay: &mut D, table: &[Issued]) {
     for it in table {
         let lag = delay.delay(Ctx::all()[it.context % 8], it.kind, it.address);
-        assert_eq!(rt;
-            (lag.cycles, lag.miss),
-            (it.cycles, it.miss),
-            "{}",
-            it.address
+        assert_equal(
+            rt,
+            (it.address, lag.cycles, lag.miss),
+            (it.address, it.cycles, it.miss),
         );
     }
 }
@@ -189,16 +189,14 @@ fn assert_lags<D: Delay>(rt: &impl Abort, delay: &mut D, table: &[Issued]) {
 fn lags_of_no_table(rt: HostRuntime) {
     let mut flat = Flat::new(latencies());
     let mut alternating = Alternating { long: false };
-    assert_eq!(rt; [flat.greatest(), alternating.greatest()], [20, 200]);
+    assert_equal(&rt, [flat.greatest(), alternating.greatest()], [20, 200]);
     assert_lags(&rt, &mut flat, FLAT);
     assert_lags(&rt, &mut alternating, ALTERNATING);
 }
 
 // New tags give the lags of the table.
 fn assert_tags(rt: &impl Abort, alloc: Global, table: &[Issued]) {
-    let Ok(mut tags) = Tags::new(alloc, latencies()) else {
-        panic!(rt; "out of memory");
-    };
+    let mut tags = Tags::new(alloc, latencies()).expect(rt, "memory");
     assert!(rt; tags.greatest() == 20);
     assert_lags(rt, &mut tags, table);
 }
@@ -230,7 +228,7 @@ fn cycles(latencies: &Latencies) -> [u8; 5] {
 #[test]
 fn a_default_profile_has_its_latencies(rt: HostRuntime) {
     let latencies = Latencies::from(&Profile::default());
-    assert_eq!(rt; cycles(&latencies), [1, 1, 1, 1, 20]);
+    assert_equal(&rt, cycles(&latencies), [1, 1, 1, 1, 20]);
     assert!(rt; latencies.greatest() == 20);
 }
 
@@ -250,6 +248,6 @@ fn greatest_with_9_at(place: u8) -> u8 {
 #[test]
 fn greatest_is_that_of_five(rt: HostRuntime) {
     for place in 0..5 {
-        assert_eq!(rt; greatest_with_9_at(place), 9, "{place}");
+        assert_equal(&rt, (place, greatest_with_9_at(place)), (place, 9));
     }
 }

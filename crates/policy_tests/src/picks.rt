@@ -3,6 +3,7 @@
 ghost use Rattle.std.specs.Prelude.{◌≤◌};
 ghost use Rattle.fetch_policy.specs.Least.{AreRanks};
 
+use crate::equal::assert_equal;
 use core_profile::FetchPolicy;
 use fetch_policy::{
     Brcount, FetchContext, FetchView, Icount, Iqposn, Misscount, NO_COUNT, NO_KEY, NamedPick, Pick,
@@ -55,9 +56,10 @@ fn picked<P: Pick>(pick: &P, view: &FetchView, num1: u8) -> [usize; 4]
 fn icount_takes_the_fewest_entries(rt: HostRuntime) {
     let view = with_entries(3, [4, 0, 2, 0, 9, 9, 9, 9]);
     let named = NamedPick::from(FetchPolicy::Icount);
-    assert_eq!(rt;
+    assert_equal(
+        &rt,
         [picked(&Icount, &view, 2), picked(&named, &view, 4)],
-        [[3, 1, 9, 9], [3, 1, 2, 0]]
+        [[3, 1, 9, 9], [3, 1, 2, 0]],
     );
 }
 
@@ -66,13 +68,14 @@ fn iqposn_takes_the_farthest_from_the_front(rt: HostRuntime) {
     let all = with_queue([true; 8]);
     let three = with_queue([true, false, true, false, false, true, false, false]);
     let named = NamedPick::from(FetchPolicy::Iqposn);
-    assert_eq!(rt;
+    assert_equal(
+        &rt,
         [
             picked(&Iqposn, &all, 4),
             picked(&Iqposn, &three, 4),
-            picked(&named, &three, 1)
+            picked(&named, &three, 1),
         ],
-        [[6, 7, 1, 3], [0, 5, 2, 9], [0, 9, 9, 9]]
+        [[6, 7, 1, 3], [0, 5, 2, 9], [0, 9, 9, 9]],
     );
 }
 
@@ -81,13 +84,14 @@ fn round_robin_takes_turns(rt: HostRuntime) {
     let view = with_entries(11, [4, 0, 2, 0, 9, 9, 9, 9]);
     let none = with_queue([false; 8]);
     let named = NamedPick::from(FetchPolicy::RoundRobin);
-    assert_eq!(rt;
+    assert_equal(
+        &rt,
         [
             picked(&RoundRobin, &view, 4),
             picked(&named, &view, 2),
-            picked(&RoundRobin, &none, 4)
+            picked(&RoundRobin, &none, 4),
         ],
-        [[3, 4, 5, 6], [3, 4, 9, 9], [9, 9, 9, 9]]
+        [[3, 4, 5, 6], [3, 4, 9, 9], [9, 9, 9, 9]],
     );
 }
 
@@ -105,30 +109,33 @@ fn first(ranks: &[u16; 8], cycle: u64) -> usize
 fn the_least_key_goes_first_and_of_equal_ones_the_earlier_turn(rt: HostRuntime) {
     let [_, _, third, ..] = Ctx::all();
     let all = ranks(&[9, 7, 7, NO_COUNT, 9, 0, 1, 160], 2);
-    assert_eq!(rt;
+    assert_equal(
+        &rt,
         [all.to_array(), without(all, third).to_array()],
         [
             [78, 63, 56, 65529, 74, 3, 12, 1285],
-            [78, 63, 65528, 65529, 74, 3, 12, 1285]
-        ]
+            [78, 63, 65528, 65529, 74, 3, 12, 1285],
+        ],
     );
     let none = NO_KEY;
-    assert_eq!(rt;
+    assert_equal(
+        &rt,
         [
             first(&[none, 57, 58, none, 76, none, none, none], 0),
             first(&[none, 63, 56, none, 74, none, none, none], 2),
-            first(&[none; 8], 0)
+            first(&[none; 8], 0),
         ],
-        [1, 2, 8]
+        [1, 2, 8],
     );
 }
 
 #[test]
 fn contexts_with_sixteen_fetched_entries_are_left_out(rt: HostRuntime) {
     let fetched = [0, 15, 16, 17, 80, 15, 1, 16];
-    assert_eq!(rt;
+    assert_equal(
+        &rt,
         without_full(&[3, 0, 160, 7, 12, 15, 16, NO_COUNT], &fetched),
-        [3, 0, 8191, 8191, 8191, 15, 16, 8191]
+        [3, 0, 8191, 8191, 8191, 15, 16, 8191],
     );
 }
 
@@ -148,21 +155,23 @@ fn counts_are_their_own(rt: HostRuntime) {
     };
     let brcount = NamedPick::from(FetchPolicy::Brcount);
     let misscount = NamedPick::from(FetchPolicy::Misscount);
-    assert_eq!(rt;
+    assert_equal(
+        &rt,
         [
             Brcount.key(&view, first),
             Brcount.key(&view, second),
-            brcount.key(&view, first)
+            brcount.key(&view, first),
         ],
-        [2, 3, 2]
+        [2, 3, 2],
     );
-    assert_eq!(rt;
+    assert_equal(
+        &rt,
         [
             Misscount.key(&view, first),
             Misscount.key(&view, second),
-            misscount.key(&view, first)
+            misscount.key(&view, first),
         ],
-        [1, 0, 1]
+        [1, 0, 1],
     );
 }
 
@@ -173,14 +182,15 @@ fn reads<P: Pick>(pick: &P, policy: FetchPolicy) -> [bool; 2] {
 
 #[test]
 fn iqposn_alone_reads_places(rt: HostRuntime) {
-    assert_eq!(rt;
+    assert_equal(
+        &rt,
         [
             reads(&Iqposn, FetchPolicy::Iqposn),
             reads(&RoundRobin, FetchPolicy::RoundRobin),
             reads(&Icount, FetchPolicy::Icount),
             reads(&Brcount, FetchPolicy::Brcount),
-            reads(&Misscount, FetchPolicy::Misscount)
+            reads(&Misscount, FetchPolicy::Misscount),
         ],
-        [[true; 2], [false; 2], [false; 2], [false; 2], [false; 2]]
+        [[true; 2], [false; 2], [false; 2], [false; 2], [false; 2]],
     );
 }

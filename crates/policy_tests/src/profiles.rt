@@ -1,5 +1,6 @@
 //! Profiles by their tables: ranges, defaults, names and refusals.
 
+use crate::equal::assert_equal;
 use core_profile::{FetchPolicy, IssuePolicy, Key, Profile, ProfileFault, ProfileFields};
 use std::alloc::Global;
 
@@ -77,7 +78,7 @@ fn has_range(alloc: Global, key: Key, low: u64, high: u64, default: u64) -> [Opt
 fn accepts_the_bounds_of_each_range_and_none_past_them(rt: HostRuntime) {
     for (key, low, high, default) in RANGES {
         let found = has_range(rt.alloc(), key, low, high, default);
-        assert_eq!(rt; found, [Some(true); 5], "{key}");
+        assert_equal(&rt, (key, found), (key, [Some(true); 5]));
     }
 }
 
@@ -116,7 +117,7 @@ fn num1_may_be_2_and_no_3(rt: HostRuntime) {
         is_accepted(alloc, Key::Num1, 2),
         is_out_of_range(alloc, Key::Num1, 3),
     ];
-    assert_eq!(rt; found, [Some(true); 2]);
+    assert_equal(&rt, found, [Some(true); 2]);
 }
 
 /// The fields of the default profile.
@@ -150,12 +151,11 @@ fn the_empty_table_gives_the_defaults(rt: HostRuntime) {
 #[test]
 fn reads_policies_and_numbers(rt: HostRuntime) {
     let text = "fetch = \"RR\"\nissue = \"BRANCH_FIRST\"\nnum1 = 4";
-    let Some(it) = profile_of(rt.alloc(), text) else {
-        panic!(rt; "refused");
-    };
-    assert_eq!(rt;
+    let it = profile_of(rt.alloc(), text).expect(&rt, "a profile");
+    assert_equal(
+        &rt,
         (it.fetch, it.issue, it.num1, it.num2),
-        (FetchPolicy::RoundRobin, IssuePolicy::BranchFirst, 4, 8)
+        (FetchPolicy::RoundRobin, IssuePolicy::BranchFirst, 4, 8),
     );
 }
 
