@@ -1,6 +1,7 @@
 //! A program of words and data, read and written at the edges of its pages. The values follow from
 //! the bytes, least first; the four words are those of a countdown.
 
+use crate::equal::assert_equal;
 use paged_memory::{Fault, Memory, Width};
 use std::alloc::Global;
 use std::process::Abort;
@@ -84,10 +85,8 @@ const BYTES: &[(u64, u8)] = &[
 /// What is loaded of a memory is what the table says.
 fn loads(rt: &impl Abort, memory: &Memory, table: &[(u64, Width, Result<u64, Fault>)]) {
     for &(address, width, want) in table {
-        assert!(rt;
-            memory.load(address, width) == want,
-            "{width:?} at {address:#x}"
-        );
+        let found = memory.load(address, width);
+        assert_equal(rt, (address, width, found), (address, width, want));
     }
 }
 
@@ -95,11 +94,11 @@ fn loads(rt: &impl Abort, memory: &Memory, table: &[(u64, Width, Result<u64, Fau
 fn fetches_loads_and_bytes(rt: HostRuntime) {
     let memory = worked(&rt, rt.alloc());
     for &(address, want) in FETCHES {
-        assert!(rt; memory.fetch(address) == want, "at {address:#x}");
+        assert_equal(&rt, (address, memory.fetch(address)), (address, want));
     }
     loads(&rt, &memory, LOADS);
     for &(address, want) in BYTES {
-        assert!(rt; memory.byte(address) == want, "at {address:#x}");
+        assert_equal(&rt, (address, memory.byte(address)), (address, want));
     }
 }
 
@@ -107,7 +106,7 @@ fn fetches_loads_and_bytes(rt: HostRuntime) {
 fn widths_in_bytes(rt: HostRuntime) {
     let [byte, half] = [Width::Byte.bytes(), Width::Half.bytes()];
     let [word, double] = [Width::Word.bytes(), Width::Double.bytes()];
-    assert_eq!(rt; [byte, half, word, double], [1, 2, 4, 8]);
+    assert_equal(&rt, [byte, half, word, double], [1, 2, 4, 8]);
 }
 
 /// Stores that are refused: misalignment before access.
@@ -150,19 +149,19 @@ const STORES: &[(u64, Width, u64, u64)] = &[
 fn stores_the_lowest_bytes_or_nothing(rt: HostRuntime) {
     let mut memory = worked(&rt, rt.alloc());
     for &(address, width, want) in REFUSED {
-        let refused = memory.store(address, width, 0xFF) == Err(want);
-        assert!(rt; refused, "{width:?} at {address:#x}");
+        let found = memory.store(address, width, 0xFF);
+        assert_equal(&rt, (address, width, found), (address, width, Err(want)));
     }
     loads(&rt, &memory, UNTOUCHED);
     for &(address, width, value, want) in STORES {
-        let stored = memory.store(address, width, value) == Ok(());
+        let stored = memory.store(address, width, value);
         let loaded = memory.load(0x10_0000, Width::Double);
-        assert!(rt; stored && loaded == Ok(want), "after {width:?}");
+        assert_equal(&rt, (width, stored, loaded), (width, Ok(()), Ok(want)));
     }
     let stored = memory.store(0x10_0FF8, Width::Double, u64::MAX);
     let last = memory.load(0x10_0FFF, Width::Byte);
     let before = memory.load(0x10_0FF0, Width::Double);
-    assert!(rt; stored == Ok(()) && last == Ok(0xFF) && before == Ok(0));
+    assert_equal(&rt, (stored, last, before), (Ok(()), Ok(0xFF), Ok(0)));
 }
 
 /// Addresses of pages, and their bytes 0, 1, 3 and 4.
@@ -181,13 +180,14 @@ fn shows_its_pages_in_order(rt: HostRuntime) {
     let pages = memory.pages();
     for (page, (address, bytes)) in pages.iter().zip(&PAGES) {
         let b = page.bytes();
-        let same = [b[0], b[1], b[3], b[4]] == *bytes;
-        assert!(rt; same && page.address() == *address, "at {address:#x}");
+        let found = [b[0], b[1], b[3], b[4]];
+        assert_equal(&rt, (page.address(), found), (*address, *bytes));
     }
     let [_, _, third, fourth] = pages else {
         panic!(rt; "not four pages");
     };
-    assert_eq!(rt; [third.bytes()[4095], fourth.bytes()[4095]], [7, 0]);
+    let last = [third.bytes()[4095], fourth.bytes()[4095]];
+    assert_equal(&rt, last, [7, 0]);
 }
 
 #[test]
@@ -198,7 +198,11 @@ fn copies_apart(rt: HostRuntime) {
     loads(&rt, &memory, &[(0x10_0000, Width::Double, Ok(0))]);
     loads(&rt, &copy, UNTOUCHED);
     let fetched = copy.fetch(0x1_0004);
-    assert!(rt; stored == Ok(()) && fetched == Ok(0xFFF2_8293) && copy.pages().len() == 2);
+    assert_equal(
+        &rt,
+        (stored, fetched, copy.pages().len()),
+        (Ok(()), Ok(0xFFF2_8293), 2),
+    );
 }
 
 #[test]
@@ -206,8 +210,11 @@ fn holds_none(rt: HostRuntime) {
     let empty = Memory::new(rt.alloc(), &[], &[]).expect(&rt, "memory");
     let fetched = empty.fetch(0x1_0000);
     let loaded = empty.load(0x10_0000, Width::Byte);
-    assert!(rt; fetched == Err(Fault::FetchAccess) && loaded == Err(Fault::LoadAccess));
-    assert!(rt; empty.pages().is_empty());
+    assert_equal(
+        &rt,
+        (fetched, loaded, empty.pages().is_empty()),
+        (Err(Fault::FetchAccess), Err(Fault::LoadAccess), true),
+    );
 }
 
 #[test]
@@ -216,25 +223,26 @@ fn holds_the_most(rt: HostRuntime) {
     let bytes = vec![in rt.alloc(); 9u8; 1_048_576].expect(&rt, "memory");
     let mut full = Memory::new(rt.alloc(), &words, &bytes).expect(&rt, "memory");
     let fetched = [full.fetch(0x4_FFFC), full.fetch(0x5_0000)];
-    assert_eq!(rt; fetched, [Ok(0x73), Err(Fault::FetchAccess)]);
+    assert_equal(&rt, fetched, [Ok(0x73), Err(Fault::FetchAccess)]);
     let stored = [
         full.store(0x1F_FFF8, Width::Double, 1),
         full.store(0x20_0000, Width::Byte, 1),
     ];
-    assert_eq!(rt; stored, [Ok(()), Err(Fault::StoreAccess)]);
+    assert_equal(&rt, stored, [Ok(()), Err(Fault::StoreAccess)]);
     let loaded = [
         full.load(0x1F_FFF8, Width::Double),
         full.load(0x1F_FFF0, Width::Byte),
     ];
-    assert!(rt; loaded == [Ok(1), Ok(9)] && full.pages().len() == 320);
+    assert_equal(&rt, (loaded, full.pages().len()), ([Ok(1), Ok(9)], 320));
     let faults = [
         full.store_fault(0x1F_FFF8, Width::Double),
         full.store_fault(0x20_0000, Width::Byte),
         full.store_fault(0x1_0001, Width::Half),
     ];
-    assert_eq!(rt;
+    assert_equal(
+        &rt,
         faults,
-        [None, Some(Fault::StoreAccess), Some(Fault::StoreMisaligned)]
+        [None, Some(Fault::StoreAccess), Some(Fault::StoreMisaligned)],
     );
 }
 
@@ -246,11 +254,14 @@ fn tells_refused_growths(rt: HostRuntime) {
         return;
     };
     if let Ok(copy) = memory.try_clone(rt.alloc()) {
-        assert_eq!(rt; copy.pages().len(), 2);
+        assert_equal(&rt, copy.pages().len(), 2);
     }
-    assert_eq!(rt; memory.fetch(0x1_0004), Ok(0xFFF2_8293));
-    assert_eq!(rt;
-        memory.load(0x10_0000, Width::Double),
-        Ok(0x1122_3344_5566_7788)
+    assert_equal(
+        &rt,
+        (
+            memory.fetch(0x1_0004),
+            memory.load(0x10_0000, Width::Double),
+        ),
+        (Ok(0xFFF2_8293), Ok(0x1122_3344_5566_7788)),
     );
 }

@@ -3,6 +3,7 @@
 
 ghost use Rattle.std.specs.Prelude.{◌≡◌, pos, negsuc, ◌<◌, ◌≤ℤ◌, ◌%◌, unsigned_abs};
 
+use crate::equal::assert_equal;
 use rv64_decode::{
     AluOp, BranchCondition, BranchOffset, FenceBits, ImmOp, Immediate, Insn, JumpOffset, LoadKind,
     Register, ShiftAmount, ShiftOp, StoreWidth, UpperImmediate, WordOp, WordShiftAmount, decode,
@@ -13,8 +14,8 @@ use std::process::Abort;
 /// Each word is its instruction's, and gives it back.
 fn agree(rt: &impl Abort, table: &[(u32, Insn)]) {
     for &(word, insn) in table {
-        let agree = decode(word) == Some(insn) && encode(&insn) == word;
-        assert!(rt; agree, "of {word:#x}");
+        let encoded = encode(&insn);
+        assert_equal(rt, (decode(word), encoded), (Some(insn), word));
     }
 }
 
@@ -436,7 +437,7 @@ fn illegal(rt: HostRuntime) {
         0x0001_0001,
     ];
     for word in words {
-        assert!(rt; decode(word).is_none(), "of {word:#x}");
+        assert_equal(&rt, (word, decode(word)), (word, None));
     }
 }
 
@@ -446,9 +447,10 @@ fn fields(rt: HostRuntime) {
     let of_word = WordShiftAmount::new(31).value();
     let upper = UpperImmediate::new(0xFFFFF).value();
     let bits = FenceBits::new(0xFFF).value();
-    assert_eq!(rt;
+    assert_equal(
+        &rt,
         (index, amount, of_word, upper, bits),
-        (31, 63, 31, 0xFFFFF, 0xFFF)
+        (31, 63, 31, 0xFFFFF, 0xFFF),
     );
 }
 
@@ -459,14 +461,14 @@ fn immediates_and_offsets(rt: HostRuntime) {
             Immediate::new(value).bits(),
             Immediate::from_bits(bits).value(),
         );
-        assert!(rt; found == (bits, value), "{value}");
+        assert_equal(&rt, found, (bits, value));
     }
     for (value, bits) in [(0, 0), (4094, 0x0FFE), (-4096, 0x1000), (-2, 0x1FFE)] {
         let found = (
             BranchOffset::new(value).bits(),
             BranchOffset::from_bits(bits).value(),
         );
-        assert!(rt; found == (bits, value), "{value}");
+        assert_equal(&rt, found, (bits, value));
     }
     for (value, bits) in [
         (0, 0),
@@ -478,6 +480,6 @@ fn immediates_and_offsets(rt: HostRuntime) {
             JumpOffset::new(value).bits(),
             JumpOffset::from_bits(bits).value(),
         );
-        assert!(rt; found == (bits, value), "{value}");
+        assert_equal(&rt, found, (bits, value));
     }
 }
