@@ -29,11 +29,20 @@ pub fn issue<A: Allocator, O: Order, D: Delay, L: Listing<Issue, 8>>(
     ensures flights { in_flight machine.new ≡ in_flight machine.old }
     ensures lawful { IsIssue (O.key_of order.now) (D.may_answer delay.old) machine.old.view machine.new.view (L.items issued.new) }
 {
-    let width = usize::from(machine.profile().issue_width);
+    let width = issue_width(machine);
     // `cycle` ensures that each context is live, so its stamps grow.
     let _live = machine.cycle();
     machine.select(order, width);
     for _place in 0..machine.selected_count() {
         issued.push(machine.issue_next(delay));
     }
+}
+
+/// How many entries may issue in a cycle.
+#[inline(always)]
+fn issue_width<A: Allocator>(machine: &Machine<A>) -> usize
+    ensures value { result ≡ machine.now.view.profile.issue_width }
+    ensures bound { result ≤ 8 }
+{
+    usize::from(machine.profile().issue_width)
 }

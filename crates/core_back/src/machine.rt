@@ -464,7 +464,7 @@ impl<A: Allocator> Machine<A> {
         ensures idle { self.new.names ≡ [] }
     {
         let stamp = self.try_rename(context, limit)?;
-        Some(EntryId { context, stamp })
+        Some(id_of(context, stamp))
     }
 
     /// The oldest fetched entries of a context are renamed, one by one, for as long as they can be, their stamps are no
@@ -613,6 +613,14 @@ pub(crate) fn first_context(word: u64) -> Ctx
         unreachable!();
     };
     context
+}
+
+/// The entry of a context with a stamp.
+#[inline(always)]
+fn id_of(context: Ctx, stamp: u64) -> EntryId
+    ensures { result ≡ record { context = context; stamp = stamp } }
+{
+    EntryId { context, stamp }
 }
 
 /// An entry that issued, and its lag.

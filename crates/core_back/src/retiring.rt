@@ -37,7 +37,7 @@ pub fn retire<A: Allocator, G: Guess, L: Listing<EntryId, 16>>(
 {
     let first = machine.cycle();
     let mut waiting = done_in_turn(machine, first);
-    let mut left = usize::from(machine.profile().retire_width);
+    let mut left = retire_width(machine);
     let mut dropped = 0;
     let mut turn = next(waiting, 0);
     while waiting != 0 {
@@ -52,6 +52,15 @@ pub fn retire<A: Allocator, G: Guess, L: Listing<EntryId, 16>>(
     // `cycle` ensures that each context is live.
     let _live = machine.cycle();
     dropped
+}
+
+/// How many entries may retire in a cycle.
+#[inline(always)]
+fn retire_width<A: Allocator>(machine: &Machine<A>) -> usize
+    ensures value { result ≡ machine.now.view.profile.retire_width }
+    ensures bound { result ≤ 16 }
+{
+    usize::from(machine.profile().retire_width)
 }
 
 /// A bit a turn, the first eight: whether the oldest entry of the context whose turn it is is done.

@@ -1,7 +1,8 @@
-use Rattle.std.proofs.Common.{◌≡◌, ℕ, ◌+◌, ◌-◌, Bool, length, refl, subst, ◌∙◌, arith}
+use Rattle.std.proofs.Common.{◌≡◌, ℕ, ◌+◌, ◌-◌, Bool, [], length, refl, sym, subst, ◌∙◌, arith}
 use Rattle.rv64_decode.specs.declared.insn.Insn.{Insn}
 use Rattle.core_view.specs.View.{entry_at}
 use Rattle.lawful_cycle.specs.Fetch.{ends_block}
+use Rattle.core_context.specs.Cores.{IsCore}
 use Rattle.core_context.specs.NextEntry.{IsFetchedBy}
 use Rattle.core_back.proofs.Blocks.{block_open}
 use Rattle.core_back.proofs.BlockTurns.{HasFetched, fetched_none, fetched_next, ends_so, next_pc, block_by}
@@ -26,7 +27,9 @@ fetch_listed-onward-requires-clause-before g c =
       start = b.start;
       reorder = b.reorder;
       flow = b.flow;
-      core = c.loop-number.invariant.fetched.kept b.start b.reorder b.flow b.core;
+      core =
+          subst (λ stamp. IsCore b.start stamp b.reorder b.flow [] c.args.context c.loop-number.track) (sym c.stamp_past-next.ensures)
+          (c.loop-number.invariant.fetched.kept b.start b.reorder b.flow b.core);
     }
 
 pub fetch_listed-onward-requires-clause-eligible : goal.fetch_listed-onward-requires-clause-eligible
@@ -40,9 +43,9 @@ fetch_listed-onward-requires-clause-eligible g c =
 abbrev may : (g : Over) (c : After-fetch_listed-onward g) → ℕ → Insn → ℕ → Bool
 may g c = g.G.Guess.may_answer c.args.guess.now c.args.context
 
-one : (g : Over) (c : After-fetch_listed-onward g) → IsFetchedBy (may g c) (c.args.stamp + c.loop-number.number) c.args.cycle c.loop-number.track c.fetch_listed-onward.new.track c.fetch_listed-onward.result.pc c.fetch_listed-onward.result.ends
+one : (g : Over) (c : After-fetch_listed-onward g) → IsFetchedBy (may g c) c.stamp_past-next.result c.args.cycle c.loop-number.track c.fetch_listed-onward.new.track c.fetch_listed-onward.result.pc c.fetch_listed-onward.result.ends
 one g c =
-    subst (λ says. IsFetchedBy (says c.args.context) (c.args.stamp + c.loop-number.number) c.args.cycle c.loop-number.track c.fetch_listed-onward.new.track c.fetch_listed-onward.result.pc c.fetch_listed-onward.result.ends)
+    subst (λ says. IsFetchedBy (says c.args.context) c.stamp_past-next.result c.args.cycle c.loop-number.track c.fetch_listed-onward.new.track c.fetch_listed-onward.result.pc c.fetch_listed-onward.result.ends)
     c.loop-number.invariant.keeps c.fetch_listed-onward.ensures.fetched
 
 fetched : (g : Over) (c : After-fetch_listed-onward g)
@@ -50,13 +53,13 @@ fetched : (g : Over) (c : After-fetch_listed-onward g)
 fetched g c =
     let i = c.loop-number.invariant in
     fetched_next (may g c) c.args.cycle c.args.stamp c.args.context c.loop-number.number c.args.track.now c.loop-number.track c.fetch_listed-onward.new.track (g.L.Listing.items c.args.fetched.now) (g.L.Listing.items c.loop-number.fetched) (g.L.Listing.items c.fetch_listed-onward.new.fetched)
-    i.fetched i.goes (c.args.stamp + c.loop-number.number) c.fetch_listed-onward.result.pc c.fetch_listed-onward.result.ends refl (one g c) c.fetch_listed-onward.ensures.kept c.fetch_listed-onward.ensures.listed
+    i.fetched i.goes c.stamp_past-next.result c.fetch_listed-onward.result.pc c.fetch_listed-onward.result.ends c.stamp_past-next.ensures (one g c) c.fetch_listed-onward.ensures.kept c.fetch_listed-onward.ensures.listed
 
 ends : (g : Over) (c : After-fetch_listed-onward g) → ends_block (entry_at c.fetch_listed-onward.new.track.context (length c.fetch_listed-onward.new.track.context.flight - 1)) ≡ c.fetch_listed-onward.result.ends
 ends g c =
     let i = c.loop-number.invariant in
     ends_so (may g c) c.args.cycle c.args.stamp c.args.context c.loop-number.number c.args.track.now c.loop-number.track c.fetch_listed-onward.new.track (g.L.Listing.items c.args.fetched.now) (g.L.Listing.items c.loop-number.fetched) (g.L.Listing.items c.fetch_listed-onward.new.fetched)
-    i.fetched i.goes (c.args.stamp + c.loop-number.number) c.fetch_listed-onward.result.pc c.fetch_listed-onward.result.ends refl (one g c)
+    i.fetched i.goes c.stamp_past-next.result c.fetch_listed-onward.result.pc c.fetch_listed-onward.result.ends c.stamp_past-next.ensures (one g c)
 
 pub returns-then-onward-clause-block : goal.returns-then-onward-clause-block
 returns-then-onward-clause-block g c =
@@ -82,7 +85,7 @@ loop-number-preserved g c =
       fetched = fetched g at;
       goes = λ some. ends g at ∙ c.if-onward.false;
       pc = next_pc (may g at) c.args.cycle c.args.stamp c.args.context c.loop-number.number c.args.track.now c.loop-number.track c.fetch_listed-onward.new.track (g.L.Listing.items c.args.fetched.now) (g.L.Listing.items c.loop-number.fetched) (g.L.Listing.items c.fetch_listed-onward.new.fetched)
-          i.fetched i.goes (c.args.stamp + c.loop-number.number) c.fetch_listed-onward.result.pc c.fetch_listed-onward.result.ends refl (one g at);
+          i.fetched i.goes c.stamp_past-next.result c.fetch_listed-onward.result.pc c.fetch_listed-onward.result.ends c.stamp_past-next.ensures (one g at);
       long = omega (arith, i.long, c.fetch_listed-onward.ensures.long);
       keeps = c.fetch_listed-onward.ensures.keeps ∙ i.keeps;
     }

@@ -1,5 +1,4 @@
 use Rattle.std.proofs.Common.{ℕ, Bool, List, ap, subst, ◌∙◌, refl, length, arith}
-use Rattle.core_profile.specs.declared.profile.Profile.{Profile}
 use Rattle.data_tags.specs.declared.delay.Kind.{Kind}
 use Rattle.data_tags.specs.declared.delay.Lag.{Lag}
 use Rattle.core_view.specs.declared.note.EntryId.{EntryId}
@@ -15,15 +14,15 @@ loop-place-init g c =
     let e = c.select.ensures.selected in
     record {
       alike = record { origin = ap (λ (m : Machine). m.origin) e; profile = ap (λ (m : Machine). m.view.profile) e; cycle = ap (λ (m : Machine). m.view.cycle) e; room = ap (λ (m : Machine). m.fetch_room) e; targets = λ d lt. ap (λ (m : Machine). (context_at m d).target) e };
-      issuing = issuing_first (g.O.Order.key_of c.args.order.now) (g.D.Delay.may_answer c.args.delay.now) c.from-width.result c.args.machine.now c.select.new.self (g.L.Listing.items c.args.issued.now) c.cycle-live.ensures.contexts (ap (λ (m : Machine). m.view) e) c.requires.fresh c.select.ensures.choice;
-      profile = c.from-width.ensures ∙ ap (λ (p : Profile). p.issue_width) c.profile.ensures;
+      issuing = issuing_first (g.O.Order.key_of c.args.order.now) (g.D.Delay.may_answer c.args.delay.now) c.issue_width-width.result c.args.machine.now c.select.new.self (g.L.Listing.items c.args.issued.now) c.cycle-live.ensures.contexts (ap (λ (m : Machine). m.view) e) c.requires.fresh c.select.ensures.choice;
+      profile = c.issue_width-width.ensures.value;
       left = omega (arith, c.selected_count-place-end.ensures);
       most = omega (arith, c.select.ensures.most, c.selected_count-place-end.ensures);
       flights = in_flight_same c.args.machine.now c.select.new.self (ap (λ (m : Machine). m.view.contexts) e);
       room = omega (arith, ap length c.requires.fresh);
       keeps = refl;
       greatest = refl;
-      width = let most = c.profile.result.issue_width_in_range.1 in omega (arith, most, c.from-width.ensures);
+      width = c.issue_width-width.ensures.bound;
     }
 
 pub issue_next-requires-clause-cycle : goal.issue_next-requires-clause-cycle
@@ -40,7 +39,7 @@ loop-place-preserved g c =
     let step : IsIssued (g.D.Delay.may_answer c.loop-place.delay) c.loop-place.machine c.issue_next.new.self c.issue_next.result = c.issue_next.ensures.issued in
     record {
       alike = alike_chain c.args.machine.now c.loop-place.machine c.issue_next.new.self c.loop-place.invariant.alike (issue_alike c.loop-place.machine c.issue_next.new.self c.issue_next.result step);
-      issuing = issuing_next (g.O.Order.key_of c.args.order.now) (g.D.Delay.may_answer c.args.delay.now) c.from-width.result c.args.machine.now c.loop-place.machine c.issue_next.new.self (g.L.Listing.items c.loop-place.issued) (g.L.Listing.items c.push.new.self) c.issue_next.result
+      issuing = issuing_next (g.O.Order.key_of c.args.order.now) (g.D.Delay.may_answer c.args.delay.now) c.issue_width-width.result c.args.machine.now c.loop-place.machine c.issue_next.new.self (g.L.Listing.items c.loop-place.issued) (g.L.Listing.items c.push.new.self) c.issue_next.result
           (λ d ld. (c.cycle-live.ensures.live d ld).flight.growing) c.loop-place.invariant.issuing
           (subst (λ (says : ℕ → Kind → ℕ → Lag → Bool). IsIssued says c.loop-place.machine c.issue_next.new.self c.issue_next.result) c.loop-place.invariant.keeps step) c.push.ensures.items;
       profile = c.loop-place.invariant.profile;
@@ -70,5 +69,5 @@ returns-clause-flights g c = c.loop-place.invariant.flights
 
 pub returns-clause-lawful : goal.returns-clause-lawful
 returns-clause-lawful g c =
-    issuing_done (g.O.Order.key_of c.args.order.now) (g.D.Delay.may_answer c.args.delay.now) c.from-width.result c.args.machine.now c.loop-place.machine (g.L.Listing.items c.loop-place.issued) c.loop-place.invariant.issuing c.loop-place.invariant.profile
+    issuing_done (g.O.Order.key_of c.args.order.now) (g.D.Delay.may_answer c.args.delay.now) c.issue_width-width.result c.args.machine.now c.loop-place.machine (g.L.Listing.items c.loop-place.issued) c.loop-place.invariant.issuing c.loop-place.invariant.profile
     (none_left c.loop-place.machine.names (omega (arith, c.loop-place.invariant.left, c.loop-place-test.false)))

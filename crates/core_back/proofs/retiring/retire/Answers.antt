@@ -1,7 +1,6 @@
 use Rattle.std.proofs.Common.{◌≡◌, ◌≢◌, ℕ, ◌+◌, ◌<◌, ◌≤◌, Bool, false, not, ap, sym, ◌∙◌, refl, length, arith}
 use mir.Val.{bool_byte}
 use Rattle.std.specs.Int.{bit_at}
-use Rattle.core_profile.specs.declared.profile.Profile.{Profile}
 use Rattle.fetch_policy.specs.Lawful.{turn as turn_of}
 use Rattle.origin_set.specs.Start.{start}
 use Rattle.core_back.proofs.RetireTurns.{turned_none, retire_lawful}
@@ -13,7 +12,7 @@ use Rattle.core_back.proofs.retiring.retire.Goals as goal
 pub loop-waiting-init : goal.loop-waiting-init
 loop-waiting-init g c =
     let m = c.args.machine.now in
-    let most = c.profile.result.retire_width_in_range.1 in
+    let most = c.retire_width-left.ensures.bound in
     let at : (t d : ℕ) → turn_of m.view.cycle d ≡ t → turn_of c.cycle-first.result d ≡ t = λ t d is. ap (λ k. turn_of k d) c.cycle-first.ensures.value ∙ is in
     let waits : AreLeft m c.done_in_turn-waiting.result c.next-turn.result = record {
       few = c.next-turn.ensures.within;
@@ -26,18 +25,18 @@ loop-waiting-init g c =
     record {
       alike = alike_none m;
       idle = c.requires.idle;
-      room = omega (arith, most, c.from-left.ensures, ap length c.requires.fresh);
+      room = omega (arith, most, ap length c.requires.fresh);
       waiting = waits;
       fits = omega arith;
-      turns = arrives m.view.profile.retire_width m c.cycle-first.ensures.live m c.from-left.result (g.L.Listing.items c.args.retired.now) 0 c.next-turn.result (omega arith) (omega arith)
+      turns = arrives m.view.profile.retire_width m c.cycle-first.ensures.live m c.retire_width-left.result (g.L.Listing.items c.args.retired.now) 0 c.next-turn.result (omega arith) (omega arith)
           (λ t d from below low ld is. c.done_in_turn-waiting.ensures.none t d low ld (at t d is) (c.next-turn.ensures.clear t from below))
           (λ low d ld is. left_done m c.done_in_turn-waiting.result c.next-turn.result d waits (omega (arith, low)) ld is)
-          (turned_none m.view.profile.retire_width c.from-left.result m (g.L.Listing.items c.args.retired.now) c.cycle-first.ensures.contexts c.requires.fresh (c.from-left.ensures ∙ ap (λ (p : Profile). p.retire_width) c.profile.ensures));
+          (turned_none m.view.profile.retire_width c.retire_width-left.result m (g.L.Listing.items c.args.retired.now) c.cycle-first.ensures.contexts c.requires.fresh c.retire_width-left.ensures.value);
       live = c.cycle-first.ensures.live;
       first = c.cycle-first.ensures.value;
       dropped = omega (arith, ap length c.requires.fresh);
-      width = omega (arith, most, c.from-left.ensures);
-      bound = omega (arith, most, c.from-left.ensures);
+      width = omega (arith, most);
+      bound = omega (arith, most);
       keeps = refl;
     }
 
