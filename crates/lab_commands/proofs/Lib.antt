@@ -1,8 +1,9 @@
+pub mod CommandParts
 pub mod CommandWords
 pub mod GoodRows
 pub mod PutOneMore
+pub mod Served
 pub mod StepBlocks
 pub mod Subcommands
 pub mod Unplanned
 pub mod WordLines
-pub mod Written

@@ -2,22 +2,20 @@
 //! `lab_commands::run` serve the request, and ends with its line and status.
 #![tactic(auto)]
 
-mod lazy_file;
-
 ghost use Rattle.std.specs.Prelude.{◌≡◌, IfErr, IfOk, codes, false};
 ghost use Rattle.lab_commands.specs.CommandLine.{IsBounded, file_of};
 ghost use Rattle.lab_commands.specs.Commands.{NamesItsDevice};
+ghost use Rattle.lab_commands.specs.Refusals.{UnreadOf};
 ghost use Rattle.lab_commands.specs.Watched.{fails, name_text};
 
 use lab_commands::device::{Sink, Watched};
 use lab_commands::run;
-use lab_commands::run::{Failure, Refusal, Request, explain, serve, status, tell};
-use lazy_file::LazyFile;
+use lab_commands::run::{Failure, Refusal, Request, explain, serve, status, tell, unread};
 use std::alloc::{AllocError, Global};
 use std::io::Printer;
 use std::process::ExitCode;
 use std::rt::{Env, Files};
-use std::{env, io};
+use std::{env, fs, io};
 
 /// The words of the command line after the program's name.
 fn arguments<'a, R: Env + AllocGlobal>(
@@ -33,17 +31,21 @@ fn arguments<'a, R: Env + AllocGlobal>(
     }
 }
 
-/// The file at a path, not opened yet, under its path as its name.
-fn source<'a, 'b, R: Files>(
-    rt: &'b R,
+/// The file at a path, opened, under its path as its name.
+fn source<'a, R: Files>(
+    rt: &R,
     alloc: &'a Global,
-    path: &'b str,
-) -> Result<Watched<LazyFile<'b, R>, &'a Global>, AllocError>
+    path: &str,
+) -> Result<Watched<R::File, &'a Global>, Refusal<&'a Global>>
     ensures works { IfOk result (λ file. fails file ≡ false) }
     ensures name { IfOk result (λ file. name_text file ≡ path.now) }
+    ensures err { IfErr result (UnreadOf path.now) }
 {
     let name = String::from_str(alloc, path)?;
-    Ok(Watched::new(LazyFile::new(rt, path), name))
+    match fs::open(rt, path) {
+        Ok(file) => Ok(Watched::new(file, name)),
+        Err(_) => Err(unread(alloc, path)),
+    }
 }
 
 /// Standard output, under the name `-`.
@@ -67,8 +69,8 @@ fn answer<'a, R: Files + Print>(
     requires { IsBounded request }
     ensures { IfErr result (NamesItsDevice (file_of request.entry) (codes "-")) }
 {
-    let mut input = source(rt, alloc, request.file())?;
     let mut output = standard_output(rt, alloc)?;
+    let mut input = source(rt, alloc, request.file())?;
     serve(alloc, *alloc, request, &mut input, &mut output)
 }
 

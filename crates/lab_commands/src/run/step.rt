@@ -3,9 +3,11 @@
 ghost use Rattle.std.specs.Prelude.{◌≡◌, ◌≤◌, ◌^◌, IfOk, IfErr, IfSome, OnErr, Err, string_bytes};
 ghost use Rattle.std.specs.Arc.{arc_value};
 ghost use Rattle.checkpoint.specs.Furthest.{IsFurthest};
+ghost use Rattle.report.specs.Blocks.{mark_block};
 ghost use Rattle.rv64_asm.specs.Limits.{IsWithinLimits};
 ghost use Rattle.lab_commands.specs.Commands.{IsStepRefusal};
 ghost use Rattle.lab_commands.specs.Steps as spec;
+ghost use Rattle.lab_commands.specs.declared.run.refusal.Refusal.TheVariants.{OutOfMemory};
 
 use super::program::program_of;
 use super::refusal::Refusal;
@@ -66,6 +68,35 @@ fn further_mark<A: Allocator + Copy>(
     }
 }
 
+/// The mark of a text's program at a context, after the greater count.
+fn mark_of_text<'a, A: Allocator>(
+    alloc: &'a A,
+    text: &str,
+    context: Ctx,
+    count: u64,
+    with: Option<u64>,
+) -> Result<Mark<&'a A>, Refusal<&'a A>>
+    requires count { count ≤ 2 ^ 60 }
+    requires with { IfSome with (λ other. other ≤ 2 ^ 60) }
+    ensures ok { IfOk result (spec.IsMarkOfText text.now context count with) }
+    ensures err { IfErr result (IsStepRefusal text.now) }
+{
+    let program = program_of(alloc, text)?;
+    let origin = Arc::new(alloc, origin_of(program))?;
+    Ok(further_mark(alloc, &origin, context, count, with)?)
+}
+
+/// The block of a mark.
+fn block_of_mark<'a, A: Allocator>(
+    alloc: &'a A,
+    mark: &Mark<&'a A>,
+) -> Result<String<&'a A>, Refusal<&'a A>>
+    ensures ok { IfOk result (λ block. string_bytes block ≡ mark_block mark.now) }
+    ensures err { IfErr result (λ refusal. refusal ≡ OutOfMemory) }
+{
+    Ok(context_block(alloc, mark)?)
+}
+
 /// The block of a text's program at context 0, after the greater count.
 pub fn block_of<'a, A: Allocator>(
     alloc: &'a A,
@@ -81,8 +112,6 @@ pub fn block_of<'a, A: Allocator>(
     let Some(context) = Ctx::new(0) else {
         unreachable!();
     };
-    let program = program_of(alloc, text)?;
-    let origin = Arc::new(alloc, origin_of(program))?;
-    let mark = further_mark(alloc, &origin, context, count, with)?;
-    Ok(context_block(alloc, &mark)?)
+    let mark = mark_of_text(alloc, text, context, count, with)?;
+    block_of_mark(alloc, &mark)
 }
