@@ -1,7 +1,7 @@
 //! How the program ends: what it prints on standard error, its status, and the help.
 
 use lab_commands::device::Watched;
-use lab_commands::run::{Failure, Refusal, explain, status, tell, words};
+use lab_commands::run::{Failure, explain, status, tell, unread, words};
 use std::alloc::Global;
 use std::process::{Abort, ExitCode};
 use std::str;
@@ -59,8 +59,7 @@ fn assert_explained(
 fn endings_of_outcomes(rt: HostRuntime) {
     let alloc = rt.alloc();
     assert_ends(&rt, &alloc, Ok(()), Text::Whole(""), 0);
-    let name = String::from_str(&alloc, "a.s").expect(&rt, "memory");
-    let refused = Err(Failure::Refused(Refusal::Unread(name)));
+    let refused = Err(Failure::Refused(unread(&alloc, "a.s")));
     assert_ends(&rt, &alloc, refused, Text::Whole("refused S1 a.s\n"), 1);
     let line = "error: invalid UTF-8 was detected in one or more arguments\n";
     assert_ends(&rt, &alloc, Err(Failure::NotUnicode), Text::Whole(line), 2);
