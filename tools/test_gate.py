@@ -7,6 +7,7 @@ import subprocess
 import sys
 import tempfile
 import time
+import types
 import unittest
 from typing import Dict, List, Optional, Sequence, Tuple
 
@@ -127,6 +128,13 @@ class OutputTest(unittest.TestCase):
         self.assertFalse(said.is_own("src/ring.rt", 1, 99))
         self.assertTrue(said.is_called_only)
 
+    def test_what_is_called(self) -> None:
+        said = output.read(BY_A_CALL.format(CUT))[CUT]
+        self.assertTrue(said.calls_one_of({LEN, BELOW}))
+        self.assertFalse(said.calls_one_of({LEN, CUT}))
+        said = output.read(NOTE.format(5) + BY_ITSELF_TOO.format(LEN))[LEN]
+        self.assertFalse(said.calls_one_of({BELOW}))
+
     def test_a_block_that_is_passed(self) -> None:
         for line in (BY_A_BLOCK, BARE_BUT_CALLS):
             said = output.read(BARE.format(BELOW) + line.format(CUT))[CUT]
@@ -246,12 +254,33 @@ class SourceTest(unittest.TestCase):
             self.assertEqual(near, ["pages::has_room", "pages::other"])
 
 
+    def test_what_is_left_aside(self) -> None:
+        text = (
+            "fn cut() {\n    left();\n}\n\nfn left() {\n    1\n}\n\nfn walk() {\n    walk()\n}\n\n"
+            "#[cycle(turns)]\nfn turn() {\n    2\n}\n\nfn told() {\n    3\n}\n"
+        )
+        proofs = {
+            "Laws.antt": "use Rattle.pages.proofs.told.Goals as goal\n",
+            "left/Answers.antt": "use Rattle.pages.proofs.left.Goals as goal\n",
+        }
+        known = [f"pages::{it}" for it in ("cut", "left", "walk", "turn", "told", "PageClone::clone")]
+        more = ["pages::fn::cut::closure", "pages::pages++Page+Destruct::drop"]
+        with tempfile.TemporaryDirectory() as room:
+            for file, said in {"src/lib.rt": text, **{f"proofs/{it}": proofs[it] for it in proofs}}.items():
+                os.makedirs(os.path.dirname(f"{room}/{file}"), exist_ok=True)
+                with open(f"{room}/{file}", "w", encoding="utf-8") as it:
+                    it.write(said)
+            aside = edits.aside("pages", room, ["pages::cut"], known + more)
+        self.assertEqual(aside, ["pages::left", "pages::PageClone::clone"])
+
+
 class FakeKit:
     """A toolchain whose checks answer as they are told to."""
 
     def __init__(self, top: str, answers: Sequence[str], alone: Dict[str, bool]) -> None:
         self.top, self.answers, self.refused_alone = top, list(answers), alone
         self.only: List[List[str]] = []
+        self.aside: List[List[str]] = []
         self.texts: List[Dict[str, str]] = []
         self.tried: List[str] = []
         self.kept_module = ""
@@ -278,8 +307,9 @@ class FakeKit:
             return None, "an 'old:' text is in src/ring.rt 0 times, and not once"
         return {"src/ring.rt": text.replace(old, new)}, ""
 
-    def checked(self, _crate: str, texts: Dict[str, str], only: List[str], kept: str) -> kit.Ran:
+    def checked(self, _crate: str, texts: Dict[str, str], only: List[str], aside: List[str], kept: str) -> kit.Ran:
         self.only.append(only)
+        self.aside.append(aside)
         self.texts.append(texts)
         if self.kept_module:
             with open(f"{kept}/{self.kept_module}", "w", encoding="utf-8"):
@@ -290,9 +320,9 @@ class FakeKit:
     def is_unread(self, ran: kit.Ran, _texts: Dict[str, str]) -> bool:
         return UNREADABLE in ran.text
 
-    def must_fail(self, crate: str, edit: str, kept: Optional[str]) -> Tuple[bool, str]:
+    def must_fail(self, crate: str, edit: str) -> Tuple[bool, str]:
         name = os.path.basename(edit)
-        self.tried.append(name if kept else f"{name} from nothing")
+        self.tried.append(name)
         label = f"must-fail {crate}/{name}"
         if self.refused_alone.get(name[:-len(".edit")], False):
             return True, f"{label}: refused, as it must be"
@@ -305,6 +335,23 @@ class KitTest(unittest.TestCase):
     def test_what_is_a_refusal(self) -> None:
         self.assertEqual([kit.is_refusal(it) for it in (True, "refused", "limit")], [True] * 3)
         self.assertEqual([kit.is_refusal(it) for it in (False, "missed", "bad", "unsure", None, 1.5)], [False] * 6)
+
+
+    def test_proofs_left_aside(self) -> None:
+        files = ["src/lib.rt", "proofs/low/cut/Answers.antt", "proofs/low/cut/Facts.antt", "proofs/low/len/Answers.antt"]
+        with tempfile.TemporaryDirectory() as top, tempfile.TemporaryDirectory() as room:
+            for file in files:
+                os.makedirs(os.path.dirname(f"{top}/{file}"), exist_ok=True)
+                with open(f"{top}/{file}", "w", encoding="utf-8") as it:
+                    it.write("told")
+            made = types.SimpleNamespace(crates={"pages": types.SimpleNamespace(folder=top)},
+                                         lib=types.SimpleNamespace(PARTS=("src", "specs", "proofs")))
+            crate = kit.Kit.without_proofs(made, "pages", ["pages::low::cut", "pages::new"], room)  # type: ignore
+            self.assertEqual((crate.folder, made.crates["pages"].folder), (room, top))
+            left = {os.path.relpath(f"{at}/{it}", room): edits.read(f"{at}/{it}")
+                    for at, _, names in os.walk(room) for it in names}
+        told = dict.fromkeys([files[0], files[2], files[3]], "told")
+        self.assertEqual(left, {**told, "proofs/low/cut/Proof.antt": "", "proofs/new/Proof.antt": ""})
 
 
 class RoundsTest(unittest.TestCase):
@@ -340,19 +387,18 @@ class RoundsTest(unittest.TestCase):
     def test_functions_that_nothing_named_are_told_by_a_check(self) -> None:
         named = "".join(f"fn {it}: proved\n" for it in KNOWN) + "logic=proved\n"
         said = NOTE.format(5) + BY_ITSELF.format(LEN) + NOT_PROVED
-        made = FakeKit(self.top, [named, said, "logic=proved\n"], {})
+        made = FakeKit(self.top, [named, said], {})
         good = [made.edit("len", *self.LEN_EDIT)]
         tried = rounds.try_crate(made, "reorder_buffer", good, [], [], False, lambda _text: None)
         self.assertEqual([it.refused for it in tried.results], [True])
-        # (what was proved first is looked at again at the end, with no edit)
-        self.assertEqual((made.only, made.texts[0], made.texts[2]), ([[], [LEN], []], {}, {}))
+        self.assertEqual((made.only, made.texts[0]), ([[], [LEN]], {}))
 
     def test_edits_of_one_function_go_to_two_rounds(self) -> None:
         said = NOTE.format(5) + BY_ITSELF.format(LEN) + NOT_PROVED
-        made, tried = self.trial([said, said, "logic=proved\n"], {"one": self.LEN_EDIT, "two": self.LEN_EDIT_2})
+        made, tried = self.trial([said, said], {"one": self.LEN_EDIT, "two": self.LEN_EDIT_2})
         self.assertEqual([it.refused for it in tried.results], [True, True])
-        # (the last check has no edit: what the second round rests on is proved)
-        self.assertEqual(made.texts[2], {})
+        # (both leave the proofs of the others aside)
+        self.assertEqual(made.aside, [[BELOW, CUT]] * 2)
 
     def test_refused_only_through_a_call(self) -> None:
         said = REFUSED_ANSWER + BARE.format(BELOW) + BY_A_CALL.format(CUT) + NOT_PROVED
@@ -360,37 +406,41 @@ class RoundsTest(unittest.TestCase):
         answers = [said, proved, "logic=proved\n", "logic=proved\n"]
         made, tried = self.trial(answers, {"below": self.BELOW_EDIT, "cut": self.CUT_EDIT})
         self.assertEqual(self.refused(tried), {"reorder_buffer/below.edit": True, "reorder_buffer/cut.edit": False})
-        self.assertEqual(made.tried, ["cut.edit", "cut.edit from nothing"])
+        self.assertEqual(made.tried, ["cut.edit"])
+        # (again with the proofs of the others, and alone in both ways)
+        self.assertEqual((made.only[1:], made.aside), ([[CUT]] * 3, [[LEN], [], [LEN, BELOW], []]))
 
     def test_proved(self) -> None:
         said = PROVED.format(LEN) + NOT_PROVED
         made, tried = self.trial([said, said, "logic=proved\n", "logic=proved\n"], {"len": self.LEN_EDIT})
         self.assertEqual([it.refused for it in tried.results], [False])
         self.assertIn("NOT REFUSED", tried.results[0].said)
+        self.assertEqual(made.tried, ["len.edit"])
 
     def test_an_unreadable_one_sends_all_to_be_tried_alone(self) -> None:
         said = UNREADABLE + NOTE.format(5) + BY_ITSELF.format(LEN) + REFUSED_ANSWER + BARE.format(BELOW) + NOT_PROVED
         alone = NOTE.format(5) + BY_ITSELF.format(LEN) + "only=1 proved=0\n"
-        made, tried = self.trial([said, alone, UNREADABLE + NOT_PROVED, "logic=proved\n"],
+        made, tried = self.trial([said, alone, UNREADABLE + NOT_PROVED, UNREADABLE + NOT_PROVED],
                                  {"len": self.LEN_EDIT, "below": self.BELOW_EDIT})
         self.assertEqual(self.refused(tried), {"reorder_buffer/len.edit": True, "reorder_buffer/below.edit": False})
-        self.assertEqual(made.only[1:], [[LEN], [BELOW], []])
-        self.assertEqual(made.tried, ["below.edit", "below.edit from nothing"])
+        self.assertEqual(made.only[1:], [[LEN], [BELOW], [BELOW]])
+        self.assertEqual(made.tried, ["below.edit"])
 
     def test_alone_any_function_counts(self) -> None:
         other = BARE.format(BELOW) + BY_A_CALL.format(CUT) + "only=1 proved=0\n"
         said = REFUSED_ANSWER + BARE.format(BELOW) + BY_A_CALL.format(CUT) + NOT_PROVED
-        made, tried = self.trial([said, PROVED.format(CUT) + NOT_PROVED, other, "logic=proved\n"],
+        made, tried = self.trial([said, PROVED.format(CUT) + NOT_PROVED, other, other],
                                  {"below": self.BELOW_EDIT, "cut": self.CUT_EDIT})
         self.assertEqual([it.refused for it in tried.results], [True, True])
-        self.assertEqual((made.only[2:], made.texts[3], made.tried), ([[CUT], [CUT]], {}, []))
+        # (that a function isn't proved says nothing where the proofs of others are left aside)
+        self.assertEqual((made.only[2:], made.aside[2:], made.tried), ([[CUT]] * 2, [[LEN, BELOW], []], []))
 
     def test_alone_a_line_that_is_not_known(self) -> None:
         said = PROVED.format(LEN) + NOT_PROVED
         alone = "fn {0}: could not tell\n".format(LEN) + "only=1 proved=0\n"
-        made, tried = self.trial([said, said, alone, "logic=proved\n"], {"len": self.LEN_EDIT})
+        made, tried = self.trial([said, said, alone, alone], {"len": self.LEN_EDIT})
         self.assertEqual([it.refused for it in tried.results], [False])
-        self.assertEqual(made.tried, ["len.edit", "len.edit from nothing"])
+        self.assertEqual(made.tried, ["len.edit"])
 
     def test_an_edit_that_does_not_apply(self) -> None:
         _, tried = self.trial([], {"gone": ("self.buffer.gone()", "1")})
@@ -399,16 +449,16 @@ class RoundsTest(unittest.TestCase):
 
     def test_outside_a_body_goes_alone(self) -> None:
         said = NOTE.format(5) + BY_ITSELF.format(LEN) + "only=1 proved=0\n"
-        made, tried = self.trial([said, "logic=proved\n"], {"clause": ("length self.now", "0")})
+        made, tried = self.trial([said], {"clause": ("length self.now", "0")})
         self.assertEqual([it.refused for it in tried.results], [True])
-        self.assertEqual(made.only, [[LEN], [LEN]])
+        self.assertEqual((made.only, made.aside), ([[LEN]], [[BELOW, CUT]]))
         self.assertEqual(made.tried, [])
 
     def test_outside_all_functions_goes_alone_over_the_file(self) -> None:
         said = NOTE.format(5) + BY_ITSELF.format(LEN) + "only=3 proved=2\n"
-        made, tried = self.trial([said, "logic=proved\n"], {"head": ("//! A ring.", "//! Another.")})
+        made, tried = self.trial([said], {"head": ("//! A ring.", "//! Another.")})
         self.assertEqual([it.refused for it in tried.results], [True])
-        self.assertEqual(made.only, [sorted(KNOWN), sorted(KNOWN)])
+        self.assertEqual((made.only, made.aside), ([sorted(KNOWN)], [[]]))
 
     def test_answers_that_name_what_is_gone(self) -> None:
         made, tried = self.trial([ANSWER_NAMES_OWN + BARE.format(BELOW) + NOT_PROVED], {"below": self.BELOW_EDIT})
@@ -418,34 +468,28 @@ class RoundsTest(unittest.TestCase):
 
     def test_answers_that_name_what_others_lack_go_alone(self) -> None:
         said = ANSWER_NAMES + BARE.format(BELOW) + NOT_PROVED
-        made, tried = self.trial([said, BARE.format(BELOW) + "only=1 proved=0\n", "logic=proved\n"],
-                                 {"below": self.BELOW_EDIT})
+        bare = BARE.format(BELOW) + "only=1 proved=0\n"
+        made, tried = self.trial([said, bare, bare], {"below": self.BELOW_EDIT})
         self.assertEqual([it.refused for it in tried.results], [True])
         self.assertEqual((made.only, made.tried), ([[BELOW]] * 3, []))
 
     def test_outside_a_body_and_its_file(self) -> None:
         made, tried = self.trial(["logic=proved\n", "logic=proved\n"], {"clause": ("length self.now", "0")}, clause=True)
         self.assertEqual([it.refused for it in tried.results], [True])
-        self.assertEqual((made.only[1], made.tried), ([], ["clause.edit"]))
+        self.assertEqual((made.only, made.tried), ([[LEN]] * 2, ["clause.edit"]))
 
     def test_a_cycle_goes_alone(self) -> None:
         said = REFUSED_ANSWER + BARE.format(BELOW) + NOT_PROVED
-        made = FakeKit(self.top, [said, "logic=proved\n", "logic=proved\n"], {"below": True})
+        made = FakeKit(self.top, [said, PROVED.format(BELOW) + "only=1 proved=1\n", "logic=proved\n"], {"below": True})
         made.kept_module = "Rattle-reorder_buffer-proofs.ring.Ring.+count_below.Goals.oantt"
         good = [made.edit("below", *self.BELOW_EDIT)]
         tried = rounds.try_crate(made, "reorder_buffer", good, [], KNOWN, False, lambda _text: None)
         self.assertEqual([it.refused for it in tried.results], [True])
         self.assertEqual(made.tried, ["below.edit"])
 
-    def test_kept_work_that_proves_too_little(self) -> None:
-        said = NOTE.format(5) + BY_ITSELF.format(LEN) + NOT_PROVED
-        made, tried = self.trial([said, said, said], {"one": self.LEN_EDIT, "two": self.LEN_EDIT_2}, one=True)
-        self.assertEqual(made.tried, ["one.edit from nothing", "two.edit from nothing"])
-        self.assertEqual([it.refused for it in tried.results], [True, False])
-
     def test_the_planted_edit(self) -> None:
         said = REFUSED_ANSWER + BARE.format(BELOW) + BY_A_CALL.format(CUT) + NOT_PROVED
-        made, tried = self.trial([said, "logic=proved\n"], {"below": self.BELOW_EDIT}, is_planted=True)
+        made, tried = self.trial([said], {"below": self.BELOW_EDIT}, is_planted=True)
         self.assertEqual(tried.plant, rounds.Plant("reorder_buffer/changes_nothing.edit", True, True))
         self.assertEqual(self.refused(tried), {"reorder_buffer/below.edit": True})
         self.assertEqual(made.only[0], [BELOW, CUT])
@@ -457,8 +501,7 @@ class RoundsTest(unittest.TestCase):
 
     def test_the_planted_edit_is_refused_alone(self) -> None:
         said = REFUSED_ANSWER + BARE.format(BELOW) + BY_A_CALL.format(CUT) + NOT_PROVED
-        _, tried = self.trial([said, "logic=proved\n"], {"below": self.BELOW_EDIT}, is_planted=True,
-                              changes_nothing=True)
+        _, tried = self.trial([said], {"below": self.BELOW_EDIT}, is_planted=True, changes_nothing=True)
         self.assertEqual(tried.plant, rounds.Plant("reorder_buffer/changes_nothing.edit", True, False))
 
 

@@ -2,7 +2,7 @@
 
 import os
 import re
-from typing import Dict, List, NamedTuple, Optional, Sequence, Tuple
+from typing import Dict, List, NamedTuple, Optional, Sequence, Set, Tuple
 
 from gate_lib import source
 
@@ -90,6 +90,48 @@ def functions_of_files(crate: str, texts: Dict[str, str], known: Sequence[str]) 
     if len(modules) != len(texts):
         return []
     return sorted(name for name in known if "++" not in name and name.startswith(tuple(modules)))
+
+
+def aside(crate: str, folder: str, tried: Sequence[str], known: Sequence[str]) -> List[str]:
+    """The functions of a crate, among those that the prover printed, that needn't be proved to see whether these are:
+    what calls a function cites its contract alone, and its body and its proof matter to nothing else. Closures aren't among them, nor what may be in a cycle of calls,
+    whose proofs are one, nor a function of whose proof another file names a part."""
+    in_cycles = {known_name(crate, path, it, known) for path, text in sources(folder).items()
+                 for it in source.functions(text)
+                 if it.cycle or source.calls(text[it.body:it.end], it.name)}
+    plain = re.compile(rf"{crate}(?:::\w+)+")
+    named = named_in_other_proofs(crate, folder)
+    return [it for it in known if plain.fullmatch(it) and "::fn::" not in it and it not in in_cycles
+            and it not in tried and it not in named]
+
+
+def without_bodies(crate: str, folder: str, texts: Dict[str, str], functions: Sequence[str],
+                   known: Sequence[str]) -> Dict[str, str]:
+    """These texts, and those of a crate's other files, with bodies that do nothing in place of these functions' own; all
+    else stays on its line."""
+    found = dict(texts)
+    for path, before in {**sources(folder), **texts}.items():
+        after, at = "", 0
+        for it in source.functions(before) if path.startswith("src/") else []:
+            if known_name(crate, path, it, known) in functions:
+                lines = before[it.body:it.end].split("\n")
+                after += before[at:it.body] + "\n" * (len(lines) - 2) + f"unreachable!() {lines[-2].strip()}\n"
+                at = it.end
+        if at:
+            found[path] = after + before[at:]
+    return found
+
+
+def named_in_other_proofs(crate: str, folder: str) -> Set[str]:
+    """The functions, and modules, of a crate of whose proofs a proof file of something else names a part."""
+    found = set()
+    for at, _, names in os.walk(f"{folder}/proofs"):
+        own = os.path.relpath(at, f"{folder}/proofs").replace("/", "::")
+        for text in [read(f"{at}/{it}") for it in names if it.endswith(".antt")]:
+            for path in re.findall(rf"\bRattle\.{crate}\.proofs\.([\w.]+)", text):
+                words = path.split(".")
+                found |= {"::".join([crate, *words[:end]]) for end in range(1, len(words)) if "::".join(words[:end]) != own}
+    return found
 
 
 def changed(before: str, after: str) -> Tuple[int, int]:

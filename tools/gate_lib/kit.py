@@ -4,14 +4,17 @@ It is loaded from the `rt` on PATH. What is used of it is that of the versions t
 gate runs plain `rt ci`.
 """
 
+import contextlib
+import copy
 import importlib.machinery
 import importlib.util
 import os
 import shutil
 import subprocess
 import sys
+import tempfile
 import types
-from typing import Any, Callable, Dict, List, NamedTuple, Optional, Tuple
+from typing import Any, Callable, Dict, List, NamedTuple, Optional, Sequence, Tuple
 
 KITS = ("rattle-kit-13b logic dac8208d650f15bf", "rattle-kit-13f logic dac8208d650f15bf")
 # What a try of an edit that is refused comes to: the older of these versions tells whether it is, the newer one how.
@@ -68,22 +71,43 @@ class Kit:
         texts, why = self.rt.read_edit(edit, folder)
         return texts, why or ""
 
-    def checked(self, name: str, texts: Dict[str, str], only: List[str], kept: str) -> Ran:
-        """Checks a crate with these texts in place of its own, all of it or only some functions."""
+    def checked(self, name: str, texts: Dict[str, str], only: Sequence[str], aside: Sequence[str], kept: str) -> Ran:
+        """Checks a crate with these texts in place of its own, all of it or only some functions. Those aside come out as
+        not proved, and cost next to nothing; what calls them is checked as far as it goes. What the check works out is
+        kept in a folder."""
         flags = ["--jobs", "1"]
         for function in only:
             flags += ["--only", function.partition("::")[2]]
-        ran = self.rt.checked(self.crates[name], texts, flags, kept)
+        with tempfile.TemporaryDirectory(prefix="gate-") as room:
+            ran = self.rt.checked(self.without_proofs(name, aside, room), texts, flags, kept)
         return Ran(ran.returncode, ran.stdout)
+
+    def without_proofs(self, name: str, functions: Sequence[str], room: str) -> Any:
+        """A crate with these functions' proofs taken away: a copy of it in a folder, where each has a proof file that
+        exports nothing."""
+        crate = copy.copy(self.crates[name])
+        for part in self.lib.PARTS:
+            if os.path.isdir(f"{crate.folder}/{part}"):
+                shutil.copytree(f"{crate.folder}/{part}", f"{room}/{part}")
+        for function in functions:
+            folder = "/".join([room, "proofs", *function.split("::")[1:]])
+            os.makedirs(folder, exist_ok=True)
+            for file in ("Answers", "Invariants"):
+                with contextlib.suppress(FileNotFoundError):
+                    os.remove(f"{folder}/{file}.antt")
+            with open(f"{folder}/Proof.antt", "w", encoding="utf-8"):
+                pass
+        crate.folder = room
+        return crate
 
     def is_unread(self, ran: Ran, texts: Dict[str, str]) -> bool:
         """Whether the prover could not read an edited text, or the kept work of a library could not be used."""
         lines = ran.text.split("\n")
         return any(self.rt.unread(it, texts) for it in lines) or self.lib.STALE.search(ran.text) is not None
 
-    def must_fail(self, name: str, edit: str, kept: Optional[str]) -> Tuple[bool, str]:
-        """Tries one edit in the toolchain's own way: whether it is refused, and what to say."""
-        tried, said = self.rt.must_fail(self.crates[name], edit, ["--jobs", "1"], kept)
+    def must_fail(self, name: str, edit: str) -> Tuple[bool, str]:
+        """Tries one edit in the toolchain's own way, from nothing: whether it is refused, and what to say."""
+        tried, said = self.rt.must_fail(self.crates[name], edit, ["--jobs", "1"])
         return is_refusal(tried), said
 
     def lines(self, name: str) -> int:

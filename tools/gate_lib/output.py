@@ -7,7 +7,7 @@ reason.
 """
 
 import re
-from typing import Dict, List, NamedTuple, Tuple
+from typing import Dict, List, NamedTuple, Set, Tuple
 
 LINE = re.compile(r"^(?:fn|impl|struct|enum|trait) ([^ ]+): (.*)$")
 NOTE = re.compile(r"^note: (?:\./)?(src/\S+?):(\d+):\d+: (?:it is not proved that |`search` found no proof)")
@@ -46,6 +46,10 @@ class Said(NamedTuple):
     def is_called_only(self) -> bool:
         """Whether all that is said against it is what it calls."""
         return CALLED.fullmatch(self.line) is not None and not self.goals and not self.refused_answer
+
+    def calls_one_of(self, functions: Set[str]) -> bool:
+        """Whether all that is said against it is what it calls, and one of these is among that."""
+        return self.is_called_only and any(f"`{it}`" in self.line for it in functions)
 
     def is_own(self, path: str, first: int, last: int) -> bool:
         """Whether it is unproved for a reason of its own, where it stands in these lines of a file."""

@@ -1,17 +1,19 @@
 """A crate's must-fail edits, tried together in rounds.
 
 A round's check has at most one edit of each function. An edit is refused there where its own function isn't proved for
-a reason of its own: what a function calls is cited by its contract, which an edit of a body leaves as it is. What isn't
-certified so is tried in another round, and at last alone; so is each edit that isn't one of a single function's body,
-and each of a function in a cycle of calls, whose proofs are one. Alone, an edit is refused where anything isn't proved:
-first the functions that most likely show it are checked (its own, those that name the constant that it changes, or
-those of its file), and where these are proved the whole crate is, in the toolchain's own way.
+a reason of its own: what a function calls is cited by its contract, which an edit of a body leaves as it is. So a
+round leaves the bodies and proofs of all other functions aside, since `rt ci` has proved them. What isn't certified so is tried in
+another round, with those proofs, and at last alone; so is each edit that isn't one of a single function's body, and
+each of a function in a cycle of calls, whose proofs are one. Alone, first the functions that most likely show an edit
+are checked (its own, those that name the constant that it changes, or those of its file), in both ways, and where these
+are proved the whole crate is, in the toolchain's own way: there an edit is refused where anything isn't proved. Each
+check begins from nothing.
 """
 
 import os
 import re
 import tempfile
-from typing import Any, Callable, Dict, List, NamedTuple, Optional, Sequence, Set
+from typing import Any, Callable, Dict, List, NamedTuple, Optional, Sequence, Set, Tuple
 
 from gate_lib import edits as edits_of_text
 from gate_lib import output
@@ -48,8 +50,8 @@ class Tried(NamedTuple):
 class Trial:
     """The edits of one crate, on their way through the rounds."""
 
-    def __init__(self, kit: Any, crate: str, kept: str, tell: Callable[[str], None]) -> None:
-        self.kit, self.crate, self.kept, self.tell = kit, crate, kept, tell
+    def __init__(self, kit: Any, crate: str, known: Sequence[str], tell: Callable[[str], None]) -> None:
+        self.kit, self.crate, self.known, self.tell = kit, crate, known, tell
         self.folder = kit.folder(crate)
         self.results: List[Result] = []
         self.alone: List[str] = []
@@ -59,14 +61,11 @@ class Trial:
         self.tries: Dict[str, int] = {}
         # The functions that an edit is tried on when it is alone, by its file.
         self.near: Dict[str, List[str]] = {}
-        # Functions whose certificate rests on what earlier checks kept, and whether the whole crate's does.
-        self.over_kept: Set[str] = set()
-        self.was_whole = False
         self.plant: Optional[Edit] = None
         self.was_beside = False
         self.plant_found = False
 
-    def sort_out(self, files: Sequence[str], known: Sequence[str]) -> None:
+    def sort_out(self, files: Sequence[str]) -> None:
         """Reads the edits, and tells which can be tried together."""
         for file in files:
             label = self.labels[file] = f"{self.crate}/{os.path.basename(file)}"
@@ -74,17 +73,17 @@ class Trial:
             if texts is None:
                 self.results.append(Result(label, False, f"BAD EDIT: {why}"))
                 continue
-            edit = edits_of_text.in_one_function(self.crate, self.folder, file, label, texts, known)
+            edit = edits_of_text.in_one_function(self.crate, self.folder, file, label, texts, self.known)
             if edit:
                 self.together.append(edit)
                 self.near[file] = [edit.function]
             else:
                 self.alone.append(file)
-                self.near[file] = edits_of_text.functions_near(self.crate, self.folder, texts, known)
+                self.near[file] = edits_of_text.functions_near(self.crate, self.folder, texts, self.known)
 
-    def put_plant(self, room: str, known: Sequence[str]) -> bool:
+    def put_plant(self, room: str) -> bool:
         """Puts an edit that changes nothing before the others; tells whether the crate has a place for one."""
-        self.plant = edits_of_text.harmless(self.crate, self.folder, room, self.together, known)
+        self.plant = edits_of_text.harmless(self.crate, self.folder, room, self.together, self.known)
         if self.plant:
             self.together.insert(0, self.plant)
         return self.plant is not None
@@ -97,37 +96,42 @@ class Trial:
             self.round(number)
         for file in self.alone:
             self.try_alone(file)
-        if not self.is_sound():
-            self.tell("kept work proves less than it should: what rests on it is tried again from nothing")
-            self.try_again()
 
     def round(self, number: int) -> None:
-        """Tries one edit of each function, and certifies what it can."""
+        """Tries one edit of each function, those that were tried least, and certifies what it can."""
+        tries = min(self.tries.get(it.file, 0) for it in self.together)
         now: Dict[str, Edit] = {}
         for edit in self.together:
-            now.setdefault(edit.function, edit)
+            if self.tries.get(edit.file, 0) == tries:
+                now.setdefault(edit.function, edit)
         texts, placed = edits_of_text.together(self.folder, list(now.values()))
-        ran = self.kit.checked(self.crate, texts, sorted(now), self.kept)
+        ran, cycles = self.checked(texts, sorted(now), is_short=tries == 0)
         is_judged = output.is_judged(ran.text, ran.status) and not self.kit.is_unread(ran, texts)
         said = output.read(ran.text)
-        cycles = functions_in_cycles(self.crate, self.kept)
         for it in placed:
             self.together.remove(it.edit)
+            if it.edit is self.plant and it.edit.function in said:
+                self.was_beside |= said[it.edit.function].calls_one_of(set(now) - {it.edit.function})
             if it.edit.function in cycles:
                 self.alone.append(it.edit.file)
-            elif is_judged and self.certify(it, said):
-                self.over_kept |= {it.edit.function} if number > 1 else set()
-            else:
+            elif not (is_judged and self.certify(it, said)):
                 self.wait(it.edit, is_judged and not is_settled(said.get(it.edit.function)))
         refused = sum(it.refused for it in self.results)
         self.tell(f"round {number}: {len(now)} edits tried, {refused} refused so far, {len(self.together)} to come, "
                   f"{len(self.alone)} to be tried alone")
 
+    def checked(self, texts: Dict[str, str], only: List[str], is_short: bool) -> Tuple[Any, Set[str]]:
+        """Checks some functions with these texts in place of the crate's own, in a short check without the proofs of the
+        others. Returns what it said and the functions in a cycle of calls."""
+        aside = edits_of_text.aside(self.crate, self.folder, only, self.known) if is_short else []
+        texts = edits_of_text.without_bodies(self.crate, self.folder, texts, aside, self.known)
+        with tempfile.TemporaryDirectory(prefix="gate-kept-") as kept:
+            ran = self.kit.checked(self.crate, texts, only, aside, kept)
+            return ran, functions_in_cycles(self.crate, kept)
+
     def certify(self, placed: Placed, said: Dict[str, output.Said]) -> bool:
         """Counts an edit as refused where its function, or a closure in it, is unproved for a reason of its own."""
         edit = placed.edit
-        if edit is self.plant and edit.function in said:
-            self.was_beside |= said[edit.function].is_called_only
         for name, it in said.items():
             is_its = name == edit.function or name.startswith(edit.closures)
             if is_its and it.is_own(edit.path, placed.first, placed.last):
@@ -147,52 +151,33 @@ class Trial:
             self.alone.append(edit.file)
 
     def try_alone(self, file: str) -> None:
-        """Tries an edit alone: its functions, then the whole crate, and again from nothing where it isn't refused."""
+        """Tries an edit alone: its functions, without the proofs of the others and with them, and then the whole crate."""
         is_plant = self.plant is not None and file == self.plant.file
-        if not is_plant and self.is_refused_near(file):
+        if not is_plant and (self.is_refused_near(file, is_short=True) or self.is_refused_near(file, is_short=False)):
             return
-        self.was_whole = True
-        refused, said = self.kit.must_fail(self.crate, file, self.kept)
+        refused, said = self.kit.must_fail(self.crate, file)
         if is_plant:
             self.plant_found = not refused and ": NOT REFUSED" in said
             return
-        if not refused:
-            refused, said = self.kit.must_fail(self.crate, file, None)
         self.results.append(Result(self.labels[file], refused, said.partition(": ")[2]))
         self.tell(f"alone: {said[:150]}")
 
-    def is_refused_near(self, file: str) -> bool:
-        """Counts an edit as refused where a check of its functions alone, with no other edit, proves not all of them."""
+    def is_refused_near(self, file: str, is_short: bool) -> bool:
+        """Counts an edit as refused where a check of its functions alone, with no other edit, proves not all of them. In a
+        short check a function has to say more than that it isn't proved: goals or answers of its own."""
         texts, _ = self.kit.read_edit(file, self.folder)
         if not texts or not self.near.get(file):
             return False
-        ran = self.kit.checked(self.crate, texts, self.near[file], self.kept)
+        ran, _ = self.checked(texts, self.near[file], is_short)
         if not output.is_judged(ran.text, ran.status) or self.kit.is_unread(ran, texts):
             return False
         for name, it in output.read(ran.text).items():
-            if output.OWN.fullmatch(it.line):
-                self.over_kept |= set(self.near[file])
+            if output.OWN.fullmatch(it.line) and (not is_short or it.goals or it.refused_answer):
                 said = f"refused, as it must be: alone: {name}: {it.line}"
                 self.results.append(Result(self.labels[file], True, said))
                 self.tell(f"{self.labels[file]}: {said[:150]}")
                 return True
         return False
-
-    def is_sound(self) -> bool:
-        """Whether what was refused over kept work is proved over it without edits."""
-        functions = [] if self.was_whole else sorted(self.over_kept)
-        if not self.was_whole and not functions:
-            return True
-        return self.kit.checked(self.crate, {}, functions, self.kept).status == 0
-
-    def try_again(self) -> None:
-        """Tries all edits that are refused so far once more, each alone and from nothing."""
-        refused = {it.label for it in self.results if it.refused}
-        self.results = [it for it in self.results if not it.refused]
-        for file, label in self.labels.items():
-            if label in refused:
-                well, said = self.kit.must_fail(self.crate, file, None)
-                self.results.append(Result(label, well, said.partition(": ")[2]))
 
 
 def is_settled(said: Optional[output.Said]) -> bool:
@@ -217,15 +202,13 @@ def functions_in_cycles(crate: str, kept: str) -> Set[str]:
 def try_crate(kit: Any, crate: str, good: Sequence[str], bad: Sequence[str], known: Sequence[str], is_planted: bool,
               tell: Callable[[str], None]) -> Tried:
     """Tries the edits of a crate, and where asked for, beside them one that changes nothing."""
-    with tempfile.TemporaryDirectory(prefix="gate-kept-") as kept, tempfile.TemporaryDirectory(prefix="gate-") as room:
-        trial = Trial(kit, crate, kept, tell)
+    with tempfile.TemporaryDirectory(prefix="gate-") as room:
+        trial = Trial(kit, crate, known or names_by_check(kit, crate), tell)
         trial.results = [Result(f"{crate}/{os.path.basename(it)}", False, "BAD EDIT: no plain file NAME.edit")
                          for it in bad]
-        if not known:
-            known, trial.was_whole = names_by_check(kit, crate, kept), True
-        trial.sort_out(good, known)
+        trial.sort_out(good)
         if is_planted:
-            trial.put_plant(room, known)
+            trial.put_plant(room)
         trial.run()
         plant = Plant(trial.plant.label, trial.was_beside, trial.plant_found) if trial.plant else None
         return Tried(trial.results, plant)
@@ -234,13 +217,13 @@ def try_crate(kit: Any, crate: str, good: Sequence[str], bad: Sequence[str], kno
 def has_place_for_plant(kit: Any, crate: str, good: Sequence[str], known: Sequence[str]) -> bool:
     """Whether a crate has a function that calls one that an edit changes."""
     with tempfile.TemporaryDirectory(prefix="gate-") as room:
-        trial = Trial(kit, crate, room, print)
-        known = known or names_by_check(kit, crate, f"{room}/kept")
-        trial.sort_out(good, known)
-        return trial.put_plant(room, known)
+        trial = Trial(kit, crate, known or names_by_check(kit, crate), print)
+        trial.sort_out(good)
+        return trial.put_plant(room)
 
 
-def names_by_check(kit: Any, crate: str, kept: str) -> List[str]:
-    """The functions of a crate as a check of it prints them, over kept work: those of a crate that `rt ci` took from an
-    earlier run on the same machine, of which it says nothing more."""
-    return output.names(kit.checked(crate, {}, [], kept).text)
+def names_by_check(kit: Any, crate: str) -> List[str]:
+    """The functions of a crate as a check of it prints them: those of a crate that `rt ci` took from an earlier run on the
+    same machine, of which it says nothing more."""
+    with tempfile.TemporaryDirectory(prefix="gate-kept-") as kept:
+        return output.names(kit.checked(crate, {}, [], [], kept).text)
