@@ -123,6 +123,14 @@ class OutputTest(unittest.TestCase):
         self.assertFalse(self.is_own(NOTE.format(5) + BY_ITSELF.format(LEN), LEN, 6, 9))
         self.assertFalse(self.is_own(NOTE.format(5) + PROVED.format(CUT) + BY_ITSELF.format(LEN), LEN))
 
+    def test_a_place_out_of_bounds(self) -> None:
+        note = (
+            "note: src/ring.rt:5:9: index 1 is out of bounds of an array of 1 (`bounds-bytes-1`); the facts known there "
+            "allow values at which this goal is false\n"
+        )
+        self.assertTrue(self.is_own(note + BY_ITSELF.format(LEN), LEN, 4, 7))
+        self.assertFalse(self.is_own(note + BY_ITSELF.format(LEN), LEN, 6, 7))
+
     def test_a_call(self) -> None:
         said = output.read(BARE.format(BELOW) + BY_A_CALL.format(CUT))[CUT]
         self.assertFalse(said.is_own("src/ring.rt", 1, 99))
@@ -465,6 +473,16 @@ class RoundsTest(unittest.TestCase):
         self.assertEqual([it.refused for it in tried.results], [True])
         self.assertIn("names what the edit took away", tried.results[0].said)
         self.assertEqual((made.only, made.tried), ([[BELOW]], []))
+
+    def test_answers_that_name_what_is_gone_beside_calls(self) -> None:
+        calls = BARE.format(BELOW).rstrip() + f"; it calls `{LEN}`, which is not proved\n"
+        made, tried = self.trial([ANSWER_NAMES_OWN + calls + NOT_PROVED], {"below": self.BELOW_EDIT})
+        self.assertEqual(([it.refused for it in tried.results], made.only), ([True], [[BELOW]]))
+        # (what is called is edited itself, so that nothing is known of it)
+        said = NOTE.format(5) + BY_ITSELF.format(LEN) + ANSWER_NAMES_OWN + calls + NOT_PROVED
+        proved = PROVED.format(BELOW) + "only=1 proved=1\n"
+        made, tried = self.trial([said, proved, proved, proved], {"len": self.LEN_EDIT, "below": self.BELOW_EDIT})
+        self.assertEqual([it.refused for it in tried.results], [True, False])
 
     def test_answers_that_name_what_others_lack_go_alone(self) -> None:
         said = ANSWER_NAMES + BARE.format(BELOW) + NOT_PROVED

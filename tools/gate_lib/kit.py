@@ -114,6 +114,10 @@ class Kit:
         """How many lines a crate has."""
         return self.crates[name].count(rb"\n")
 
+    def lines_with_below(self, name: str) -> int:
+        """How many lines a crate and the repository's crates below it have."""
+        return sum(self.lines(it.name) for it in [*self.crates[name].below(), self.crates[name]])
+
     def in_lanes(self, weights: Dict[str, int], call: Callable[[str], Any]) -> Dict[str, Any]:
         """Calls a function for each crate, as many side by side as processors and memory allow, the heaviest first."""
         tasks = {(it, "edits"): ([], weight, self.rt.need(self.crates[it]), lambda given, jobs, at=it: call(at))

@@ -105,7 +105,8 @@ class Trial:
             if self.tries.get(edit.file, 0) == tries:
                 now.setdefault(edit.function, edit)
         texts, placed = edits_of_text.together(self.folder, list(now.values()))
-        ran, cycles = self.checked(texts, sorted(now), is_short=tries == 0)
+        aside = self.others(sorted(now)) if tries == 0 else []
+        ran, cycles = self.checked(texts, sorted(now), aside)
         is_judged = output.is_judged(ran.text, ran.status) and not self.kit.is_unread(ran, texts)
         said = output.read(ran.text)
         for it in placed:
@@ -114,30 +115,33 @@ class Trial:
                 self.was_beside |= said[it.edit.function].calls_one_of(set(now) - {it.edit.function})
             if it.edit.function in cycles:
                 self.alone.append(it.edit.file)
-            elif not (is_judged and self.certify(it, said)):
+            elif not (is_judged and self.certify(it, said, aside)):
                 self.wait(it.edit, is_judged and not is_settled(said.get(it.edit.function)))
         refused = sum(it.refused for it in self.results)
         self.tell(f"round {number}: {len(now)} edits tried, {refused} refused so far, {len(self.together)} to come, "
                   f"{len(self.alone)} to be tried alone")
 
-    def checked(self, texts: Dict[str, str], only: List[str], is_short: bool) -> Tuple[Any, Set[str]]:
-        """Checks some functions with these texts in place of the crate's own, in a short check without the proofs of the
-        others. Returns what it said and the functions in a cycle of calls."""
-        aside = edits_of_text.aside(self.crate, self.folder, only, self.known) if is_short else []
+    def others(self, only: List[str]) -> List[str]:
+        """The functions that needn't be proved to see whether some are."""
+        return edits_of_text.aside(self.crate, self.folder, only, self.known)
+
+    def checked(self, texts: Dict[str, str], only: List[str], aside: List[str]) -> Tuple[Any, Set[str]]:
+        """Checks some functions with these texts in place of the crate's own, and without the bodies and proofs of those
+        aside. Returns what it said and the functions in a cycle of calls."""
         texts = edits_of_text.without_bodies(self.crate, self.folder, texts, aside, self.known)
         with tempfile.TemporaryDirectory(prefix="gate-kept-") as kept:
             ran = self.kit.checked(self.crate, texts, only, aside, kept)
             return ran, functions_in_cycles(self.crate, kept)
 
-    def certify(self, placed: Placed, said: Dict[str, output.Said]) -> bool:
+    def certify(self, placed: Placed, said: Dict[str, output.Said], aside: List[str]) -> bool:
         """Counts an edit as refused where its function, or a closure in it, is unproved for a reason of its own."""
         edit = placed.edit
         for name, it in said.items():
             is_its = name == edit.function or name.startswith(edit.closures)
-            if is_its and it.is_own(edit.path, placed.first, placed.last):
+            if is_its and it.is_own(edit.path, placed.first, placed.last, aside):
                 if edit is self.plant:
                     return True
-                why = " (only because an answer names what the edit took away)" if it.is_gone_only else ""
+                why = " (only because an answer names what the edit took away)" if it.is_gone_only(aside) else ""
                 self.results.append(Result(edit.label, True, f"refused, as it must be: {name}: {it.line}{why}"))
                 return True
         return False
@@ -153,7 +157,9 @@ class Trial:
     def try_alone(self, file: str) -> None:
         """Tries an edit alone: its functions, without the proofs of the others and with them, and then the whole crate."""
         is_plant = self.plant is not None and file == self.plant.file
-        if not is_plant and (self.is_refused_near(file, is_short=True) or self.is_refused_near(file, is_short=False)):
+        near = self.near.get(file, [])
+        if not is_plant and near and (self.is_refused_near(file, near, self.others(near))
+                                      or self.is_refused_near(file, near, [])):
             return
         refused, said = self.kit.must_fail(self.crate, file)
         if is_plant:
@@ -162,17 +168,17 @@ class Trial:
         self.results.append(Result(self.labels[file], refused, said.partition(": ")[2]))
         self.tell(f"alone: {said[:150]}")
 
-    def is_refused_near(self, file: str, is_short: bool) -> bool:
-        """Counts an edit as refused where a check of its functions alone, with no other edit, proves not all of them. In a
-        short check a function has to say more than that it isn't proved: goals or answers of its own."""
+    def is_refused_near(self, file: str, near: List[str], aside: List[str]) -> bool:
+        """Counts an edit as refused where a check of some functions alone, with no other edit, proves not all of them.
+        Where others are aside, a function has to say more than that it isn't proved: goals or answers of its own."""
         texts, _ = self.kit.read_edit(file, self.folder)
-        if not texts or not self.near.get(file):
+        if not texts:
             return False
-        ran, _ = self.checked(texts, self.near[file], is_short)
+        ran, _ = self.checked(texts, near, aside)
         if not output.is_judged(ran.text, ran.status) or self.kit.is_unread(ran, texts):
             return False
         for name, it in output.read(ran.text).items():
-            if output.OWN.fullmatch(it.line) and (not is_short or it.goals or it.refused_answer):
+            if output.OWN.fullmatch(it.line) and (not aside or it.goals or it.refused_answer):
                 said = f"refused, as it must be: alone: {name}: {it.line}"
                 self.results.append(Result(self.labels[file], True, said))
                 self.tell(f"{self.labels[file]}: {said[:150]}")
