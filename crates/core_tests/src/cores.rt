@@ -1,6 +1,7 @@
 //! What tests run a core on: programs at the eight contexts, and a core that starts there.
-ghost use Rattle.std.specs.Prelude.{◌≤◌, ◌<◌, ◌^◌, ℕ, IfOk, slice_index};
+ghost use Rattle.std.specs.Prelude.{◌≡◌, ◌≤◌, ◌<◌, ◌^◌, ℕ, IfOk, slice_index};
 ghost use Rattle.checkpoint.specs.Aligned.{IsAligned};
+ghost use Rattle.core_cycle.specs.Shown.{shown};
 
 use branch_predict::{Guess, Tables};
 use checkpoint::{Mark, starts};
@@ -58,7 +59,7 @@ pub fn front_delay(cycles: u64) -> Result<Profile, Fail> {
     Profile::checked(fields).map_err(|_| "a profile".into())
 }
 
-/// A core whose contexts start at marks, each with the count that it is to reach.
+/// A core whose contexts start at marks, each with the count that it is to reach. It has run no cycle.
 pub fn core_of<G: Guess + Drop, P: Pick + Drop, O: Order + Drop, D: Delay + Drop>(
     alloc: Global,
     profile: &Profile,
@@ -71,11 +72,13 @@ pub fn core_of<G: Guess + Drop, P: Pick + Drop, O: Order + Drop, D: Delay + Drop
 ) -> Result<Core<G, P, O, D>, Fail>
     requires aligned { IsAligned marks }
     requires targets { (c : ℕ) → c < 8 → slice_index targets c ≤ 2 ^ 60 }
+    ensures first { IfOk result (λ core. (shown core).view.cycle ≡ 0) }
 {
     match Core::new(alloc, profile, marks, targets, guess, pick, order, delay) {
         Ok(core) => Ok(core),
         Err(refused) => {
-            let (_marks, fault) = refused;
+            let (marks, fault) = refused;
+            drop(marks);
             Err(fault.into())
         }
     }

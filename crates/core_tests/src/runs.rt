@@ -1,11 +1,18 @@
 //! Runs to their end, or to a limit of cycles.
-ghost use Rattle.std.specs.Prelude.{◌≤◌, ◌<◌, ◌^◌, ℕ, slice_index};
+ghost use Rattle.std.specs.Prelude.{◌≡◌, ◌≤◌, ◌<◌, ◌^◌, ℕ, slice_index};
+ghost use Rattle.checkpoint.specs.Aligned.{IsAligned};
+ghost use Rattle.core_cycle.specs.Shown.{shown};
 
 use crate::cores::{core_of, front_delay, starts_with, tables_of};
+use branch_predict::Tables;
+use checkpoint::Mark;
+use core_cycle::Core;
 use core_profile::Profile;
-use core_run::{Figures, Outcome, run_to};
+use core_run::{Figures, Outcome, Run, run_to};
+use data_tags::Tags;
 use fetch_policy::NamedPick;
 use issue_queue::NamedOrder;
+use join_law::Eight;
 use std::alloc::Global;
 use std::test::Fail;
 
@@ -21,28 +28,61 @@ const AHEAD: [u64; 8] = [100, 0, 0, 0, 0, 0, 0, 0];
 /// Each context is at its target.
 const THERE: [u64; 8] = [0; 8];
 
-/// How a program at context 0 ends by a profile, its policies, its predictor and its data tags: the outcome, the figures
-/// and the count.
+/// A core by the policies that a profile names, with its predictor and its data tags.
+type TablesCore = Core<Tables, NamedPick, NamedOrder, Tags>;
+
+/// How a run ends: the outcome, the figures, and the count of context 0.
+type End = (Outcome, Figures, u64);
+
+/// How a program at context 0 ends by a profile, its policies, its predictor and its data tags.
 fn end_of(
     alloc: Global,
     profile: &Profile,
     words: &[u32],
     targets: [u64; 8],
     limit: u64,
-) -> Result<(Outcome, Figures, u64), Fail>
+) -> Result<End, Fail>
+    requires targets { (c : ℕ) → c < 8 → slice_index targets c ≤ 2 ^ 60 }
+    requires limit { limit ≤ 1000 }
+{
+    let (guess, delay) = tables_of(alloc, profile)?;
+    let marks = starts_with(alloc, words, &[])?;
+    end_from(alloc, profile, marks, guess, delay, targets, limit)
+}
+
+/// The same from marks, with a predictor and data tags.
+fn end_from(
+    alloc: Global,
+    profile: &Profile,
+    marks: Eight<Mark>,
+    guess: Tables,
+    delay: Tags,
+    targets: [u64; 8],
+    limit: u64,
+) -> Result<End, Fail>
+    requires aligned { IsAligned marks }
     requires targets { (c : ℕ) → c < 8 → slice_index targets c ≤ 2 ^ 60 }
     requires limit { limit ≤ 1000 }
 {
     let pick = NamedPick::from(profile.fetch);
     let order = NamedOrder::from(profile.issue);
-    let (guess, delay) = tables_of(alloc, profile)?;
-    let marks = starts_with(alloc, words, &[])?;
     let core = core_of(alloc, profile, marks, targets, guess, pick, order, delay)?;
-    if core.cycles() > 0 {
-        return Err("a core begins in cycle 0".into());
-    }
-    let run = run_to(core, limit);
-    Ok((run.outcome, run.figures, run.marks.c0.count()))
+    Ok(end_of_core(core, limit))
+}
+
+/// The same of a core that has run no cycle.
+fn end_of_core(core: TablesCore, limit: u64) -> End
+    requires first { (shown core).view.cycle ≡ 0 }
+    requires limit { limit ≤ 1000 }
+{
+    let Run {
+        outcome,
+        figures,
+        marks,
+    } = run_to(core, limit);
+    let count = marks.c0.count();
+    drop(marks);
+    (outcome, figures, count)
 }
 
 /// Figures in the order of a report.

@@ -3,7 +3,7 @@
 use checkpoint::starts;
 use core_run::{Figures, Outcome};
 use lab_plan::{JobStart, Plan};
-use lab_pool::{JobEnd, JobResult, JobRun, run_in_order};
+use lab_pool::{JobEnd, JobResult, JobRun, LabResult, run_in_order};
 use std::alloc::Global;
 use std::test::Fail;
 
@@ -21,13 +21,19 @@ const FURTHEST: &str =
 
 /// What is left of a plan that is run from the start: its jobs, and the book's count of context 0.
 fn done_of(alloc: Global, text: &str) -> Result<(Vec<JobResult>, u64), Fail> {
-    let plan = match Plan::from_text(alloc, text) {
-        Ok(plan) => plan,
-        Err(_) => return Err("refused".into()),
-    };
+    match Plan::from_text(alloc, text) {
+        Ok(plan) => done_of_plan(alloc, &plan),
+        Err(_) => Err("refused".into()),
+    }
+}
+
+/// The same of a plan that was read.
+fn done_of_plan(alloc: Global, plan: &Plan) -> Result<(Vec<JobResult>, u64), Fail> {
     let opening = starts(alloc, plan.origin())?;
-    let done = run_in_order(alloc, &plan, opening)?;
-    Ok((done.jobs, done.marks.c0.count()))
+    let LabResult { marks, jobs } = run_in_order(alloc, plan, opening)?;
+    let count = marks.c0.count();
+    drop(marks);
+    Ok((jobs, count))
 }
 
 /// A job that ran with context 0 alone.
