@@ -164,7 +164,9 @@ class OutputTest(unittest.TestCase):
         self.assertFalse(self.is_own(ANSWER_NAMES_OWN + BARE.format(LEN), LEN))
         calls = f"fn {CUT}: not proved; it calls `{BELOW}`, which is not proved\n"
         named = ANSWER_NAMES_OWN.replace("count_below", "cut_from")
-        self.assertFalse(self.is_own(named + BARE.format(BELOW) + calls, CUT))
+        # (what its body has is the same whatever becomes of what it calls)
+        self.assertTrue(self.is_own(named + BARE.format(BELOW) + calls, CUT))
+        self.assertFalse(self.is_own(ANSWER_NAMES_OWN + BARE.format(BELOW) + calls, CUT))
 
     def test_proved(self) -> None:
         self.assertTrue(output.read(PROVED.format(LEN))[LEN].is_proved)
@@ -478,11 +480,10 @@ class RoundsTest(unittest.TestCase):
         calls = BARE.format(BELOW).rstrip() + f"; it calls `{LEN}`, which is not proved\n"
         made, tried = self.trial([ANSWER_NAMES_OWN + calls + NOT_PROVED], {"below": self.BELOW_EDIT})
         self.assertEqual(([it.refused for it in tried.results], made.only), ([True], [[BELOW]]))
-        # (what is called is edited itself, so that nothing is known of it)
+        # (and where what is called has an edit too)
         said = NOTE.format(5) + BY_ITSELF.format(LEN) + ANSWER_NAMES_OWN + calls + NOT_PROVED
-        proved = PROVED.format(BELOW) + "only=1 proved=1\n"
-        made, tried = self.trial([said, proved, proved, proved], {"len": self.LEN_EDIT, "below": self.BELOW_EDIT})
-        self.assertEqual([it.refused for it in tried.results], [True, False])
+        made, tried = self.trial([said], {"len": self.LEN_EDIT, "below": self.BELOW_EDIT})
+        self.assertEqual([it.refused for it in tried.results], [True, True])
 
     def test_answers_that_name_what_others_lack_go_alone(self) -> None:
         said = ANSWER_NAMES + BARE.format(BELOW) + NOT_PROVED

@@ -7,7 +7,7 @@ reason.
 """
 
 import re
-from typing import Dict, List, NamedTuple, Sequence, Set, Tuple
+from typing import Dict, List, NamedTuple, Set, Tuple
 
 LINE = re.compile(r"^(?:fn|impl|struct|enum|trait) ([^ ]+): (.*)$")
 NOTE = re.compile(
@@ -24,7 +24,7 @@ OWN = re.compile(
     r"no proof: expected answers in \./proofs/\S+/Answers\.antt; `search` did not prove `[^;]*(?:; " + CALLS + ")?"
     r"|not proved(?:; " + CALLS + ")?"
 )
-UNPROVED = re.compile(r"not proved((?:; " + CALLS + ")?)")
+UNPROVED = re.compile(r"not proved(?:; " + CALLS + ")?")
 CALLED = re.compile(r"(?:no proof: |not proved; )" + CALLS)
 LAST = re.compile(r"logic=not-proved\b.*|only=\d+ proved=\d+")
 
@@ -54,22 +54,20 @@ class Said(NamedTuple):
         """Whether all that is said against it is what it calls, and one of these is among that."""
         return self.is_called_only and any(f"`{it}`" in self.line for it in functions)
 
-    def is_own(self, path: str, first: int, last: int, aside: Sequence[str] = ()) -> bool:
-        """Whether it is unproved for a reason of its own, where it stands in these lines of a file, and those aside are
-        known to be proved."""
+    def is_own(self, path: str, first: int, last: int) -> bool:
+        """Whether it is unproved for a reason of its own, where it stands in these lines of a file."""
         if OWN.fullmatch(self.line) is None:
             return False
         if any(it[0] != path or not first <= it[1] <= last for it in self.goals):
             return False
-        return bool(self.goals) or self.refused_answer or self.is_gone_only(aside)
+        return bool(self.goals) or self.refused_answer or self.is_gone_only
 
-    def is_gone_only(self, aside: Sequence[str] = ()) -> bool:
-        """Whether all that is said against it is that an answer names what its body no longer has: it calls nothing
-        that isn't proved but what is aside, and no goal of its own was refused."""
-        said = UNPROVED.fullmatch(self.line)
-        called = re.findall(r"`([^`]*)`", said[1] or "") if said else []
-        is_said = said is not None and all(it in aside for it in called)
-        return is_said and self.names_gone and not self.goals and not self.refused_answer
+    @property
+    def is_gone_only(self) -> bool:
+        """Whether all that is said against it, beside what it calls, is that an answer names what its own body no longer
+        has, whatever becomes of what it calls; no goal of its own was refused."""
+        return (UNPROVED.fullmatch(self.line) is not None and self.names_gone and not self.goals
+                and not self.refused_answer)
 
 
 def read(text: str) -> Dict[str, Said]:

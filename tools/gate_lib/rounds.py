@@ -115,7 +115,7 @@ class Trial:
                 self.was_beside |= said[it.edit.function].calls_one_of(set(now) - {it.edit.function})
             if it.edit.function in cycles:
                 self.alone.append(it.edit.file)
-            elif not (is_judged and self.certify(it, said, aside)):
+            elif not (is_judged and self.certify(it, said)):
                 self.wait(it.edit, is_judged and not is_settled(said.get(it.edit.function)))
         refused = sum(it.refused for it in self.results)
         self.tell(f"round {number}: {len(now)} edits tried, {refused} refused so far, {len(self.together)} to come, "
@@ -133,15 +133,15 @@ class Trial:
             ran = self.kit.checked(self.crate, texts, only, aside, kept)
             return ran, functions_in_cycles(self.crate, kept)
 
-    def certify(self, placed: Placed, said: Dict[str, output.Said], aside: List[str]) -> bool:
+    def certify(self, placed: Placed, said: Dict[str, output.Said]) -> bool:
         """Counts an edit as refused where its function, or a closure in it, is unproved for a reason of its own."""
         edit = placed.edit
         for name, it in said.items():
             is_its = name == edit.function or name.startswith(edit.closures)
-            if is_its and it.is_own(edit.path, placed.first, placed.last, aside):
+            if is_its and it.is_own(edit.path, placed.first, placed.last):
                 if edit is self.plant:
                     return True
-                why = " (only because an answer names what the edit took away)" if it.is_gone_only(aside) else ""
+                why = " (only because an answer names what the edit took away)" if it.is_gone_only else ""
                 self.results.append(Result(edit.label, True, f"refused, as it must be: {name}: {it.line}{why}"))
                 return True
         return False
