@@ -94,8 +94,9 @@ def functions_of_files(crate: str, texts: Dict[str, str], known: Sequence[str]) 
 
 def aside(crate: str, folder: str, tried: Sequence[str], known: Sequence[str]) -> List[str]:
     """The functions of a crate, among those that the prover printed, that needn't be proved to see whether these are:
-    what calls a function cites its contract alone, and its body and its proof matter to nothing else. Closures aren't among them, nor what may be in a cycle of calls,
-    whose proofs are one, nor a function of whose proof another file names a part."""
+    what calls a function cites its contract alone, and its body and its proof matter to nothing else. Closures aren't
+    among them, nor what may be in a cycle of calls, whose proofs are one, nor a function of whose proof another file
+    names a part."""
     in_cycles = {known_name(crate, path, it, known) for path, text in sources(folder).items()
                  for it in source.functions(text)
                  if it.cycle or source.calls(text[it.body:it.end], it.name)}
@@ -107,8 +108,8 @@ def aside(crate: str, folder: str, tried: Sequence[str], known: Sequence[str]) -
 
 def without_bodies(crate: str, folder: str, texts: Dict[str, str], functions: Sequence[str],
                    known: Sequence[str]) -> Dict[str, str]:
-    """These texts, and those of a crate's other files, with bodies that do nothing in place of these functions' own; all
-    else stays on its line."""
+    """These texts, and those of a crate's other files, with bodies that do nothing in place of these functions' own;
+    all else stays on its line."""
     found = dict(texts)
     for path, before in {**sources(folder), **texts}.items():
         after, at = "", 0
@@ -130,7 +131,8 @@ def named_in_other_proofs(crate: str, folder: str) -> Set[str]:
         for text in [read(f"{at}/{it}") for it in names if it.endswith(".antt")]:
             for path in re.findall(rf"\bRattle\.{crate}\.proofs\.([\w.]+)", text):
                 words = path.split(".")
-                found |= {"::".join([crate, *words[:end]]) for end in range(1, len(words)) if "::".join(words[:end]) != own}
+                paths = ["::".join(words[:end]) for end in range(1, len(words))]
+                found |= {f"{crate}::{it}" for it in paths if it != own}
     return found
 
 

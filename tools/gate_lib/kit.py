@@ -72,9 +72,9 @@ class Kit:
         return texts, why or ""
 
     def checked(self, name: str, texts: Dict[str, str], only: Sequence[str], aside: Sequence[str], kept: str) -> Ran:
-        """Checks a crate with these texts in place of its own, all of it or only some functions. Those aside come out as
-        not proved, and cost next to nothing; what calls them is checked as far as it goes. What the check works out is
-        kept in a folder."""
+        """Checks a crate with these texts in place of its own, all of it or only some functions. Those aside come out
+        as not proved, and cost next to nothing; what calls them is checked as far as it goes. What the check works out
+        is kept in a folder."""
         flags = ["--jobs", "1"]
         for function in only:
             flags += ["--only", function.partition("::")[2]]

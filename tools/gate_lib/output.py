@@ -11,7 +11,8 @@ from typing import Dict, List, NamedTuple, Set, Tuple
 
 LINE = re.compile(r"^(?:fn|impl|struct|enum|trait) ([^ ]+): (.*)$")
 NOTE = re.compile(
-    r"^note: (?:\./)?(src/\S+?):(\d+):\d+: (?:it is not proved that |`search` found no proof|index \S+ is out of bounds of )"
+    r"^note: (?:\./)?(src/\S+?):(\d+):\d+: "
+    r"(?:it is not proved that |`search` found no proof|index \S+ is out of bounds of )"
 )
 ERROR = re.compile(r"^\./(proofs/\S+)/(?:Answers|Invariants|Proof)\.antt:\d+:\d+: error: (.*)$")
 # An answer that names what an edit took away from the modules that the prover makes of its function's body.
@@ -64,8 +65,8 @@ class Said(NamedTuple):
 
     @property
     def is_gone_only(self) -> bool:
-        """Whether all that is said against it, beside what it calls, is that an answer names what its own body no longer
-        has, whatever becomes of what it calls; no goal of its own was refused."""
+        """Whether all that is said against it, beside what it calls, is that an answer names what its own body no
+        longer has, whatever becomes of what it calls; no goal of its own was refused."""
         return (UNPROVED.fullmatch(self.line) is not None and self.names_gone and not self.goals
                 and not self.refused_answer)
 

@@ -2,12 +2,12 @@
 
 A round's check has at most one edit of each function. An edit is refused there where its own function isn't proved for
 a reason of its own: what a function calls is cited by its contract, which an edit of a body leaves as it is. So a
-round leaves the bodies and proofs of all other functions aside, since `rt ci` has proved them. What isn't certified so is tried in
-another round, with those proofs, and at last alone; so is each edit that isn't one of a single function's body, and
-each of a function in a cycle of calls, whose proofs are one. Alone, first the functions that most likely show an edit
-are checked (its own, those that name the constant that it changes, or those of its file), in both ways, and where these
-are proved the whole crate is, in the toolchain's own way: there an edit is refused where anything isn't proved. Each
-check begins from nothing.
+round leaves the bodies and proofs of all other functions aside, since `rt ci` has proved them. What isn't certified so
+is tried in another round, with those proofs, and at last alone; so is each edit that isn't one of a single function's
+body, and each of a function in a cycle of calls, whose proofs are one. Alone, first the functions that most likely show
+an edit are checked (its own, those that name the constant that it changes, or those of its file), in both ways, and
+where these are proved the whole crate is, in the toolchain's own way: there an edit is refused where anything isn't
+proved. Each check begins from nothing.
 """
 
 import os
@@ -126,7 +126,7 @@ class Trial:
         return edits_of_text.aside(self.crate, self.folder, only, self.known)
 
     def checked(self, texts: Dict[str, str], only: List[str], aside: List[str]) -> Tuple[Any, Set[str]]:
-        """Checks some functions with these texts in place of the crate's own, and without the bodies and proofs of those
+        """Checks some functions with these texts in place of the crate's own, without the bodies and proofs of those
         aside. Returns what it said and the functions in a cycle of calls."""
         texts = edits_of_text.without_bodies(self.crate, self.folder, texts, aside, self.known)
         with tempfile.TemporaryDirectory(prefix="gate-kept-") as kept:
@@ -155,7 +155,7 @@ class Trial:
             self.alone.append(edit.file)
 
     def try_alone(self, file: str) -> None:
-        """Tries an edit alone: its functions, without the proofs of the others and with them, and then the whole crate."""
+        """Tries an edit alone: its functions, without the proofs of the others and with them, then the whole crate."""
         is_plant = self.plant is not None and file == self.plant.file
         near = self.near.get(file, [])
         if not is_plant and near and (self.is_refused_near(file, near, self.others(near))
@@ -229,7 +229,7 @@ def has_place_for_plant(kit: Any, crate: str, good: Sequence[str], known: Sequen
 
 
 def names_by_check(kit: Any, crate: str) -> List[str]:
-    """The functions of a crate as a check of it prints them: those of a crate that `rt ci` took from an earlier run on the
-    same machine, of which it says nothing more."""
+    """The functions of a crate as a check of it prints them: those of a crate that `rt ci` took from an earlier run on
+    the same machine, of which it says nothing more."""
     with tempfile.TemporaryDirectory(prefix="gate-kept-") as kept:
         return output.names(kit.checked(crate, {}, [], [], kept).text)
