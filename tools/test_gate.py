@@ -263,7 +263,6 @@ class SourceTest(unittest.TestCase):
             near = edits.functions_near("pages", room, {"src/lib.rt": CONSTANTS.replace("256", "255")}, known[:2])
             self.assertEqual(near, ["pages::has_room", "pages::other"])
 
-
     def test_what_is_left_aside(self) -> None:
         text = (
             "fn cut() {\n    left();\n}\n\nfn left() {\n    1\n}\n\nfn walk() {\n    walk()\n}\n\n"
@@ -345,7 +344,6 @@ class KitTest(unittest.TestCase):
     def test_what_is_a_refusal(self) -> None:
         self.assertEqual([kit.is_refusal(it) for it in (True, "refused", "limit")], [True] * 3)
         self.assertEqual([kit.is_refusal(it) for it in (False, "missed", "bad", "unsure", None, 1.5)], [False] * 6)
-
 
     def test_proofs_left_aside(self) -> None:
         files = ["src/lib.rt", "proofs/low/cut/Answers.antt", "proofs/low/cut/Facts.antt", "proofs/low/len/Answers.antt"]

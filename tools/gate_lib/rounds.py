@@ -158,8 +158,9 @@ class Trial:
         """Tries an edit alone: its functions, without the proofs of the others and with them, then the whole crate."""
         is_plant = self.plant is not None and file == self.plant.file
         near = self.near.get(file, [])
-        if not is_plant and near and (self.is_refused_near(file, near, self.others(near))
-                                      or self.is_refused_near(file, near, [])):
+        others = self.others(near)
+        if not is_plant and near and (self.is_refused_near(file, near, others)
+                                      or others and self.is_refused_near(file, near, [])):
             return
         refused, said = self.kit.must_fail(self.crate, file)
         if is_plant:
