@@ -282,6 +282,22 @@ class SourceTest(unittest.TestCase):
             aside = edits.aside("pages", room, ["pages::cut"], known + more)
         self.assertEqual(aside, ["pages::left", "pages::PageClone::clone"])
 
+    def test_bodies_left_out(self) -> None:
+        with tempfile.TemporaryDirectory() as room:
+            os.makedirs(f"{room}/src")
+            with open(f"{room}/src/ring.rt", "w", encoding="utf-8") as it:
+                it.write(RING)
+            edited = RING.replace("truncate_back(keep)", "truncate_front(keep)")
+            texts = edits.without_bodies("reorder_buffer", room, {"src/ring.rt": edited}, [LEN, BELOW], KNOWN)
+            self.assertEqual(edits.without_bodies("reorder_buffer", room, {}, [], KNOWN), {})
+        left = texts["src/ring.rt"]
+        self.assertEqual((list(texts), left.count("unreachable!() }")), (["src/ring.rt"], 2))
+        self.assertNotIn("buffer.len()", left)
+        # (what stays stands where it stood)
+        lines = [(at, it) for at, it in enumerate(edited.split("\n")) if "cut_from" in it or "keep" in it or "fn " in it]
+        self.assertEqual([it for it in enumerate(left.split("\n")) if it in lines], lines)
+        self.assertEqual(left.count("\n"), edited.count("\n"))
+
 
 class FakeKit:
     """A toolchain whose checks answer as they are told to."""
