@@ -100,6 +100,7 @@ fn fetches_loads_and_bytes(rt: HostRuntime) {
     for &(address, want) in BYTES {
         assert_equal(&rt, (address, memory.byte(address)), (address, want));
     }
+    drop(memory);
 }
 
 #[test]
@@ -162,6 +163,7 @@ fn stores_the_lowest_bytes_or_nothing(rt: HostRuntime) {
     let last = memory.load(0x10_0FFF, Width::Byte);
     let before = memory.load(0x10_0FF0, Width::Double);
     assert_equal(&rt, (stored, last, before), (Ok(()), Ok(0xFF), Ok(0)));
+    drop(memory);
 }
 
 /// Addresses of pages, and their bytes 0, 1, 3 and 4.
@@ -188,6 +190,9 @@ fn shows_its_pages_in_order(rt: HostRuntime) {
     };
     let last = [third.bytes()[4095], fourth.bytes()[4095]];
     assert_equal(&rt, last, [7, 0]);
+    drop(memory);
+    drop(bytes);
+    drop(words);
 }
 
 #[test]
@@ -203,6 +208,8 @@ fn copies_apart(rt: HostRuntime) {
         (stored, fetched, copy.pages().len()),
         (Ok(()), Ok(0xFFF2_8293), 2),
     );
+    drop(copy);
+    drop(memory);
 }
 
 #[test]
@@ -215,6 +222,7 @@ fn holds_none(rt: HostRuntime) {
         (fetched, loaded, empty.pages().is_empty()),
         (Err(Fault::FetchAccess), Err(Fault::LoadAccess), true),
     );
+    drop(empty);
 }
 
 #[test]
@@ -244,6 +252,9 @@ fn holds_the_most(rt: HostRuntime) {
         faults,
         [None, Some(Fault::StoreAccess), Some(Fault::StoreMisaligned)],
     );
+    drop(full);
+    drop(bytes);
+    drop(words);
 }
 
 /// Also run with `rt try --test --fail-alloc N`, which refuses the Nth growth: a refusal is told, and the memory that
@@ -255,6 +266,7 @@ fn tells_refused_growths(rt: HostRuntime) {
     };
     if let Ok(copy) = memory.try_clone(rt.alloc()) {
         assert_equal(&rt, copy.pages().len(), 2);
+        drop(copy);
     }
     assert_equal(
         &rt,
@@ -264,4 +276,5 @@ fn tells_refused_growths(rt: HostRuntime) {
         ),
         (Ok(0xFFF2_8293), Ok(0x1122_3344_5566_7788)),
     );
+    drop(memory);
 }

@@ -1,6 +1,9 @@
-//! Tests of what a core is given: its profile, guesses, latencies and fetch policies. They call only what is public.
+//! Tests of what a core is given: its profile, guesses, latencies and fetch policies, and the plans that name them. They
+//! call only what is public.
 #![tactic(auto)]
 
+#[cfg(test)]
+mod accepted;
 #[cfg(test)]
 mod equal;
 #[cfg(test)]
@@ -11,3 +14,5 @@ mod lags;
 mod picks;
 #[cfg(test)]
 mod profiles;
+#[cfg(test)]
+mod refused;

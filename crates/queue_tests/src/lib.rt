@@ -1,5 +1,5 @@
-//! Tests of the queues of a core: renaming, the issue queue, reorder buffers, loads and stores, and the data flow
-//! over them. They call only what is public.
+//! Tests of the queues of a core: renaming, the issue queue, reorder buffers, entries in flight, loads and
+//! stores, and the data flow over them. They call only what is public.
 #![tactic(auto)]
 
 #[cfg(test)]
@@ -8,6 +8,8 @@ mod accesses;
 mod codes;
 #[cfg(test)]
 mod equal;
+#[cfg(test)]
+mod flights;
 #[cfg(test)]
 mod flows;
 #[cfg(test)]

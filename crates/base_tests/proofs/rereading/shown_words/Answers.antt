@@ -1,6 +1,6 @@
 use Rattle.std.proofs.Common.{◌∙◌, rules}
 use Rattle.rv64_asm.proofs.Laws.{shown_gives_its_word, shown_has_no_fault}
-use Rattle.asm_tests.proofs.rereading.shown_words.Goals as goal
+use Rattle.base_tests.proofs.rereading.shown_words.Goals as goal
 
 pub returns-in_err-assembly-clause-refused : goal.returns-in_err-assembly-clause-refused
 returns-in_err-assembly-clause-refused g c =

@@ -1,7 +1,7 @@
 //! What `show` writes, assembled again: a law of the two calls by their public clauses.
 
 ghost use Rattle.std.specs.Prelude.{◌≡◌, IfOk, IfErr};
-ghost use Rattle.asm_tests.specs.OneWord.{IsOneWord};
+ghost use Rattle.base_tests.specs.OneWord.{IsOneWord};
 
 use rv64_asm::{AsmFault, Assembly, assemble, show};
 use rv64_decode::Insn;

@@ -1,5 +1,6 @@
 //! Whole texts: what they assemble to, and how they are refused.
 
+use crate::equal::assert_equal;
 use crate::shown_words;
 use rv64_asm::{AsmFault, Labels, LineFault, Program, assemble, show};
 use rv64_decode::decode;
@@ -23,7 +24,11 @@ const A7: LineFault = LineFault::TooManyPages;
 /// A text is refused by this fault of this line.
 fn refuses(rt: &(impl Abort + AllocGlobal), text: &str, fault: LineFault, line: usize) {
     let refusal = Some(AsmFault::At { fault, line });
-    assert!(rt; assemble(rt.alloc(), text).err() == refusal, "{text:?}");
+    assert_equal(
+        rt,
+        (text, assemble(rt.alloc(), text).err()),
+        (text, refusal),
+    );
 }
 
 /// A text gives these words and these bytes.
@@ -32,10 +37,12 @@ fn gives(rt: &(impl Abort + AllocGlobal), text: &str, words: &[u32], bytes: &[u8
         panic!(rt; "refused: {text:?}");
     };
     let program = &assembly.program;
-    assert!(rt;
-        program.words() == words && program.bytes() == bytes,
-        "{text:?}"
+    assert_equal(
+        rt,
+        (text, program.words(), program.bytes()),
+        (text, words, bytes),
     );
+    drop(assembly);
 }
 
 /// The examples of the two forms of countdown: a body that always returns A8 fails here.
@@ -144,10 +151,12 @@ const PSEUDO_INSTRUCTIONS: &[(&str, &str)] = &[
 /// The word of a line.
 fn word_of(alloc: Global, line: &str) -> Option<u32> {
     let assembly = assemble(alloc, line).ok()?;
-    match assembly.program.words() {
+    let word = match assembly.program.words() {
         [word] => Some(*word),
         _ => None,
-    }
+    };
+    drop(assembly);
+    word
 }
 
 #[test]
@@ -305,11 +314,11 @@ const PRINTED: &[(LineFault, &str)] = &[
 fn printed_faults(rt: HostRuntime) {
     for (fault, code) in PRINTED {
         let printed = format!(in rt.alloc(); "{fault}").expect(&rt, "memory");
-        assert_eq!(rt; printed.as_str(), *code);
+        assert_equal(&rt, printed.as_str(), *code);
     }
     let refusal = AsmFault::At { fault: A1, line: 2 };
     let printed = format!(in rt.alloc(); "{refusal}, {}", AsmFault::OutOfMemory);
-    assert_eq!(rt; printed.expect(&rt, "memory").as_str(), "A1 line 2, A8");
+    assert_equal(&rt, printed.expect(&rt, "memory").as_str(), "A1 line 2, A8");
 }
 
 #[test]
@@ -317,9 +326,9 @@ fn programs(rt: HostRuntime) {
     let words = [1, 2].to_vec(rt.alloc()).expect(&rt, "memory");
     let bytes = [3].to_vec(rt.alloc()).expect(&rt, "memory");
     let program = Program::new(words, bytes);
-    assert!(rt; program.words() == [1, 2].as_slice() && program.bytes() == [3].as_slice());
+    assert_equal(&rt, (program.words(), program.bytes()), (&[1, 2], &[3]));
     let (words, bytes) = program.into_parts();
-    assert!(rt; words.as_slice() == [1, 2].as_slice() && bytes.as_slice() == [3].as_slice());
+    assert_equal(&rt, (words.as_slice(), bytes.as_slice()), (&[1, 2], &[3]));
 }
 
 /// Labels in both parts, two of them with one address.
@@ -353,24 +362,32 @@ fn labels_in_order(rt: HostRuntime) {
     let words = assembly.program.words() == [0x13, 0x6f].as_slice();
     let none = assembly.labels.get("none");
     assert!(rt; words && none == None && are_labels(&assembly.labels, LABELS));
+    drop(assembly);
+}
+
+/// How many words and bytes a program has, where all words are this one and all bytes 0.
+fn lengths_of(program: &Program, word: u32) -> Option<[usize; 2]> {
+    for it in program.words() {
+        if *it != word {
+            return None;
+        }
+    }
+    for it in program.bytes() {
+        if *it != 0 {
+            return None;
+        }
+    }
+    Some([program.words().len(), program.bytes().len()])
 }
 
 /// How many words, bytes and labels a text gives, where all words are this one and all bytes 0.
 fn sizes_of(alloc: Global, text: &str, word: u32) -> Option<[usize; 3]> {
     let assembly = assemble(alloc, text).ok()?;
-    let words = assembly.program.words();
-    let bytes = assembly.program.bytes();
-    for it in words {
-        if *it != word {
-            return None;
-        }
-    }
-    for it in bytes {
-        if *it != 0 {
-            return None;
-        }
-    }
-    Some([words.len(), bytes.len(), assembly.labels.len()])
+    let lengths = lengths_of(&assembly.program, word);
+    let labels = assembly.labels.len();
+    drop(assembly);
+    let [words, bytes] = lengths?;
+    Some([words, bytes, labels])
 }
 
 #[test]
@@ -382,10 +399,8 @@ fn full_text_and_full_data(rt: HostRuntime) {
         text.push_str(".word 0x00000013\n").expect(&rt, "memory");
     }
     let words = sizes_of(rt.alloc(), &text, 0x13);
-    assert_eq!(rt;
-        [zeros, words],
-        [Some([0, 1_048_576, 0]), Some([65536, 0, 0])]
-    );
+    assert_equal(&rt, zeros, Some([0, 1_048_576, 0]));
+    assert_equal(&rt, words, Some([65536, 0, 0]));
     text.push_str(".word 0x00000013\n").expect(&rt, "memory");
     refuses(&rt, &text, A7, 65537);
 }
@@ -398,7 +413,7 @@ fn many_labels(rt: HostRuntime) {
         write!(text, "l{line}: bne x5, x0, l{line} # goes nowhere\n").expect(&rt, "memory");
     }
     let sizes = sizes_of(rt.alloc(), &text, 0x0002_9063);
-    assert_eq!(rt; sizes, Some([65536, 0, 65536]));
+    assert_equal(&rt, sizes, Some([65536, 0, 65536]));
 }
 
 /// Words, where they stand, and the lines that show them.
@@ -431,11 +446,11 @@ const SHOWN: &[(u32, u64, &str)] = &[
 fn is_shown(rt: &(impl Abort + AllocGlobal), word: u32, pc: u64, line: &str) {
     let insn = decode(word).expect(rt, "an instruction");
     let shown = show(rt.alloc(), &insn, pc).expect(rt, "memory");
-    assert_eq!(rt; shown.as_str(), line);
+    assert_equal(rt, shown.as_str(), line);
     if pc == 0x10000 {
         gives(rt, line, &[word], &[]);
         let again = shown_words(rt.alloc(), &insn).expect(rt, "memory");
-        assert!(rt; again.as_slice() == [word].as_slice(), "{line}");
+        assert_equal(rt, (line, again.as_slice()), (line, &[word]));
     }
 }
 

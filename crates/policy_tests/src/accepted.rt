@@ -1,5 +1,6 @@
 //! Plans that are accepted, by their programs, contexts and jobs.
 
+use crate::equal::assert_equal;
 use core_profile::{FetchPolicy, ProfileFields};
 use hart_step::Environment;
 use lab_plan::{Job, JobStart, Plan};
@@ -68,7 +69,7 @@ const STARTS: &[(&str, Option<&str>, Option<&str>, bool)] = &[
 fn programs_of_contexts(rt: HostRuntime) {
     for (plan, first, second, wanted) in STARTS {
         let found = starts_from(&rt, rt.alloc(), plan, *first, *second);
-        assert_eq!(rt; found, *wanted, "{plan}");
+        assert_equal(&rt, (*plan, found), (*plan, *wanted));
     }
 }
 

@@ -1,5 +1,6 @@
 //! Texts that are no plan, by the line that they are refused with.
 
+use crate::equal::assert_equal;
 use lab_plan::Plan;
 use std::alloc::Global;
 use std::process::Abort;
@@ -10,11 +11,13 @@ fn assert_told(rt: &impl Abort, alloc: Global, parts: &[&str], wanted: &str) {
     for part in parts {
         text.push_str(*part).expect(rt, "memory");
     }
-    let told = match Plan::from_text(alloc, text.as_str()) {
+    let text = text.as_str();
+    let told = match Plan::from_text(alloc, text) {
         Ok(_) => String::from_str(alloc, "ok"),
         Err(fault) => format!(in alloc; "{fault}"),
     };
-    assert_eq!(rt; told.expect(rt, "memory").as_str(), wanted, "{text}");
+    let told = told.expect(rt, "memory");
+    assert_equal(rt, (text, told.as_str()), (text, wanted));
 }
 
 /// What is no plan.

@@ -128,7 +128,11 @@ fn are_same(left: &Assembly, right: &Assembly) -> bool {
 /// Whether a text that is assembled to this is assembled again to the same.
 fn is_accepted_again(alloc: Global, text: &str, first: &Assembly) -> bool {
     match assemble(alloc, text) {
-        Ok(again) => are_same(first, &again),
+        Ok(again) => {
+            let same = are_same(first, &again);
+            drop(again);
+            same
+        }
         Err(_) => false,
     }
 }
@@ -146,6 +150,7 @@ fn is_accepted(rt: &impl Abort, alloc: Global, text: &str) -> bool {
     match assemble(alloc, text) {
         Ok(assembly) => {
             assert!(rt; is_accepted_again(alloc, text, &assembly), "{text:?}");
+            drop(assembly);
             true
         }
         Err(fault) => {
@@ -167,6 +172,7 @@ fn changed_texts(rt: HostRuntime) {
         if is_accepted(&rt, rt.alloc(), text) {
             accepted = accepted.wrapping_add(1);
         }
+        drop(bytes);
     }
     assert!(rt; 100 < accepted && accepted < 900, "{accepted}");
 }

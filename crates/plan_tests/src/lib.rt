@@ -1,7 +1,0 @@
-//! Tests of plans. They call only what is public.
-#![tactic(auto)]
-
-#[cfg(test)]
-mod accepted;
-#[cfg(test)]
-mod refused;
