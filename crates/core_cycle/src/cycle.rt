@@ -85,6 +85,7 @@ impl<G: Guess + Drop, P: Pick + Drop, O: Order + Drop, D: Delay + Drop, A: Alloc
         let Ok(machine) = Machine::new(alloc, profile, &marks, &targets) else {
             return Err((marks, CoreFault::OutOfMemory));
         };
+        drop(marks);
         Ok(Core {
             contexts: Contexts::new(machine),
             guess,

@@ -4,9 +4,11 @@ ghost use Rattle.std.specs.Prelude.{◌≡◌, ◌≤◌, IfOk, IfErr, Some, len
 ghost use Rattle.std.specs.Arc.{arc_value};
 ghost use Rattle.toml.specs.Parse.{parse_document};
 ghost use Rattle.toml.specs.View.{table_view};
+ghost use Rattle.lab_plan.specs.Contexts.{IsOriginOf};
 ghost use Rattle.lab_plan.specs.Form.{formed};
 ghost use Rattle.lab_plan.specs.Plans.{IsPlanOf, IsPlanOfText};
 ghost use Rattle.lab_plan.specs.Returned.{RefusesForm};
+ghost use Rattle.lab_plan.specs.declared.fault.PlanFault.TheVariants.{OutOfMemory};
 
 use crate::fault::PlanFault;
 use crate::form::is_plan_form;
@@ -102,9 +104,23 @@ fn plan_of(alloc: Global, document: &Table) -> Result<Plan, PlanFault>
         return Err(PlanFault::UnknownProgram(context));
     }
     let jobs = read_jobs(alloc, document)?;
+    match shared_origin(alloc, document) {
+        Ok(origin) => Ok(Plan { origin, jobs }),
+        Err(fault) => {
+            drop(jobs);
+            Err(fault)
+        }
+    }
+}
+
+/// What the contexts of a document start from.
+fn shared_origin(alloc: Global, document: &Table) -> Result<Arc<Origin>, PlanFault>
+    ensures ok { IfOk result (λ origin. IsOriginOf (table_view document.now) (arc_value origin)) }
+    ensures err { IfErr result (λ fault. fault ≡ OutOfMemory) }
+{
     let origin = read_origin(alloc, document)?;
     match Arc::new(alloc, origin) {
-        Ok(origin) => Ok(Plan { origin, jobs }),
+        Ok(origin) => Ok(origin),
         Err(_) => Err(PlanFault::OutOfMemory),
     }
 }

@@ -31,8 +31,23 @@ pub fn run_in_order(
     ensures book { IfOk result (λ done. done.marks ≡ book_after opening done.jobs.items) }
 {
     let planned = plan.jobs();
-    let begun = before_jobs(alloc, planned.len(), &opening)?;
-    run_jobs(alloc, planned, &opening, begun)
+    let results = results_from(alloc, planned, &opening);
+    drop(opening);
+    results
+}
+
+/// Runs jobs in order, from an opening.
+fn results_from(
+    alloc: Global,
+    planned: &[Job],
+    opening: &Eight<Mark>,
+) -> Result<LabResult, PoolFault>
+    requires { IsAligned opening.now }
+    ensures jobs { IfOk result (λ done. AreJobResults opening.now [] planned.now done.jobs.items) }
+    ensures book { IfOk result (λ done. done.marks ≡ book_after opening.now done.jobs.items) }
+{
+    let begun = before_jobs(alloc, planned.len(), opening)?;
+    run_jobs(alloc, planned, opening, begun)
 }
 
 /// What there is before any of so many jobs: the book is the opening.
@@ -80,8 +95,13 @@ fn run_next(
     let LabResult { marks, mut jobs } = done;
     let (book, end) = run_job(alloc, job, opening, marks);
     let result = result_of(job, end);
-    jobs.push(result).map_err(|_| PoolFault::OutOfMemory)?;
-    Ok(LabResult { marks: book, jobs })
+    match jobs.push(result) {
+        Ok(()) => Ok(LabResult { marks: book, jobs }),
+        Err(_) => {
+            drop(book);
+            Err(PoolFault::OutOfMemory)
+        }
+    }
 }
 
 /// The result of a job, by how it ended.

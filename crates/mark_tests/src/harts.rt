@@ -179,6 +179,7 @@ fn assert_example(rt: &impl Abort, alloc: Global, it: &Example) {
         (answer, end(&hart, register)),
         ((it.count, it.stop), (it.pc, it.stop, Some(value), 0)),
     );
+    drop(hart);
 }
 
 #[test]
@@ -199,6 +200,7 @@ fn steps(rt: HostRuntime) {
         (answer, hart.pc(), hart.regs()[6], stored),
         (Ok(()), 0x1000C, 255, Ok(0x1122_3344_5566_77FF)),
     );
+    drop(hart);
 }
 
 #[test]
@@ -207,6 +209,7 @@ fn steps_at_the_stop(rt: HostRuntime) {
     let answer = hart.step();
     assert_equal(&rt, (answer, hart.pc()), (Err(Stop::Ecall), 0x1000C));
     assert_equal(&rt, *hart.regs(), [0; 32]);
+    drop(hart);
 }
 
 /// The pc, x5 and the stop there.
@@ -238,6 +241,8 @@ fn copies(rt: HostRuntime) {
         ),
         (Environment::One, 1, Ok(0x00A0_0293)),
     );
+    drop(copy);
+    drop(hart);
 }
 
 /// The word of an instruction, its registers, and its effect at 0x10000 on the values of its sources.

@@ -78,6 +78,7 @@ fn assert_stop(rt: &impl Abort, alloc: Global, mark: &mut Mark, want: [Shown; 2]
     let copy = mark.try_clone(alloc).expect(rt, "memory");
     let _ = mark.advance(100);
     assert_equal(rt, [shown(mark), shown(&copy)], want);
+    drop(copy);
 }
 
 /// What a mark shows at its start and after 7 instructions, and what the mark and its copy show once the mark has gone on
@@ -92,6 +93,7 @@ fn assert_countdown(rt: &impl Abort, alloc: Global, origin: &Arc<Origin>, contex
         [(0, 0x10000, 0), (7, 0x10004, 7)],
     );
     assert_stop(rt, alloc, &mut mark, [(21, 0x1000c, 0), (7, 0x10004, 7)]);
+    drop(mark);
 }
 
 /// An advance by so many instructions, at most 1000, returns this. The mark keeps its origin and context.
@@ -110,6 +112,7 @@ fn assert_advance(
         (answer, mark.context(), mark.origin().same(origin)),
         (want, first, true),
     );
+    drop(mark);
 }
 
 /// The join of the marks of context 0 after these counts shows this.
@@ -125,6 +128,7 @@ fn assert_join(
     let right = mark_at(rt, alloc, origin, first, counts.1);
     let mark = join_of(left, right).expect(rt, "kin");
     assert_equal(rt, shown(&mark), want);
+    drop(mark);
 }
 
 /// The marks with those counts, at most 1000, at contexts 0 and 1, and 0 at the others.
@@ -166,10 +170,11 @@ fn two(
 /// What eight marks show: the counts at contexts 0 and 1, and whether they are aligned.
 type ShownGrid = ((u64, u64), bool);
 
-/// The marks are dropped here, behind a pointer: each drop of a whole grid has a cost in proof.
-fn shown_grid(rt: &impl Abort, alloc: Global, grid: Eight<Mark>) -> ShownGrid {
-    let grid = Arc::new(alloc, grid).expect(rt, "memory");
-    ((grid.c0.count(), grid.c1.count()), aligned(&grid))
+/// The marks are dropped here, by a call: each drop of a whole grid has a cost in proof.
+fn shown_grid(grid: Eight<Mark>) -> ShownGrid {
+    let shown = ((grid.c0.count(), grid.c1.count()), aligned(&grid));
+    drop(grid);
+    shown
 }
 
 /// What a folded tree of grids of the origin shows.
@@ -182,7 +187,7 @@ fn folded(
     requires { All (AreMarksOf (arc_value origin.now)) (leaves tree) }
 {
     let _ = origin;
-    shown_grid(rt, alloc, furthest_leaf_each(tree))
+    shown_grid(furthest_leaf_each(tree))
 }
 
 const FIVE_THREE: (u64, u64) = (5, 3);
@@ -244,14 +249,17 @@ fn furthest_of_list(rt: &impl Abort, alloc: Global, origin: &Arc<Origin>) -> u64
     let [context, ..] = Ctx::all();
     let first = mark_at(rt, alloc, origin, context, 2);
     let others = listed(rt, alloc, mark_at(rt, alloc, origin, context, 9));
-    furthest_leaf(Tree::<Mark>::Leaf(furthest(first, others))).count()
+    let mark = furthest_leaf(Tree::<Mark>::Leaf(furthest(first, others)));
+    let count = mark.count();
+    drop(mark);
+    count
 }
 
 /// The furthest of two grids, as a list.
 fn furthest_counts(rt: &impl Abort, alloc: Global, origin: &Arc<Origin>) -> ShownGrid {
     let first = grid(rt, alloc, origin, FIVE_THREE);
     let others = listed(rt, alloc, grid(rt, alloc, origin, TWO_NINE));
-    shown_grid(rt, alloc, furthest_each(first, others))
+    shown_grid(furthest_each(first, others))
 }
 
 /// Marks of the countdown of context 0 count, stop, and join to the further.
@@ -274,6 +282,8 @@ fn assert_hart_at_stop(rt: &impl Abort, alloc: Global, origin: &Arc<Origin>) {
     let hart = mark.hart(alloc).expect(rt, "a hart");
     assert_equal(rt, *hart.regs(), [0; 32]);
     assert_equal(rt, hart.pc(), 0x1000c);
+    drop(hart);
+    drop(mark);
 }
 
 /// The furthest of both grids, merged both ways, doubled and regrouped, and as a list.
@@ -295,6 +305,7 @@ fn marks_of_a_countdown(rt: HostRuntime) {
     assert_hart_at_stop(&rt, rt.alloc(), &origin);
     let grids = furthest_of_grids(&rt, rt.alloc(), &origin);
     assert_equal(&rt, grids, [((5, 9), true); 6]);
+    drop(origin);
 }
 
 /// What a mark's refused copy and hart give, and what the mark shows then; none where the mark itself is refused.
@@ -305,12 +316,16 @@ fn refused_growths(alloc: Global, origin: &Arc<Origin>) -> Option<RefusedGrowths
     let mark = Mark::start(alloc, origin, first).ok()?;
     let copy = mark.try_clone(alloc).err();
     let hart = mark.hart(alloc).err();
-    Some((copy, hart, shown(&mark)))
+    let shown = shown(&mark);
+    drop(mark);
+    Some((copy, hart, shown))
 }
 
 fn refused_growths_of_a_countdown(alloc: Global) -> Option<RefusedGrowths> {
     let origin = origin_of(alloc, 1)?;
-    refused_growths(alloc, &origin)
+    let growths = refused_growths(alloc, &origin);
+    drop(origin);
+    growths
 }
 
 /// Also run with `rt try --test --fail-alloc N`, which refuses the Nth growth: C3 is returned, and the mark stays.
@@ -327,8 +342,16 @@ fn returns_c3_for_refused_growths(rt: HostRuntime) {
 /// The counts of two marks that `try_join` hands back, in its order, with its refusal.
 fn refused(left: Mark, right: Mark) -> Option<(u64, u64, MarkFault)> {
     match left.try_join(right) {
-        Ok(_) => None,
-        Err((left, right, fault)) => Some((left.count(), right.count(), fault)),
+        Ok(mark) => {
+            drop(mark);
+            None
+        }
+        Err((left, right, fault)) => {
+            let counts = (left.count(), right.count());
+            drop(left);
+            drop(right);
+            Some((counts.0, counts.1, fault))
+        }
     }
 }
 
@@ -360,7 +383,7 @@ fn aligned_with(
 ) -> bool {
     let marks = starts(alloc, origin).expect(rt, "marks");
     let marks = with_place_1(marks, start(rt, alloc, other, context));
-    let (_counts, is_aligned) = shown_grid(rt, alloc, marks);
+    let (_counts, is_aligned) = shown_grid(marks);
     is_aligned
 }
 
@@ -382,6 +405,8 @@ fn hands_back_what_it_refuses(rt: HostRuntime) {
     let origin = origin_of(rt.alloc(), 1).expect(&rt, "an origin");
     let other = origin_of(rt.alloc(), 2).expect(&rt, "an origin");
     assert_foreign(&rt, rt.alloc(), &origin, &other);
+    drop(other);
+    drop(origin);
 }
 
 /// Eight marks are aligned with one of the same context of an equal origin, and not with one of another context.
@@ -397,6 +422,8 @@ fn aligns(rt: HostRuntime) {
     let origin = origin_of(rt.alloc(), 1).expect(&rt, "an origin");
     let equal = origin_of(rt.alloc(), 1).expect(&rt, "an origin");
     assert_aligned(&rt, rt.alloc(), &origin, &equal);
+    drop(equal);
+    drop(origin);
 }
 
 /// A fault is printed as this code.

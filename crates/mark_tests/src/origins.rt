@@ -1,7 +1,7 @@
 //! Digests, comparisons and starts of small origins.
 //!
 //! What a function holds is dropped where it ends, and each drop of an origin has a cost in proof: so a helper that
-//! holds one returns plain data, and ends the test where memory runs out.
+//! holds one drops it by a call, returns plain data, and ends the test where memory runs out.
 
 use crate::equal::assert_equal;
 use crate::programs::{COUNTDOWN, program};
@@ -61,7 +61,9 @@ fn origin_of(rt: &impl Abort, alloc: Global, sketch: &Sketch) -> Arc<Origin> {
 
 fn digest_of(rt: &impl Abort, alloc: Global, sketch: &Sketch) -> [u8; 32] {
     let origin = origin_of(rt, alloc, sketch);
-    origin.digest()
+    let digest = origin.digest();
+    drop(origin);
+    digest
 }
 
 const NOTHING: Sketch = Sketch {
@@ -201,7 +203,10 @@ const COMPARED: &[Compared] = &[
 fn are_same(rt: &impl Abort, alloc: Global, left: &Sketch, right: &Sketch) -> bool {
     let left = origin_of(rt, alloc, left);
     let right = origin_of(rt, alloc, right);
-    left.same(&right)
+    let same = left.same(&right);
+    drop(left);
+    drop(right);
+    same
 }
 
 #[test]
@@ -242,7 +247,9 @@ fn loaded_at_ends(hart: &Hart) -> AtTheEnds {
 fn loaded_of_last(rt: &impl Abort, alloc: Global, origin: &Arc<Origin>) -> AtTheEnds {
     let [.., last] = Ctx::all();
     let hart = origin.hart(alloc, last).expect(rt, "a hart");
-    loaded_at_ends(&hart)
+    let loaded = loaded_at_ends(&hart);
+    drop(hart);
+    loaded
 }
 
 #[test]
@@ -273,6 +280,7 @@ fn full_pages_and_one_page_too_many(rt: HostRuntime) {
             Err(Fault::LoadAccess),
         ],
     );
+    drop(origin);
 }
 
 /// A context with the countdown and the data byte 7 starts with all registers 0, and runs to the stop.
@@ -286,12 +294,14 @@ fn assert_start(rt: &impl Abort, alloc: Global, origin: &Arc<Origin>, context: C
         (pc, first_data, hart.run(100)),
         (0x10000, Ok(7), (21, Some(Stop::Ecall))),
     );
+    drop(hart);
 }
 
 /// A context without a program stops at once.
 fn assert_no_program(rt: &impl Abort, alloc: Global, origin: &Arc<Origin>, context: Ctx) {
     let mut hart = origin.hart(alloc, context).expect(rt, "a hart");
     assert_equal(rt, hart.run(100), (0, Some(Stop::FetchAccess)));
+    drop(hart);
 }
 
 #[test]
@@ -302,6 +312,7 @@ fn starts_with_and_without_a_program(rt: HostRuntime) {
     let origin = shared(&rt, alloc, Some(countdown), None);
     assert_start(&rt, alloc, &origin, first);
     assert_no_program(&rt, alloc, &origin, second);
+    drop(origin);
 }
 
 /// A fault is printed as this code.
@@ -317,4 +328,5 @@ fn environments_and_codes(rt: HostRuntime) {
     assert!(rt; origin.environment() == Environment::One);
     assert_code(&rt, alloc, OriginFault::TooManyPages, "O1");
     assert_code(&rt, alloc, OriginFault::OutOfMemory, "O2");
+    drop(origin);
 }
