@@ -104,6 +104,15 @@ ANSWER_NAMES_OTHERS = (
     "./proofs/ring/Ring/count_below/Answers.antt:7:63: error: `invariant_of-self`: record "
     "`Rattle.reorder_buffer.proofs.ring.Ring.len.Lts.After-map_err` has no field `try_push_back`\n"
 )
+# What the prover says of the answer that each tried function has to a goal that there isn't.
+TO_NO_GOAL = (
+    "./proofs/ring/Ring/{0}/Answers.antt:14:28: error: `no-goal-of-this-name`: `no-goal-of-this-name-asked` is not in "
+    "scope\n"
+)
+TO_NO_GOAL_OF_ITS_OWN = (
+    "./proofs/ring/Ring/{0}/Answers.antt:14:28: error: `no-goal-of-this-name`: module "
+    "`Rattle.reorder_buffer.proofs.ring.Ring.{0}.Goals` has no `no-goal-of-this-name` that can be named from here\n"
+)
 PROVED, BARE = "fn {0}: proved\n", "fn {0}: not proved\n"
 NOT_PROVED = "logic=not-proved\n"
 UNREADABLE = "src/ring.rt:17:9: error: `entri` is not in scope\n"
@@ -167,6 +176,14 @@ class OutputTest(unittest.TestCase):
         # (what its body has is the same whatever becomes of what it calls)
         self.assertTrue(self.is_own(named + BARE.format(BELOW) + calls, CUT))
         self.assertFalse(self.is_own(ANSWER_NAMES_OWN + BARE.format(BELOW) + calls, CUT))
+
+    def test_the_answer_to_no_goal(self) -> None:
+        for answer in (TO_NO_GOAL.format("len"), TO_NO_GOAL_OF_ITS_OWN.format("len")):
+            self.assertFalse(self.is_own(answer + BARE.format(LEN), LEN))
+            self.assertTrue(self.is_own(answer + NOTE.format(5) + BARE.format(LEN), LEN))
+        answer = TO_NO_GOAL.format("count_below")
+        self.assertTrue(self.is_own(answer + REFUSED_ANSWER + BARE.format(BELOW), BELOW))
+        self.assertTrue(self.is_own(ANSWER_NAMES_OWN + answer + BARE.format(BELOW), BELOW))
 
     def test_proved(self) -> None:
         self.assertTrue(output.read(PROVED.format(LEN))[LEN].is_proved)
@@ -376,6 +393,30 @@ class KitTest(unittest.TestCase):
                     for at, _, names in os.walk(room) for it in names}
         told = dict.fromkeys([files[0], files[2], files[3]], "told")
         self.assertEqual(left, {**told, "proofs/low/cut/Proof.antt": "", "proofs/new/Proof.antt": ""})
+
+    def test_no_answers_are_offered(self) -> None:
+        with tempfile.TemporaryDirectory() as room:
+            for file in ("cut/Answers.antt", "len/Proof.antt"):
+                with open(f"{kit.folder_of_proof(f'pages::low::{file[:3]}', room)}/{file[4:]}", "w", encoding="utf-8") as it:
+                    it.write("told")
+            kit.without_offers(["pages::low::cut", "pages::low::len", "pages::new"], room)
+            left = {os.path.relpath(f"{at}/{it}", f"{room}/proofs"): edits.read(f"{at}/{it}")
+                    for at, _, names in os.walk(room) for it in names}
+        added = f"\npub {output.NO_GOAL} : {output.NO_GOAL}-asked\n{output.NO_GOAL} = tt\n"
+        self.assertEqual(left, {"low/cut/Answers.antt": f"told{added}", "low/len/Proof.antt": "told",
+                                "new/Answers.antt": added})
+
+    def test_answers_are_offered_where_none_is_aside(self) -> None:
+        for aside in ([], ["pages::new"]):
+            found: List[bool] = []
+            with tempfile.TemporaryDirectory() as top:
+                made = types.SimpleNamespace(
+                    without_proofs=lambda _name, _aside, room: types.SimpleNamespace(folder=room),
+                    rt=types.SimpleNamespace(checked=lambda crate, _texts, flags, _kept: found.append(
+                        os.path.exists(f"{crate.folder}/proofs/cut/Answers.antt")
+                    ) or types.SimpleNamespace(returncode=1, stdout=" ".join(flags))))
+                ran = kit.Kit.checked(made, "pages", {}, ["pages::cut"], aside, top)  # type: ignore
+            self.assertEqual((ran.text, found), ("--jobs 1 --only cut", [bool(aside)]))
 
 
 class RoundsTest(unittest.TestCase):
@@ -609,10 +650,10 @@ class ClockTest(unittest.TestCase):
     """The table of processor time."""
 
     def test_table(self) -> None:
-        lines = clock.table({("join_law", "proof"): 1.25, ("join_law", "edits"): 3.0, ("asm_tests", "tests"): 2.0})
+        lines = clock.table({("join_law", "proof"): 1.25, ("join_law", "edits"): 3.0, ("base_tests", "tests"): 2.0})
         self.assertEqual([it.split() for it in lines], [
             ["crate", "proof", "tests", "edits", "processor", "minutes"],
-            ["asm_tests", "0.0", "2.0", "0.0"],
+            ["base_tests", "0.0", "2.0", "0.0"],
             ["join_law", "1.2", "0.0", "3.0"],
             ["sum", "1.2", "2.0", "3.0"],
         ])

@@ -16,6 +16,8 @@ import tempfile
 import types
 from typing import Any, Callable, Dict, List, NamedTuple, Optional, Sequence, Tuple
 
+from gate_lib import output
+
 KITS = ("rattle-kit-13b logic dac8208d650f15bf", "rattle-kit-13f logic dac8208d650f15bf")
 # What a try of an edit that is refused comes to: the older of these versions tells whether it is, the newer one how.
 REFUSED = (True, "refused", "limit")
@@ -73,13 +75,17 @@ class Kit:
 
     def checked(self, name: str, texts: Dict[str, str], only: Sequence[str], aside: Sequence[str], kept: str) -> Ran:
         """Checks a crate with these texts in place of its own, all of it or only some functions. Those aside come out
-        as not proved, and cost next to nothing; what calls them is checked as far as it goes. What the check works out
-        is kept in a folder."""
+        as not proved, and cost next to nothing; what calls them is checked as far as it goes. Where some are aside no
+        answers are printed that the others lack, and none of them comes out as proved: the goals that were not proved
+        tell. What the check works out is kept in a folder."""
         flags = ["--jobs", "1"]
         for function in only:
             flags += ["--only", function.partition("::")[2]]
         with tempfile.TemporaryDirectory(prefix="gate-") as room:
-            ran = self.rt.checked(self.without_proofs(name, aside, room), texts, flags, kept)
+            crate = self.without_proofs(name, aside, room)
+            if aside:
+                without_offers(only, room)
+            ran = self.rt.checked(crate, texts, flags, kept)
         return Ran(ran.returncode, ran.stdout)
 
     def without_proofs(self, name: str, functions: Sequence[str], room: str) -> Any:
@@ -90,8 +96,7 @@ class Kit:
             if os.path.isdir(f"{crate.folder}/{part}"):
                 shutil.copytree(f"{crate.folder}/{part}", f"{room}/{part}")
         for function in functions:
-            folder = "/".join([room, "proofs", *function.split("::")[1:]])
-            os.makedirs(folder, exist_ok=True)
+            folder = folder_of_proof(function, room)
             for file in ("Answers", "Invariants"):
                 with contextlib.suppress(FileNotFoundError):
                     os.remove(f"{folder}/{file}.antt")
@@ -123,6 +128,24 @@ class Kit:
         tasks = {(it, "edits"): ([], weight, self.rt.need(self.crates[it]), lambda given, jobs, at=it: call(at))
                  for it, weight in weights.items()}
         return {key[0]: it for key, it in self.rt.in_lanes(tasks).items()}
+
+
+def without_offers(functions: Sequence[str], room: str) -> None:
+    """Adds to each of these functions' answers, in a copy of a crate, one to a goal that no function has. For a function
+    of which no answer is refused the prover prints the answers that it lacks, over a second look at it that takes a
+    fifth of a check; the goals that it doesn't prove are told with it or without it."""
+    for function in functions:
+        folder = folder_of_proof(function, room)
+        if not os.path.exists(f"{folder}/Proof.antt"):
+            with open(f"{folder}/Answers.antt", "a", encoding="utf-8") as it:
+                it.write(f"\npub {output.NO_GOAL} : {output.NO_GOAL}-asked\n{output.NO_GOAL} = tt\n")
+
+
+def folder_of_proof(function: str, room: str) -> str:
+    """The folder of a function's proof files in a copy of its crate, made where there is none."""
+    folder = "/".join([room, "proofs", *function.split("::")[1:]])
+    os.makedirs(folder, exist_ok=True)
+    return folder
 
 
 def is_refusal(tried: Any) -> bool:

@@ -17,6 +17,8 @@ NOTE = re.compile(
 ERROR = re.compile(r"^\./(proofs/\S+)/(?:Answers|Invariants|Proof)\.antt:\d+:\d+: error: (.*)$")
 # An answer that names what an edit took away from the modules that the prover makes of its function's body.
 GONE = re.compile(r"(?:record|module) `Rattle\.(\S+?)\.(?:Lts|Goals|Given)[`.]\S* has no ")
+# A goal that no function has, to which each function that is tried has an answer (`kit.without_offers`).
+NO_GOAL = "no-goal-of-this-name"
 # An answer that wasn't looked at, and one that names what an edit took away: no goal was refused there.
 NOT_TRIED = re.compile(r"was not checked|were not checked|has no field|is not in scope|has no `|was not admitted")
 CALL = r"it (?:calls|passes the blocks?) `[^;]*, which (?:is|are) not proved"
@@ -76,6 +78,8 @@ def read(text: str) -> Dict[str, Said]:
     refused, gone = set(), set()
     for line in text.split("\n"):
         error = ERROR.match(line)
+        if error and NO_GOAL in error[2]:
+            continue
         if error and not NOT_TRIED.search(error[2]):
             refused.add(error[1])
         missing = GONE.search(error[2]) if error else None

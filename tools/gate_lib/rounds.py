@@ -2,12 +2,12 @@
 
 A round's check has at most one edit of each function. An edit is refused there where its own function isn't proved for
 a reason of its own: what a function calls is cited by its contract, which an edit of a body leaves as it is. So a
-round leaves the bodies and proofs of all other functions aside, since `rt ci` has proved them. What isn't certified so
-is tried in another round, with those proofs, and at last alone; so is each edit that isn't one of a single function's
-body, and each of a function in a cycle of calls, whose proofs are one. Alone, first the functions that most likely show
-an edit are checked (its own, those that name the constant that it changes, or those of its file), in both ways, and
-where these are proved the whole crate is, in the toolchain's own way: there an edit is refused where anything isn't
-proved. Each check begins from nothing.
+round leaves the bodies and proofs of all other functions aside, since `rt ci` has proved them, and has no answers
+printed that the tried ones lack. What isn't certified so is tried in another round, with those proofs, and at last
+alone; so is each edit that isn't one of a single function's body, and each of a function in a cycle of calls, whose
+proofs are one. Alone, first the functions that most likely show an edit are checked (its own, those that name the
+constant that it changes, or those of its file), in both ways, and where these are proved the whole crate is, in the
+toolchain's own way: there an edit is refused where anything isn't proved. Each check begins from nothing.
 """
 
 import os
