@@ -241,6 +241,14 @@ class SourceTest(unittest.TestCase):
                 ("pub trait Pick", "Pick")):
             self.assertEqual(source.printed_owner(head), name)
 
+    def test_unsearched(self) -> None:
+        none = "    #[tactic(none)]"
+        for above, found in (("", ""), ("    #[inline]\n", "    #[inline]\n"), ("    #[tactic(auto, using(a::b))]\n", f"{none}\n")):
+            for head in ("pub(crate) fn cut(&self) {\n", "fn cut() {\n"):
+                text = f"{above}    {head}        let x = 1; #[tactic(auto)]\n    }}\n"
+                want = text.replace(above + "    ", found + ("    " if "tactic" in above else f"{none} "), 1)
+                self.assertEqual(source.unsearched(text), want)
+
     def test_cycle(self) -> None:
         text = "#[cycle(parity)]\n/// Whether a number is even.\nfn even(n: u64) -> bool {\n    odd(n - 1)\n}\n"
         self.assertEqual([it.cycle for it in source.functions(text)], ["parity"])
@@ -325,7 +333,6 @@ class FakeKit:
         self.aside: List[List[str]] = []
         self.texts: List[Dict[str, str]] = []
         self.tried: List[str] = []
-        self.kept_module = ""
         os.makedirs(f"{top}/src", exist_ok=True)
         with open(f"{top}/src/ring.rt", "w", encoding="utf-8") as it:
             it.write(RING)
@@ -349,13 +356,10 @@ class FakeKit:
             return None, "an 'old:' text is in src/ring.rt 0 times, and not once"
         return {"src/ring.rt": text.replace(old, new)}, ""
 
-    def checked(self, _crate: str, texts: Dict[str, str], only: List[str], aside: List[str], kept: str) -> kit.Ran:
+    def checked(self, _crate: str, texts: Dict[str, str], only: List[str], aside: List[str]) -> kit.Ran:
         self.only.append(only)
         self.aside.append(aside)
         self.texts.append(texts)
-        if self.kept_module:
-            with open(f"{kept}/{self.kept_module}", "w", encoding="utf-8"):
-                pass
         text = self.answers.pop(0)
         return kit.Ran(0 if text == "logic=proved\n" else 1, text)
 
@@ -377,6 +381,9 @@ class KitTest(unittest.TestCase):
     def test_what_is_a_refusal(self) -> None:
         self.assertEqual([kit.is_refusal(it) for it in (True, "refused", "limit")], [True] * 3)
         self.assertEqual([kit.is_refusal(it) for it in (False, "missed", "bad", "unsure", None, 1.5)], [False] * 6)
+
+    def test_lanes(self) -> None:
+        self.assertIn(kit.lanes(), range(1, (os.cpu_count() or 1) + 1))
 
     def test_proofs_left_aside(self) -> None:
         files = ["src/lib.rt", "proofs/low/cut/Answers.antt", "proofs/low/cut/Facts.antt", "proofs/low/len/Answers.antt"]
@@ -409,13 +416,12 @@ class KitTest(unittest.TestCase):
     def test_answers_are_offered_where_none_is_aside(self) -> None:
         for aside in ([], ["pages::new"]):
             found: List[bool] = []
-            with tempfile.TemporaryDirectory() as top:
-                made = types.SimpleNamespace(
-                    without_proofs=lambda _name, _aside, room: types.SimpleNamespace(folder=room),
-                    rt=types.SimpleNamespace(checked=lambda crate, _texts, flags, _kept: found.append(
-                        os.path.exists(f"{crate.folder}/proofs/cut/Answers.antt")
-                    ) or types.SimpleNamespace(returncode=1, stdout=" ".join(flags))))
-                ran = kit.Kit.checked(made, "pages", {}, ["pages::cut"], aside, top)  # type: ignore
+            made = types.SimpleNamespace(
+                without_proofs=lambda _name, _aside, room: types.SimpleNamespace(folder=room),
+                rt=types.SimpleNamespace(checked=lambda crate, _texts, flags, _kept: found.append(
+                    os.path.exists(f"{crate.folder}/proofs/cut/Answers.antt")
+                ) or types.SimpleNamespace(returncode=1, stdout=" ".join(flags))))
+            ran = kit.Kit.checked(made, "pages", {}, ["pages::cut"], aside)  # type: ignore
             self.assertEqual((ran.text, found), ("--jobs 1 --only cut", [bool(aside)]))
 
 
@@ -481,6 +487,36 @@ class RoundsTest(unittest.TestCase):
         self.assertEqual([it.refused for it in tried.results], [False])
         self.assertIn("NOT REFUSED", tried.results[0].said)
         self.assertEqual(made.tried, ["len.edit"])
+
+    def put_answers(self) -> None:
+        """Gives `count_below` a file of answers."""
+        os.makedirs(f"{self.top}/proofs/ring/Ring/count_below")
+        with open(f"{self.top}/proofs/ring/Ring/count_below/Answers.antt", "w", encoding="utf-8") as it:
+            it.write("told")
+
+    def test_answers_are_tried_without_search(self) -> None:
+        self.put_answers()
+        said = NOTE.format(5) + BY_ITSELF.format(LEN) + NOTE.format(13) + REFUSED_ANSWER + BARE.format(BELOW) + NOT_PROVED
+        made, tried = self.trial([said], {"len": self.LEN_EDIT, "below": self.BELOW_EDIT})
+        self.assertEqual([it.refused for it in tried.results], [True, True])
+        text = made.texts[0]["src/ring.rt"]
+        self.assertIn("    #[tactic(none)] fn count_below(", text)
+        self.assertEqual((text.count("tactic"), text.count("\n")), (1, RING.count("\n")))
+
+    def test_a_goal_that_was_not_searched_says_nothing(self) -> None:
+        self.put_answers()
+        unsearched = NOTE.format(13) + BARE.format(BELOW) + NOT_PROVED
+        made, tried = self.trial([unsearched, NOTE.format(13) + BARE.format(BELOW) + NOT_PROVED], {"below": self.BELOW_EDIT})
+        self.assertEqual([it.refused for it in tried.results], [True])
+        self.assertEqual([it["src/ring.rt"].count("tactic") for it in made.texts], [1, 0])
+        self.assertEqual(made.aside, [[LEN, CUT]] * 2)
+
+    def test_nor_does_an_answer_that_names_what_is_gone(self) -> None:
+        self.put_answers()
+        gone = NOTE.format(13) + ANSWER_NAMES_OWN + BARE.format(BELOW) + NOT_PROVED
+        made, tried = self.trial([gone, PROVED.format(BELOW) + NOT_PROVED, *["logic=proved\n"] * 3], {"below": self.BELOW_EDIT})
+        self.assertEqual([it.refused for it in tried.results], [False])
+        self.assertEqual(made.aside, [[LEN, CUT], [LEN, CUT], [], [LEN, CUT], []])
 
     def test_an_unreadable_one_sends_all_to_be_tried_alone(self) -> None:
         said = UNREADABLE + NOTE.format(5) + BY_ITSELF.format(LEN) + REFUSED_ANSWER + BARE.format(BELOW) + NOT_PROVED
@@ -553,9 +589,8 @@ class RoundsTest(unittest.TestCase):
         self.assertEqual((made.only, made.tried), ([[LEN]] * 2, ["clause.edit"]))
 
     def test_a_cycle_goes_alone(self) -> None:
-        said = REFUSED_ANSWER + BARE.format(BELOW) + NOT_PROVED
-        made = FakeKit(self.top, [said, PROVED.format(BELOW) + "only=1 proved=1\n", "logic=proved\n"], {"below": True})
-        made.kept_module = "Rattle-reorder_buffer-proofs.ring.Ring.+count_below.Goals.oantt"
+        made = FakeKit(self.top, [PROVED.format(BELOW) + "only=1 proved=1\n"] * 2, {"below": True})
+        os.makedirs(f"{self.top}/proofs/ring/Ring/+count_below")
         good = [made.edit("below", *self.BELOW_EDIT)]
         tried = rounds.try_crate(made, "reorder_buffer", good, [], KNOWN, False, lambda _text: None)
         self.assertEqual([it.refused for it in tried.results], [True])
@@ -567,6 +602,21 @@ class RoundsTest(unittest.TestCase):
         self.assertEqual(tried.plant, rounds.Plant("reorder_buffer/changes_nothing.edit", True, True))
         self.assertEqual(self.refused(tried), {"reorder_buffer/below.edit": True})
         self.assertEqual(made.only[0], [BELOW, CUT])
+
+    def test_the_planted_edit_in_a_function_with_answers(self) -> None:
+        os.makedirs(f"{self.top}/proofs/ring/Ring/cut_from")
+        with open(f"{self.top}/proofs/ring/Ring/cut_from/Answers.antt", "w", encoding="utf-8") as it:
+            it.write("told")
+        below = NOTE.format(13) + BY_ITSELF.format(BELOW)
+        calls = NOTE.format(25) + BARE.format(CUT).rstrip() + f"; it calls `{BELOW}`, which is not proved\n"
+        made, tried = self.trial([below + calls + NOT_PROVED, PROVED.format(CUT) + NOT_PROVED], {"below": self.BELOW_EDIT},
+                                 is_planted=True)
+        self.assertEqual(tried.plant, rounds.Plant("reorder_buffer/changes_nothing.edit", True, True))
+        self.assertEqual((made.only, made.tried), ([[BELOW, CUT], [CUT]], ["changes_nothing.edit"]))
+        # (where an answer of its own is refused, it is certified, and so the gate fails)
+        answer = REFUSED_ANSWER.replace("count_below", "cut_from")
+        _, tried = self.trial([below + answer + calls + NOT_PROVED], {"below": self.BELOW_EDIT}, is_planted=True)
+        self.assertEqual(tried.plant, rounds.Plant("reorder_buffer/changes_nothing.edit", False, False))
 
     def test_the_planted_edit_is_certified(self) -> None:
         said = REFUSED_ANSWER + BARE.format(BELOW) + NOTE.format(25) + BY_ITSELF.format(CUT) + NOT_PROVED

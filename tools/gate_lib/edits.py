@@ -106,6 +106,21 @@ def aside(crate: str, folder: str, tried: Sequence[str], known: Sequence[str]) -
             and it not in tried and it not in named]
 
 
+def has_answers(folder: str, function: str) -> bool:
+    """Whether a function of a crate has answers of its own."""
+    return os.path.isfile("/".join([folder, "proofs", *function.split("::")[1:], "Answers.antt"]))
+
+
+def in_cycles(crate: str, folder: str) -> Set[str]:
+    """The functions of a crate that call themselves: the proof of `m::f` stands in the folder `m/+f`, and no proof is
+    made for one that has none. Functions that call one another bear an attribute instead."""
+    found = set()
+    for at, folders, _ in os.walk(f"{folder}/proofs"):
+        path = os.path.relpath(at, f"{folder}/proofs").split("/")
+        found |= {"::".join([crate, *path, it[1:]]).replace("::.::", "::") for it in folders if it.startswith("+")}
+    return found
+
+
 def without_bodies(crate: str, folder: str, texts: Dict[str, str], functions: Sequence[str],
                    known: Sequence[str]) -> Dict[str, str]:
     """These texts, and those of a crate's other files, with bodies that do nothing in place of these functions' own;
@@ -162,8 +177,9 @@ def closures_of(crate: str, path: str, name: str) -> str:
     return f"{module}::fn::{name[len(module) + 2:]}::" if name.startswith(f"{module}::") else f"{name}::"
 
 
-def together(folder: str, edits: Sequence[Edit]) -> Tuple[Dict[str, str], List[Placed]]:
-    """The texts of files with edits of different functions, and where those functions stand in them."""
+def together(folder: str, edits: Sequence[Edit], unsearched: Sequence[Edit]) -> Tuple[Dict[str, str], List[Placed]]:
+    """The texts of files with edits of different functions, and where those functions stand in them. In the functions
+    of those unsearched the prover takes answers alone."""
     texts: Dict[str, str] = {}
     placed: List[Placed] = []
     for path in sorted({it.path for it in edits}):
@@ -171,7 +187,7 @@ def together(folder: str, edits: Sequence[Edit]) -> Tuple[Dict[str, str], List[P
         for edit in sorted((it for it in edits if it.path == path), key=lambda it: it.start):
             after += before[at:edit.start]
             first = after.count("\n") + 1
-            after += edit.text
+            after += source.unsearched(edit.text) if edit in unsearched else edit.text
             placed.append(Placed(edit, first, after.count("\n")))
             at = edit.end
         texts[path] = after + before[at:]
@@ -180,13 +196,13 @@ def together(folder: str, edits: Sequence[Edit]) -> Tuple[Dict[str, str], List[P
 
 def harmless(crate: str, folder: str, room: str, edits: Sequence[Edit], known: Sequence[str]) -> Optional[Edit]:
     """An edit, written to a file in a folder, that changes nothing, in a function that calls an edited one; one in a
-    function without edits of its own where there is such a function."""
+    function without edits of its own where there is such a function, and among these in one that has answers."""
     texts = sources(folder)
     all_functions = [(path, it) for path, text in texts.items() for it in source.functions(text)]
     names = [it.name for _, it in all_functions]
     edited = {it.function for it in edits}
     called = [it for it in sorted(it.split("::")[-1] for it in edited) if names.count(it) == 1]
-    found: Optional[Edit] = None
+    found: List[Tuple[bool, bool, Edit, str]] = []
     for path, function in all_functions:
         body = texts[path][function.body:function.end]
         line = marked_line(texts[path], body)
@@ -195,13 +211,15 @@ def harmless(crate: str, folder: str, room: str, edits: Sequence[Edit], known: S
         marked = {path: texts[path].replace(line, f"{line} // as it was")}
         label = f"{crate}/changes_nothing.edit"
         made = in_one_function(crate, folder, f"{room}/changes_nothing.edit", label, marked, known)
-        if made and (found is None or made.function not in edited):
-            found = made
-            with open(made.file, "w", encoding="utf-8") as it:
-                it.write(f"file: {path}\nold: {line}\nnew: {line} // as it was\n")
-            if made.function not in edited:
-                break
-    return found
+        if made:
+            text = f"file: {path}\nold: {line}\nnew: {line} // as it was\n"
+            found.append((made.function in edited, not has_answers(folder, made.function), made, text))
+    if not found:
+        return None
+    _, _, edit, text = min(found, key=lambda it: it[:2])
+    with open(edit.file, "w", encoding="utf-8") as it:
+        it.write(text)
+    return edit
 
 
 def sources(folder: str) -> Dict[str, str]:

@@ -73,11 +73,11 @@ class Kit:
         texts, why = self.rt.read_edit(edit, folder)
         return texts, why or ""
 
-    def checked(self, name: str, texts: Dict[str, str], only: Sequence[str], aside: Sequence[str], kept: str) -> Ran:
+    def checked(self, name: str, texts: Dict[str, str], only: Sequence[str], aside: Sequence[str]) -> Ran:
         """Checks a crate with these texts in place of its own, all of it or only some functions. Those aside come out
         as not proved, and cost next to nothing; what calls them is checked as far as it goes. Where some are aside no
         answers are printed that the others lack, and none of them comes out as proved: the goals that were not proved
-        tell. What the check works out is kept in a folder."""
+        tell."""
         flags = ["--jobs", "1"]
         for function in only:
             flags += ["--only", function.partition("::")[2]]
@@ -85,7 +85,7 @@ class Kit:
             crate = self.without_proofs(name, aside, room)
             if aside:
                 without_offers(only, room)
-            ran = self.rt.checked(crate, texts, flags, kept)
+            ran = self.rt.checked(crate, texts, flags, None)
         return Ran(ran.returncode, ran.stdout)
 
     def without_proofs(self, name: str, functions: Sequence[str], room: str) -> Any:
@@ -146,6 +146,13 @@ def folder_of_proof(function: str, room: str) -> str:
     folder = "/".join([room, "proofs", *function.split("::")[1:]])
     os.makedirs(folder, exist_ok=True)
     return folder
+
+
+def lanes() -> int:
+    """How many checks `rt ci` may run side by side, with one job each: one a processor, where each finds 4 GB. By itself
+    it gives a check the processors that nothing else takes, and two jobs cost a fifth more than one."""
+    rt = load()
+    return max(1, min(rt.processors(), int(rt.free() / 4e9)))
 
 
 def is_refusal(tried: Any) -> bool:

@@ -53,9 +53,11 @@ class Said(NamedTuple):
         """Whether all that is said against it is what it calls."""
         return CALLED.fullmatch(self.line) is not None and not self.goals and not self.refused_answer
 
-    def calls_one_of(self, functions: Set[str]) -> bool:
-        """Whether all that is said against it is what it calls, and one of these is among that."""
-        return self.is_called_only and any(f"`{it}`" in self.line for it in functions)
+    def calls_one_of(self, functions: Set[str], is_searched: bool = True) -> bool:
+        """Whether all that is said against it is what it calls, and one of these is among that; where it isn't searched,
+        whether its answers all hold."""
+        is_well = self.is_called_only if is_searched else UNPROVED.fullmatch(self.line) and not self.refused_answer
+        return bool(is_well) and any(f"`{it}`" in self.line for it in functions)
 
     def is_own(self, path: str, first: int, last: int) -> bool:
         """Whether it is unproved for a reason of its own, where it stands in these lines of a file."""
@@ -64,6 +66,11 @@ class Said(NamedTuple):
         if any(it[0] != path or not first <= it[1] <= last for it in self.goals):
             return False
         return bool(self.goals) or self.refused_answer or self.is_gone_only
+
+    @property
+    def refuses_an_answer(self) -> bool:
+        """Whether an answer of its own is refused, whatever is said of goals that have none."""
+        return OWN.fullmatch(self.line) is not None and self.refused_answer
 
     @property
     def is_gone_only(self) -> bool:

@@ -3,15 +3,17 @@
 A round's check has at most one edit of each function. An edit is refused there where its own function isn't proved for
 a reason of its own: what a function calls is cited by its contract, which an edit of a body leaves as it is. So a
 round leaves the bodies and proofs of all other functions aside, since `rt ci` has proved them, and has no answers
-printed that the tried ones lack. What isn't certified so is tried in another round, with those proofs, and at last
-alone; so is each edit that isn't one of a single function's body, and each of a function in a cycle of calls, whose
+printed that the tried ones lack. A function that has answers is first checked against them alone, with no search for
+its other goals: an edit is refused there where an answer is, that holds without it. What isn't certified so is tried
+in another round with search, then in one with the proofs of the others too, and at last alone; so is each edit that isn't one of a single function's body, and each of a function in a cycle of calls, whose
 proofs are one. Alone, first the functions that most likely show an edit are checked (its own, those that name the
 constant that it changes, or those of its file), in both ways, and where these are proved the whole crate is, in the
-toolchain's own way: there an edit is refused where anything isn't proved. Each check begins from nothing.
+toolchain's own way: there an edit is refused where anything isn't proved. Each check begins from nothing, and keeps
+nothing: a check that keeps its work sorts it into parts first, which takes a tenth of a round.
 """
 
+import enum
 import os
-import re
 import tempfile
 from typing import Any, Callable, Dict, List, NamedTuple, Optional, Sequence, Set, Tuple
 
@@ -19,7 +21,15 @@ from gate_lib import edits as edits_of_text
 from gate_lib import output
 from gate_lib.edits import Edit, Placed
 
-TRIES = 2
+class Stage(enum.IntEnum):
+    """How an edit is tried in a round, from the cheapest way on."""
+
+    # By the answers of its function, with nothing searched and all other functions aside.
+    ANSWERS = 0
+    # With search, all other functions aside.
+    SEARCH = 1
+    # With search and the proofs of all others.
+    ALL = 2
 
 
 class Result(NamedTuple):
@@ -58,7 +68,8 @@ class Trial:
         self.together: List[Edit] = []
         # Each edit's name by its file.
         self.labels: Dict[str, str] = {}
-        self.tries: Dict[str, int] = {}
+        # How each edit is tried next, by its file.
+        self.stages: Dict[str, Stage] = {}
         # The functions that an edit is tried on when it is alone, by its file.
         self.near: Dict[str, List[str]] = {}
         self.plant: Optional[Edit] = None
@@ -67,6 +78,7 @@ class Trial:
 
     def sort_out(self, files: Sequence[str]) -> None:
         """Reads the edits, and tells which can be tried together."""
+        cycles = edits_of_text.in_cycles(self.crate, self.folder)
         for file in files:
             label = self.labels[file] = f"{self.crate}/{os.path.basename(file)}"
             texts, why = self.kit.read_edit(file, self.folder)
@@ -75,8 +87,11 @@ class Trial:
                 continue
             edit = edits_of_text.in_one_function(self.crate, self.folder, file, label, texts, self.known)
             if edit:
-                self.together.append(edit)
                 self.near[file] = [edit.function]
+                if edit.function in cycles:
+                    self.alone.append(file)
+                else:
+                    self.together.append(edit)
             else:
                 self.alone.append(file)
                 self.near[file] = edits_of_text.functions_near(self.crate, self.folder, texts, self.known)
@@ -98,47 +113,51 @@ class Trial:
             self.try_alone(file)
 
     def round(self, number: int) -> None:
-        """Tries one edit of each function, those that were tried least, and certifies what it can."""
-        tries = min(self.tries.get(it.file, 0) for it in self.together)
+        """Tries one edit of each function, those that cost least, and certifies what it can."""
+        is_last = all(self.stage(it) == Stage.ALL for it in self.together)
         now: Dict[str, Edit] = {}
         for edit in self.together:
-            if self.tries.get(edit.file, 0) == tries:
+            if is_last or self.stage(edit) != Stage.ALL:
                 now.setdefault(edit.function, edit)
-        texts, placed = edits_of_text.together(self.folder, list(now.values()))
-        aside = self.others(sorted(now)) if tries == 0 else []
-        ran, cycles = self.checked(texts, sorted(now), aside)
+        unsearched = [it for it in now.values() if self.stage(it) == Stage.ANSWERS]
+        texts, placed = edits_of_text.together(self.folder, list(now.values()), unsearched)
+        ran = self.checked(texts, sorted(now), [] if is_last else self.others(sorted(now)))
         is_judged = output.is_judged(ran.text, ran.status) and not self.kit.is_unread(ran, texts)
         said = output.read(ran.text)
         for it in placed:
             self.together.remove(it.edit)
             if it.edit is self.plant and it.edit.function in said:
-                self.was_beside |= said[it.edit.function].calls_one_of(set(now) - {it.edit.function})
-            if it.edit.function in cycles:
-                self.alone.append(it.edit.file)
-            elif not (is_judged and self.certify(it, said)):
-                self.wait(it.edit, is_judged and not is_settled(said.get(it.edit.function)))
+                self.was_beside |= said[it.edit.function].calls_one_of(set(now) - {it.edit.function},
+                                                                       it.edit not in unsearched)
+            if not (is_judged and self.certify(it, said)):
+                self.wait(it.edit, is_judged, said.get(it.edit.function))
         refused = sum(it.refused for it in self.results)
         self.tell(f"round {number}: {len(now)} edits tried, {refused} refused so far, {len(self.together)} to come, "
                   f"{len(self.alone)} to be tried alone")
+
+    def stage(self, edit: Edit) -> Stage:
+        """How an edit is tried next."""
+        if edit.file not in self.stages:
+            has_answers = edits_of_text.has_answers(self.folder, edit.function)
+            self.stages[edit.file] = Stage.ANSWERS if has_answers else Stage.SEARCH
+        return self.stages[edit.file]
 
     def others(self, only: List[str]) -> List[str]:
         """The functions that needn't be proved to see whether some are."""
         return edits_of_text.aside(self.crate, self.folder, only, self.known)
 
-    def checked(self, texts: Dict[str, str], only: List[str], aside: List[str]) -> Tuple[Any, Set[str]]:
+    def checked(self, texts: Dict[str, str], only: List[str], aside: List[str]) -> Any:
         """Checks some functions with these texts in place of the crate's own, without the bodies and proofs of those
-        aside. Returns what it said and the functions in a cycle of calls."""
+        aside; returns what it said."""
         texts = edits_of_text.without_bodies(self.crate, self.folder, texts, aside, self.known)
-        with tempfile.TemporaryDirectory(prefix="gate-kept-") as kept:
-            ran = self.kit.checked(self.crate, texts, only, aside, kept)
-            return ran, functions_in_cycles(self.crate, kept)
+        return self.kit.checked(self.crate, texts, only, aside)
 
     def certify(self, placed: Placed, said: Dict[str, output.Said]) -> bool:
         """Counts an edit as refused where its function, or a closure in it, is unproved for a reason of its own."""
         edit = placed.edit
         for name, it in said.items():
             is_its = name == edit.function or name.startswith(edit.closures)
-            if is_its and it.is_own(edit.path, placed.first, placed.last):
+            if is_its and self.is_own(it, placed):
                 if edit is self.plant:
                     return True
                 why = " (only because an answer names what the edit took away)" if it.is_gone_only else ""
@@ -146,10 +165,18 @@ class Trial:
                 return True
         return False
 
-    def wait(self, edit: Edit, may_change: bool) -> None:
+    def is_own(self, it: output.Said, placed: Placed) -> bool:
+        """Whether what is said of a function with an edit in it, or of a closure in it, is a reason of its own."""
+        if self.stage(placed.edit) == Stage.ANSWERS:
+            return it.refuses_an_answer
+        return it.is_own(placed.edit.path, placed.first, placed.last)
+
+    def wait(self, edit: Edit, is_judged: bool, said: Optional[output.Said]) -> None:
         """Puts an edit that wasn't certified behind the others, or gives it up for the rounds."""
-        tries = self.tries[edit.file] = self.tries.get(edit.file, 0) + 1
-        if may_change and tries < TRIES and not (edit is self.plant and self.was_beside):
+        stage = self.stage(edit)
+        may_change = not is_settled(said) and not (edit is self.plant and self.was_beside)
+        if is_judged and (stage == Stage.ANSWERS or stage == Stage.SEARCH and may_change):
+            self.stages[edit.file] = Stage(stage + 1)
             self.together.append(edit)
         else:
             self.alone.append(edit.file)
@@ -175,7 +202,7 @@ class Trial:
         texts, _ = self.kit.read_edit(file, self.folder)
         if not texts:
             return False
-        ran, _ = self.checked(texts, near, aside)
+        ran = self.checked(texts, near, aside)
         if not output.is_judged(ran.text, ran.status) or self.kit.is_unread(ran, texts):
             return False
         for name, it in output.read(ran.text).items():
@@ -191,19 +218,6 @@ def is_settled(said: Optional[output.Said]) -> bool:
     """Whether what is said of a function would be said in another round too: it isn't proved and calls nothing that
     isn't, but no goal of its own was refused, as where a lemma names what an edit took away."""
     return said is not None and said.line == "not proved" and not said.goals and not said.refused_answer
-
-
-def functions_in_cycles(crate: str, kept: str) -> Set[str]:
-    """The functions of a crate that call themselves, by the names of kept work: the proof of `m::f` is the module
-    `m.+f`. Functions that call one another bear an attribute instead."""
-    found = set()
-    modules = re.compile(rf"Rattle-{crate}-proofs\.((?:\w+\.)*)\+(\w+)\.")
-    for _, _, names in os.walk(kept):
-        for it in names:
-            module = modules.match(it)
-            if module:
-                found.add("::".join([crate, *module[1].split(".")[:-1], module[2]]))
-    return found
 
 
 def try_crate(kit: Any, crate: str, good: Sequence[str], bad: Sequence[str], known: Sequence[str], is_planted: bool,
@@ -232,5 +246,4 @@ def has_place_for_plant(kit: Any, crate: str, good: Sequence[str], known: Sequen
 def names_by_check(kit: Any, crate: str) -> List[str]:
     """The functions of a crate as a check of it prints them: those of a crate that `rt ci` took from an earlier run on
     the same machine, of which it says nothing more."""
-    with tempfile.TemporaryDirectory(prefix="gate-kept-") as kept:
-        return output.names(kit.checked(crate, {}, [], [], kept).text)
+    return output.names(kit.checked(crate, {}, [], []).text)

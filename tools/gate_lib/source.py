@@ -8,6 +8,7 @@ import re
 from typing import List, NamedTuple, Optional, Tuple
 
 HEAD = re.compile(r"^( *)(?:pub(?:\([a-z ]+\))? )?(?:final )?(?:const )?(?:unsafe )?fn (\w+)")
+TACTIC = re.compile(r"^( *)#\[tactic\(.*\)\]$", re.M)
 CYCLE = re.compile(r"^ *#\[cycle\((\w+)\)\]")
 CONSTANT = re.compile(r"^(?:pub(?:\([a-z ]+\))? )?(?:const|static) (\w+):", re.M)
 
@@ -94,6 +95,17 @@ def cycle_of(lines: List[str], head: int) -> str:
         if not line.lstrip().startswith(("#[", "//")):
             return ""
     return ""
+
+
+def unsearched(function: str) -> str:
+    """A function's text, on as many lines, with the attribute by which the prover searches nothing for it."""
+    head = re.search(rf"(?m){HEAD.pattern}", function)
+    if not head:
+        return function
+    above, rest = function[:head.start()], function[head.start():]
+    if TACTIC.search(above):
+        return TACTIC.sub(r"\1#[tactic(none)]", above, count=1) + rest
+    return f"{above}{head[1]}#[tactic(none)] {rest.lstrip()}"
 
 
 def module_of(path: str) -> List[str]:
