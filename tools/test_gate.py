@@ -511,6 +511,17 @@ class RoundsTest(unittest.TestCase):
         self.assertEqual([it["src/ring.rt"].count("tactic") for it in made.texts], [1, 0])
         self.assertEqual(made.aside, [[LEN, CUT]] * 2)
 
+    def test_an_edit_that_wants_search(self) -> None:
+        self.put_answers()
+        said = NOTE.format(13) + BARE.format(BELOW) + NOT_PROVED
+        made = FakeKit(self.top, [said], {})
+        good = [made.edit("below", *self.BELOW_EDIT)]
+        made.read_edit = lambda *_: ({"src/ring.rt": RING.replace(*self.BELOW_EDIT)}, "")  # type: ignore[method-assign]
+        with open(good[0], "a", encoding="utf-8") as it:
+            it.write("\nwith: search\n")
+        tried = rounds.try_crate(made, "reorder_buffer", good, [], KNOWN, False, lambda _text: None)
+        self.assertEqual(([it.refused for it in tried.results], made.texts[0]["src/ring.rt"].count("tactic")), ([True], 0))
+
     def test_nor_does_an_answer_that_names_what_is_gone(self) -> None:
         self.put_answers()
         gone = NOTE.format(13) + ANSWER_NAMES_OWN + BARE.format(BELOW) + NOT_PROVED

@@ -106,6 +106,11 @@ def aside(crate: str, folder: str, tried: Sequence[str], known: Sequence[str]) -
             and it not in tried and it not in named]
 
 
+def wants_search(file: str) -> bool:
+    """Whether an edit says by a line `with: search` that the goal which it breaks has no answer."""
+    return re.search(r"^with: search$", read(file), re.M) is not None
+
+
 def has_answers(folder: str, function: str) -> bool:
     """Whether a function of a crate has answers of its own."""
     return os.path.isfile("/".join([folder, "proofs", *function.split("::")[1:], "Answers.antt"]))

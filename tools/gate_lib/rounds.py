@@ -3,13 +3,18 @@
 A round's check has at most one edit of each function. An edit is refused there where its own function isn't proved for
 a reason of its own: what a function calls is cited by its contract, which an edit of a body leaves as it is. So a
 round leaves the bodies and proofs of all other functions aside, since `rt ci` has proved them, and has no answers
-printed that the tried ones lack. A function that has answers is first checked against them alone, with no search for
-its other goals: an edit is refused there where an answer is, that holds without it. What isn't certified so is tried
-in another round with search, then in one with the proofs of the others too, and at last alone; so is each edit that isn't one of a single function's body, and each of a function in a cycle of calls, whose
-proofs are one. Alone, first the functions that most likely show an edit are checked (its own, those that name the
-constant that it changes, or those of its file), in both ways, and where these are proved the whole crate is, in the
-toolchain's own way: there an edit is refused where anything isn't proved. Each check begins from nothing, and keeps
-nothing: a check that keeps its work sorts it into parts first, which takes a tenth of a round.
+printed that the tried ones lack.
+
+A function that has answers is first checked by these alone, with nothing searched for its other goals: an edit is
+refused there where an answer no longer fits its goal. What isn't certified so, and what says by a line `with: search`
+that it won't be, is tried in a round with search, then in one with the proofs of the others too, and at last alone; so
+is each edit that isn't one of a single function's body, and each of a function in a cycle of calls, whose proofs are
+one. Alone, first the functions that most likely show an edit are checked (its own, those that name the constant that it
+changes, or those of its file), in both ways, and where these are proved the whole crate is, in the toolchain's own way:
+there an edit is refused where anything isn't proved.
+
+Each check begins from nothing, and keeps nothing: one that keeps its work sorts it into parts first, which takes a tenth
+of a round.
 """
 
 import enum
@@ -20,6 +25,7 @@ from typing import Any, Callable, Dict, List, NamedTuple, Optional, Sequence, Se
 from gate_lib import edits as edits_of_text
 from gate_lib import output
 from gate_lib.edits import Edit, Placed
+
 
 class Stage(enum.IntEnum):
     """How an edit is tried in a round, from the cheapest way on."""
@@ -138,8 +144,8 @@ class Trial:
     def stage(self, edit: Edit) -> Stage:
         """How an edit is tried next."""
         if edit.file not in self.stages:
-            has_answers = edits_of_text.has_answers(self.folder, edit.function)
-            self.stages[edit.file] = Stage.ANSWERS if has_answers else Stage.SEARCH
+            by_answers = edits_of_text.has_answers(self.folder, edit.function) and not edits_of_text.wants_search(edit.file)
+            self.stages[edit.file] = Stage.ANSWERS if by_answers else Stage.SEARCH
         return self.stages[edit.file]
 
     def others(self, only: List[str]) -> List[str]:
@@ -178,6 +184,8 @@ class Trial:
         if is_judged and (stage == Stage.ANSWERS or stage == Stage.SEARCH and may_change):
             self.stages[edit.file] = Stage(stage + 1)
             self.together.append(edit)
+            if stage == Stage.ANSWERS and edit is not self.plant:
+                self.tell(f"{edit.label}: no answer refuses it, so it is tried again with search")
         else:
             self.alone.append(edit.file)
 

@@ -1,5 +1,6 @@
-//! Tests of the out-of-order core through its public calls: worked examples whose figures are known, and eight programs
-//! at once. They stand apart from `core_cycle`, which would be proved a second time with them.
+//! Tests of the out-of-order core through its public calls: worked examples whose figures are known, eight programs at
+//! once, and what a core shows of itself. They stand apart from `core_cycle` and `core_view`, which would be proved a
+//! second time with them.
 #![tactic(auto)]
 
 #[cfg(test)]
@@ -7,6 +8,12 @@ mod cores;
 #[cfg(test)]
 mod eight_programs;
 #[cfg(test)]
+mod entries;
+#[cfg(test)]
+mod equal;
+#[cfg(test)]
 mod runs;
+#[cfg(test)]
+mod spans;
 #[cfg(test)]
 mod worked_figures;

@@ -1,4 +1,4 @@
-use Rattle.std.proofs.Common.{◌≡◌, ◌++◌, ◌∷◌, [], not, true, ap, length, ◌∙◌, arith}
+use Rattle.std.proofs.Common.{◌≡◌, ◌++◌, ◌∷◌, [], not, true, ap, length, ◌∙◌, arith, rules}
 use Rattle.std.specs.Prelude.{is_ok, if◌then◌else◌}
 use Rattle.std.proofs.Common.{length-append}
 use Rattle.lab_plan.proofs.Items.{jobs_more}
@@ -18,3 +18,6 @@ loop-value-preserved c =
       jobs = jobs_more c.loop-value.jobs.items c.push.new.self.items c.in-Ok.job c.args.values.now c.loop-value.value-index c.value-item.result items c.loop-value-test.true c.value-item.is c.in-Ok.ensures.ok c.loop-value.invariant.jobs;
       faultless = faultless_more c.args.values.now c.loop-value.value-index c.value-item.result c.loop-value-test.true c.value-item.is c.loop-value.invariant.faultless c.in-Ok.ensures.faultless;
     }
+
+pub returns-then-is_err-clause-err : goal.returns-then-is_err-clause-err
+returns-then-is_err-clause-err c = search rules

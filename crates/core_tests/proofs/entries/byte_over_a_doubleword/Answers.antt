@@ -1,6 +1,6 @@
 use Rattle.std.proofs.Common.{sym}
 use Rattle.paged_memory.specs.declared.Width.TheVariants.{Byte}
-use Rattle.view_tests.proofs.entries.byte_over_a_doubleword.Goals as goal
+use Rattle.core_tests.proofs.entries.byte_over_a_doubleword.Goals as goal
 
 -- one byte is a width
 pub write_access-requires : goal.write_access-requires
