@@ -516,9 +516,8 @@ class RoundsTest(unittest.TestCase):
         said = NOTE.format(13) + BARE.format(BELOW) + NOT_PROVED
         made = FakeKit(self.top, [said], {})
         good = [made.edit("below", *self.BELOW_EDIT)]
-        made.read_edit = lambda *_: ({"src/ring.rt": RING.replace(*self.BELOW_EDIT)}, "")  # type: ignore[method-assign]
-        with open(good[0], "a", encoding="utf-8") as it:
-            it.write("\nwith: search\n")
+        with open(f"{os.path.dirname(good[0])}/with_search.md", "w", encoding="utf-8") as it:
+            it.write("Told.\n\n- `above.edit`\n- `below.edit`\n")
         tried = rounds.try_crate(made, "reorder_buffer", good, [], KNOWN, False, lambda _text: None)
         self.assertEqual(([it.refused for it in tried.results], made.texts[0]["src/ring.rt"].count("tactic")), ([True], 0))
 

@@ -107,8 +107,9 @@ def aside(crate: str, folder: str, tried: Sequence[str], known: Sequence[str]) -
 
 
 def wants_search(file: str) -> bool:
-    """Whether an edit says by a line `with: search` that the goal which it breaks has no answer."""
-    return re.search(r"^with: search$", read(file), re.M) is not None
+    """Whether `with_search.md` beside an edit names it: the goal that it breaks has no answer."""
+    listed = f"{os.path.dirname(file)}/with_search.md"
+    return os.path.isfile(listed) and f"- `{os.path.basename(file)}`\n" in read(listed)
 
 
 def has_answers(folder: str, function: str) -> bool:

@@ -6,8 +6,8 @@ round leaves the bodies and proofs of all other functions aside, since `rt ci` h
 printed that the tried ones lack.
 
 A function that has answers is first checked by these alone, with nothing searched for its other goals: an edit is
-refused there where an answer no longer fits its goal. What isn't certified so, and what says by a line `with: search`
-that it won't be, is tried in a round with search, then in one with the proofs of the others too, and at last alone; so
+refused there where an answer no longer fits its goal. What isn't certified so, and what `must-fail/with_search.md` names
+since it won't be, is tried in a round with search, then in one with the proofs of the others too, and at last alone; so
 is each edit that isn't one of a single function's body, and each of a function in a cycle of calls, whose proofs are
 one. Alone, first the functions that most likely show an edit are checked (its own, those that name the constant that it
 changes, or those of its file), in both ways, and where these are proved the whole crate is, in the toolchain's own way:
