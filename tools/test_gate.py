@@ -249,6 +249,12 @@ class SourceTest(unittest.TestCase):
                 want = text.replace(above + "    ", found + ("    " if "tactic" in above else f"{none} "), 1)
                 self.assertEqual(source.unsearched(text), want)
 
+    def test_functions_that_call_themselves(self) -> None:
+        with tempfile.TemporaryDirectory() as top:
+            for folder in ("+count", "merges/+merge", "merges/join"):
+                os.makedirs(f"{top}/proofs/{folder}")
+            self.assertEqual(edits.in_cycles("law", top), {"law::count", "law::merges::merge"})
+
     def test_cycle(self) -> None:
         text = "#[cycle(parity)]\n/// Whether a number is even.\nfn even(n: u64) -> bool {\n    odd(n - 1)\n}\n"
         self.assertEqual([it.cycle for it in source.functions(text)], ["parity"])

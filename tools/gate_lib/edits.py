@@ -122,8 +122,8 @@ def in_cycles(crate: str, folder: str) -> Set[str]:
     made for one that has none. Functions that call one another bear an attribute instead."""
     found = set()
     for at, folders, _ in os.walk(f"{folder}/proofs"):
-        path = os.path.relpath(at, f"{folder}/proofs").split("/")
-        found |= {"::".join([crate, *path, it[1:]]).replace("::.::", "::") for it in folders if it.startswith("+")}
+        paths = [os.path.relpath(f"{at}/{it}", f"{folder}/proofs") for it in folders if it.startswith("+")]
+        found |= {"::".join([crate, *it.replace("+", "").split("/")]) for it in paths}
     return found
 
 

@@ -150,9 +150,10 @@ def folder_of_proof(function: str, room: str) -> str:
 
 def lanes() -> int:
     """How many checks `rt ci` may run side by side, with one job each: one a processor, where each finds 4 GB. By itself
-    it gives a check the processors that nothing else takes, and two jobs cost a fifth more than one."""
+    it gives a check the processors that nothing else takes, and two jobs cost a quarter more than one."""
     rt = load()
-    return max(1, min(rt.processors(), int(rt.free() / 4e9)))
+    found = rt.processors() if hasattr(rt, "processors") else len(os.sched_getaffinity(0))
+    return max(1, min(found, int(rt.free() / 4e9)) if hasattr(rt, "free") else found)
 
 
 def is_refusal(tried: Any) -> bool:
