@@ -1,6 +1,6 @@
 //! Tests of the out-of-order core through its public calls: worked examples whose figures are known, eight programs at
-//! once, and what a core shows of itself. They stand apart from `core_cycle` and `core_view`, which would be proved a
-//! second time with them.
+//! once, what a core shows of itself, its guesses and its fetch policies. They stand apart from the crates whose calls
+//! they are, which would be proved a second time with them.
 #![tactic(auto)]
 
 #[cfg(test)]
@@ -11,6 +11,10 @@ mod eight_programs;
 mod entries;
 #[cfg(test)]
 mod equal;
+#[cfg(test)]
+mod guesses;
+#[cfg(test)]
+mod picks;
 #[cfg(test)]
 mod runs;
 #[cfg(test)]

@@ -1,5 +1,5 @@
-//! Tests of the commands of `smt-lab`, through the public calls of `lab_commands`, and of plans that are run, through those of
-//! `lab_pool`.
+//! Tests of the commands of `smt-lab`, through the public calls of `lab_commands`, of plans that are run, through those of
+//! `lab_pool`, and of what a plan says: its jobs, profiles and latencies.
 #![tactic(auto)]
 
 #[cfg(test)]
@@ -9,9 +9,19 @@ mod devices;
 #[cfg(test)]
 mod endings;
 #[cfg(test)]
+mod equal;
+#[cfg(test)]
+mod lags;
+#[cfg(test)]
 mod listings;
 #[cfg(test)]
 mod memory;
+#[cfg(test)]
+mod plan_faults;
+#[cfg(test)]
+mod plans;
+#[cfg(test)]
+mod profiles;
 #[cfg(test)]
 mod refusals;
 #[cfg(test)]
