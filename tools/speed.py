@@ -1,14 +1,17 @@
 #!/usr/bin/env python3
 """Times `run` and `step`, and prints tables in Markdown.
 
-usage: tools/speed.py PROGRAM [OTHER] [--growth] [--rounds R] [--cycles C] [--count N]
+usage: tools/speed.py PROGRAM [OTHER] [--growth] [--plan FILE ..] [--rounds R] [--cycles C] [--count N]
 
 PROGRAM is `smt-lab`, best as crates/smt_lab/out/smt_lab: `./smt-lab` looks for changed sources first. OTHER is another
 program with the same commands: it is timed in turn with PROGRAM, and has to print the same. Each workload runs R times
 (default 8) on each program, all workloads in turn. A run's time is that of the processor, user and system, for the whole
 process, its start and the reading of its file included; a time in the tables is the mean of the least quarter of R, since
-what else a machine does only adds to a run. `run` takes C cycles (default 300000) of the programs of examples/mix, which
-don't end, `step` N instructions (default 100000000).
+what else a machine does only adds to a run. What part of OTHER's speed PROGRAM has is told round by round, of two runs
+one right behind the other, and the tables have the median: other work slows both. `run` takes C cycles (default 300000)
+of the programs of examples/mix, which don't end, `step` N instructions (default 100000000).
+
+With --plan the workloads are the jobs of these plans alone, as long as each says; a plan is named by its file.
 
 With --growth a cycle is timed over 8, 16, 32 and 64 places of the issue queue, and of the reorder buffer, beside the
 instructions that issue in it, all else by default, at two contexts and at eight.
@@ -56,11 +59,13 @@ class Ran(NamedTuple):
 
 
 class Timed(NamedTuple):
-    """A workload's output, its time on each program (`undisturbed`), and what went wrong."""
+    """A workload's output, its time on each program (`undisturbed`), what part of the second program's speed the first one
+    has (`part_of`), and what went wrong."""
 
     workload: Workload
     out: str
     seconds: List[float]
+    part: float
     wrong: List[str]
 
 
@@ -95,6 +100,15 @@ def runs(cycles: int) -> List[Workload]:
     alone = [run_of((name, "8", "default"), [name] * CONTEXTS, SIZES["default"], cycles) for name in MIX]
     mixes = [(contexts, size) for size in SIZES for contexts in (1, 2, 4, 8) if size == "default" or contexts in (1, 8)]
     return alone + [run_of(("mix", str(contexts), size), mix_at(contexts), SIZES[size], cycles) for contexts, size in mixes]
+
+
+def given(path: str) -> Workload:
+    """The workload of `run` that a plan's file is: told how many contexts have a program, and by no size of ours."""
+    with open(path, encoding="utf-8") as file:
+        text = file.read()
+    listed = re.search(r"^contexts = \[(.*?)\]", text, re.M | re.S)
+    contexts = len([it for it in re.findall(r'"(.*?)"', listed[1]) if it]) if listed else 0
+    return Workload((os.path.basename(path), str(contexts), "its own"), text, ("run", PLAN))
 
 
 def steps(count: int) -> List[Workload]:
@@ -137,13 +151,21 @@ def measure(workloads: Sequence[Workload], programs: Sequence[str], rounds: int,
                 words = [path if word == PLAN else word for word in it.words]
                 for program, held in zip(programs, ran):
                     held.append(runner(program, words))
-    return [Timed(it, ran[0][0].out, [undisturbed([one.seconds for one in held]) for held in ran], faults(it, programs, ran))
-            for it, ran in zip(workloads, kept)]
+    timed = []
+    for it, ran in zip(workloads, kept):
+        times = [[one.seconds for one in held] for held in ran]
+        timed.append(Timed(it, ran[0][0].out, [undisturbed(held) for held in times], part_of(times), faults(it, programs, ran)))
+    return timed
 
 
 def undisturbed(times: Sequence[float]) -> float:
     """The mean of the least quarter of some times, of one at least."""
     return statistics.mean(sorted(times)[:max(len(times) // 4, 1)])
+
+
+def part_of(times: Sequence[Sequence[float]]) -> float:
+    """What part of the last program's speed the first one has, by the median of the rounds."""
+    return statistics.median(last / max(first, 1e-9) for first, last in zip(times[0], times[-1]))
 
 
 def faults(it: Workload, programs: Sequence[str], ran: Sequence[Sequence[Ran]]) -> List[str]:
@@ -182,9 +204,9 @@ def table(head: Sequence[str], rows: Sequence[Sequence[str]]) -> str:
     return "\n".join([lines[0], "|" + "---|" * len(head)] + lines[1:])
 
 
-def of_other(count: int, seconds: Sequence[float]) -> List[str]:
+def of_other(count: int, it: Timed) -> List[str]:
     """The rate of the other program, and what part of it the first one has."""
-    return [f"{rate(count, seconds[1]):,.0f}", f"{seconds[1] / max(seconds[0], 1e-9):.2f}"] if len(seconds) > 1 else []
+    return [f"{rate(count, it.seconds[1]):,.0f}", f"{it.part:.2f}"] if len(it.seconds) > 1 else []
 
 
 def run_table(timed: Sequence[Timed]) -> str:
@@ -194,7 +216,7 @@ def run_table(timed: Sequence[Timed]) -> str:
     for it in timed:
         cycles, retired = figure(it.out, "cycles"), figure(it.out, "retired")
         rows.append([*it.workload.cells, f"{retired / max(cycles, 1):.2f}", f"{rate(cycles, it.seconds[0]):,.0f}",
-                     f"{rate(retired, it.seconds[0]):,.0f}", *of_other(cycles, it.seconds)])
+                     f"{rate(retired, it.seconds[0]):,.0f}", *of_other(cycles, it)])
     return table(head + other_head(timed, "cycles"), rows)
 
 
@@ -203,7 +225,7 @@ def step_table(timed: Sequence[Timed]) -> str:
     rows = []
     for it in timed:
         count = performed(it.out)
-        rows.append([*it.workload.cells, f"{rate(count, it.seconds[0]):,.0f}", *of_other(count, it.seconds)])
+        rows.append([*it.workload.cells, f"{rate(count, it.seconds[0]):,.0f}", *of_other(count, it)])
     return table(["Program", "Thousand instructions a second"] + other_head(timed, "instructions"), rows)
 
 
@@ -231,13 +253,17 @@ def main(words: Sequence[str]) -> int:
     parser.add_argument("program")
     parser.add_argument("other", nargs="?")
     parser.add_argument("--growth", action="store_true")
+    parser.add_argument("--plan", nargs="+", default=[], metavar="FILE")
     parser.add_argument("--rounds", type=int, default=8, metavar="R")
     parser.add_argument("--cycles", type=int, default=300000, metavar="C")
     parser.add_argument("--count", type=int, default=100000000, metavar="N")
     asked = parser.parse_args(words)
     programs = [os.path.abspath(it) for it in (asked.program, asked.other) if it]
-    parts = [(growths(asked.cycles), growth_table)] if asked.growth else [
-        (runs(asked.cycles), run_table), (steps(asked.count), step_table)]
+    parts = [(runs(asked.cycles), run_table), (steps(asked.count), step_table)]
+    if asked.plan:
+        parts = [([given(it) for it in asked.plan], run_table)]
+    elif asked.growth:
+        parts = [(growths(asked.cycles), growth_table)]
     wrong: List[str] = []
     for workloads, shown in parts:
         timed = measure(workloads, programs, max(asked.rounds, 1))

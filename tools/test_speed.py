@@ -42,7 +42,8 @@ def tried(programs: Sequence[str], *words: str) -> Tuple[int, str]:
 
 def named(seconds: Sequence[float], out: str = REPORT, cells: Tuple[str, ...] = ("mix", "8", "default")) -> speed.Timed:
     """A workload that took these seconds."""
-    return speed.Timed(speed.Workload(cells, "", ("run", speed.PLAN)), out, list(seconds), [])
+    part = speed.part_of([[it] for it in seconds])
+    return speed.Timed(speed.Workload(cells, "", ("run", speed.PLAN)), out, list(seconds), part, [])
 
 
 class Tables(unittest.TestCase):
@@ -86,13 +87,17 @@ class Measuring(unittest.TestCase):
 
         it = speed.Workload(("bench",), "", ("step", "bench.s"))
         timed = speed.measure([it], ["one", "two"], 3, runner)
-        self.assertEqual(timed, [speed.Timed(it, BLOCK, [1.0, 3.0], [])])
+        self.assertEqual(timed, [speed.Timed(it, BLOCK, [1.0, 3.0], 2.0, [])])
         self.assertEqual(asked, [("one", "step"), ("two", "step")] * 3)
 
     def test_a_time_is_the_mean_of_the_least_quarter(self) -> None:
         self.assertEqual(speed.undisturbed([9.0]), 9.0)
         self.assertEqual(speed.undisturbed([7.0, 3.0, 8.0, 9.0, 5.0, 6.0, 4.0]), 3.0)
         self.assertEqual(speed.undisturbed([7.0, 3.0, 8.0, 9.0, 5.0, 6.0, 4.0, 99.0]), 3.5)
+
+    def test_a_part_is_the_median_of_the_rounds(self) -> None:
+        self.assertEqual(speed.part_of([[2.0, 4.0, 8.0], [1.0, 3.0, 80.0]]), 0.75)
+        self.assertEqual(speed.part_of([[2.0, 4.0]]), 1.0)
 
     def test_a_plan_is_written_for_the_run(self) -> None:
         seen: List[str] = []
@@ -127,6 +132,15 @@ class Plans(unittest.TestCase):
         end = f"[[jobs]]\nlimit = 70\ntargets = [{speed.TARGET}, {speed.TARGET}, {speed.TARGET}]\n[jobs.profile]\nissue_queue = 8\n"
         self.assertTrue(text.endswith(end), text)
 
+    def test_a_plan_of_a_file(self) -> None:
+        with tempfile.TemporaryDirectory() as folder:
+            path = os.path.join(folder, "own.toml")
+            with open(path, "w", encoding="utf-8") as file:
+                file.write('# A comment.\ncontexts = ["a", "", "b",\n  "a"]\n[[jobs]]\nlimit = 7\n')
+            it = speed.given(path)
+        self.assertEqual((it.cells, it.words), (("own.toml", "3", "its own"), ("run", speed.PLAN)))
+        self.assertTrue(it.plan.endswith("limit = 7\n"), it.plan)
+
     def test_the_workloads_have_names_of_their_own(self) -> None:
         for workloads in (speed.runs(10), speed.steps(10), speed.growths(10)):
             cells = [it.cells for it in workloads]
@@ -150,6 +164,17 @@ class Program(unittest.TestCase):
     def test_growth(self) -> None:
         status, said = tried([PROGRAM], "--growth")
         self.assertEqual((status, len(said.splitlines())), (0, 19), said)
+
+    def test_plans_stand_in_place_of_the_other_workloads(self) -> None:
+        with tempfile.TemporaryDirectory() as folder:
+            paths = [os.path.join(folder, name) for name in ("one.toml", "two.toml")]
+            for path in paths:
+                with open(path, "w", encoding="utf-8") as file:
+                    file.write('contexts = ["a"]\n')
+            status, said = tried([PROGRAM, PROGRAM], "--plan", *paths)
+        self.assertEqual(status, 0, said)
+        self.assertEqual([line.split(" | ")[:3] for line in said.splitlines()[2:4]],
+                         [["| one.toml", "1", "its own"], ["| two.toml", "1", "its own"]])
 
     def test_another_program_that_prints_something_else(self) -> None:
         status, said = tried([PROGRAM, PROGRAM.replace("squashed 100", "squashed 101")], "--growth")
