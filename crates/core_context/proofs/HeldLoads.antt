@@ -18,9 +18,9 @@ use Rattle.flight.specs.Marked.{is_waiting_load}
 use Rattle.core_view.specs.Outcomes.{image_of}
 use Rattle.core_view.specs.Flight.{seen_of, IsGrowing, is_queued as is_waiting_stage}
 use Rattle.core_view.specs.Events.{with_stage}
-use Rattle.core_view.specs.Loads.{newest, newest_sharing, is_clear, may_issue}
+use Rattle.core_view.specs.Loads.{newest, is_clear, is_clear_of, may_issue}
 use Rattle.core_view.specs.Spans.{shares}
-use Rattle.core_view.specs.Queues.{stores_of, newest_in}
+use Rattle.core_view.specs.Queues.{stores_of, is_clear_in}
 use Rattle.core_view.specs.View.{Context, entry_at, no_entry}
 use Rattle.core_view.proofs.Accesses.{is_load_effect, effect_loads}
 use Rattle.core_view.proofs.Queues.{queue_newest}
@@ -146,15 +146,12 @@ clear_may es (Performs insn) pc a b clear = by_effect (effect_of insn pc a b)
     by_effect e = refl
 clear_may es (Stops why) pc a b clear = refl
 
--- where no store is in the queue each entry may
-pub none_stored_may : (x : Context) (i a b : ℕ) → i < length x.flight → IsAnswered x i → stores_of x.flight ≡ [] → may_issue_at x i a b ≡ true
-none_stored_may x i a b lt h none = clear_may (take i x.flight) (entry_at x i).operation (entry_at x i).pc a b clear
+-- where the queue has no store that a load has to wait for each entry may
+pub none_completed_may : (x : Context) (i a b : ℕ) → i < length x.flight → IsAnswered x i → ((s : Span) → is_clear_in (stores_of x.flight) (entry_at x i).stamp s ≡ true) → may_issue_at x i a b ≡ true
+none_completed_may x i a b lt h none = clear_may (take i x.flight) (entry_at x i).operation (entry_at x i).pc a b clear
   where
-    sharing : (s : Span) → newest_sharing (take i x.flight) s ≡ None
-    sharing s = sym (queue_newest (λ b. shares b.span s) (image_of x.state) (seen_of x.state) x.state.pc 0 x.flight i no_entry lt h.growing h.sound) ∙ ap (λ qs. newest_in (λ b. shares b.span s) qs (entry_at x i).stamp) none
-
     clear : (s : Span) → is_clear (take i x.flight) s ≡ true
-    clear s = rw (sharing s) refl
+    clear s = ap (λ o. is_clear_of o s) (sym (queue_newest (λ b. shares b.span s) (image_of x.state) (seen_of x.state) x.state.pc 0 x.flight i no_entry lt h.growing h.sound)) ∙ none s
 
 -- a queued entry is in the flight
 pub queued_within : (es : List Entry) (i : ℕ) → (get_or es i no_entry).stage ≡ Queued → i < length es
@@ -167,14 +164,15 @@ pub plain_wait : (x : Context) (i : ℕ) → is_load (entry_at x i).operation �
 plain_wait x i h None = refl
 plain_wait x i h (Some values) = ap not (plain_may (take i x.flight) (entry_at x i).operation (entry_at x i).pc values.0 values.1 h)
 
-none_stored_wait : (x : Context) (i : ℕ) → i < length x.flight → IsAnswered x i → stores_of x.flight ≡ [] → (sources : Option (ℕ × ℕ)) → must_wait x i sources ≡ false
-none_stored_wait x i lt h none None = refl
-none_stored_wait x i lt h none (Some values) = ap not (none_stored_may x i values.0 values.1 lt h none)
+none_completed_wait : (x : Context) (i : ℕ) → i < length x.flight → IsAnswered x i → ((s : Span) → is_clear_in (stores_of x.flight) (entry_at x i).stamp s ≡ true) → (sources : Option (ℕ × ℕ)) → must_wait x i sources ≡ false
+none_completed_wait x i lt h none None = refl
+none_completed_wait x i lt h none (Some values) = ap not (none_completed_may x i values.0 values.1 lt h none)
 
--- so none has to where no store is in the queue
-pub none_stored_held : (f : Flow) (c : ℕ) (t : Track) → ((i : ℕ) → i < t.renamed → IsAnswered t.context i) → ((k : ℕ) → IsMarked f c k false) → stores_of t.context.flight ≡ [] → AreHeld f c t
-none_stored_held f c t answered let_go none i lt stage =
-    free_waiting f c t i (none_stored_wait t.context i (queued_within t.context.flight i stage) (answered i lt) none (sources_at (lane f c) i)) (let_go (entry_at t.context i).stamp)
+-- so none has to where no store has completed
+pub none_completed_held : (f : Flow) (c : ℕ) (t : Track) → ((i : ℕ) → i < t.renamed → IsAnswered t.context i) → ((k : ℕ) → IsMarked f c k false)
+    → ((i : ℕ) (s : Span) → i < t.renamed → is_clear_in (stores_of t.context.flight) (entry_at t.context i).stamp s ≡ true) → AreHeld f c t
+none_completed_held f c t answered let_go none i lt stage =
+    free_waiting f c t i (none_completed_wait t.context i (queued_within t.context.flight i stage) (answered i lt) (λ s. none i s lt) (sources_at (lane f c) i)) (let_go (entry_at t.context i).stamp)
 
 -- ---- the loads of a context, one after another
 

@@ -522,7 +522,7 @@ pub fn hold_loads<A: Allocator>(flow: &mut DataFlow<A>, track: &Track<A>, contex
     ensures others { (d k : ℕ) (b : Bool) → d ≢ context → IsMarked flow.old d k b → IsMarked flow.new d k b }
     ensures none { result ≡ false → flow.new ≡ flow.old }
 {
-    if track.has_no_store() {
+    if track.has_no_completed_store() {
         return false;
     }
     let mut holds = false;

@@ -346,14 +346,6 @@ impl<A: Allocator> Flight<A> {
         count(self.marks.of_kind(kind))
     }
 
-    /// Whether a renamed entry is of a kind.
-    #[inline(always)]
-    pub fn has_kind(&self, kind: OperationKind) -> bool
-        ensures { result ≡ list_any (is_of_kind (kind_index kind)) (take self.now.renamed self.now.entries) }
-    {
-        self.marks.of_kind(kind) != 0
-    }
-
     /// Whether the oldest entry, which is renamed, is of a kind.
     #[inline(always)]
     pub fn head_is(&self, kind: OperationKind) -> bool

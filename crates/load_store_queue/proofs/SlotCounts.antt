@@ -1,19 +1,10 @@
 -- How many slots there are: as many as the first items that pass a test, where those have one and no other has.
 use Rattle.std.proofs.Common.{◌≡◌, ℕ, zero, suc, ◌+◌, Bool, true, false, ◌&&◌, cond, List, [], ◌∷◌, length, get_or, take, count_by, filter_map, Option, Some, None, is_some, refl, sym, ap, ◌∙◌, arith}
 use Rattle.std.specs.Prelude.{nat_lt}
-use Rattle.std.specs.List.{list_any, cons_option}
+use Rattle.std.specs.List.{cons_option}
 use Rattle.std.proofs.lemmas.Bool.{and_right, lt-ltb, le-ltb}
 use Rattle.std.proofs.lemmas.Bool.Decides.{nat_tests}
 use Rattle.std.proofs.lemmas.List.Sums.{sum_by-cons}
-
--- whether any item passes a test is whether they are more than none
-pub any-counted : {X : Type 0} (test : X → Bool) (xs : List X) → list_any test xs ≡ nat_lt 0 (count_by test xs)
-any-counted test [] = refl
-any-counted test (x ∷ xs) = go (test x) refl (any-counted test xs) ∙ ap (nat_lt 0) (sym (sum_by-cons (λ y. cond (test y) 1 0) x xs))
-  where
-    go : (b : Bool) → test x ≡ b → list_any test xs ≡ nat_lt 0 (count_by test xs) → list_any test (x ∷ xs) ≡ nat_lt 0 (cond (test x) 1 0 + count_by test xs)
-    go true is others = rw is (sym (lt-ltb 0 (1 + count_by test xs) (omega arith)))
-    go false is others = let none : 0 + count_by test xs ≡ count_by test xs = omega arith in rw (is, none) others
 
 length-cons_option : {Y : Type 0} (o : Option Y) (ys : List Y) (b : Bool) → is_some o ≡ b → length (cons_option o ys) ≡ cond b 1 0 + length ys
 length-cons_option None ys b is = rw (sym is) (omega arith)

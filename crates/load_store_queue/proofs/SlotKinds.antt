@@ -1,9 +1,6 @@
 -- Which entries have a slot among the loads or the stores: the renamed ones of one kind.
-use Rattle.std.proofs.Common.{◌≡◌, ◌↔◌, ℕ, Bool, true, false, ◌&&◌, not, List, [], length, take, count_by, Some, None, is_some, refl, sym, ◌∙◌, ap, arith}
+use Rattle.std.proofs.Common.{◌≡◌, ℕ, Bool, true, false, ◌&&◌, List, length, take, count_by, Some, None, is_some, refl, sym, ◌∙◌, ap}
 use Rattle.std.specs.Prelude.{if◌then◌else◌, nat_lt}
-use Rattle.std.specs.List.{list_any}
-use Rattle.std.proofs.lemmas.Bool.{not-true, not_from_false, ltb-false, le-ltb}
-use Rattle.std.proofs.lemmas.List.{nil_from_length}
 use Rattle.core_view.specs.declared.entry.Entry.{Entry}
 use Rattle.core_view.specs.Operations.{is_load, is_store}
 use Rattle.core_view.specs.View.{no_entry}
@@ -11,7 +8,7 @@ use Rattle.core_view.proofs.KindTests.{load-kind, store-kind}
 use Rattle.core_view.specs.Queues.{is_renamed, load_slot, store_slot, loads_of, stores_of}
 use Rattle.flight.specs.Flights.{entry_in}
 use Rattle.flight.specs.Marked.{is_of_kind}
-use Rattle.load_store_queue.proofs.SlotCounts.{any-counted, length-slots}
+use Rattle.load_store_queue.proofs.SlotCounts.{length-slots}
 
 pub both-true : (a b : Bool) → (a && b) ≡ true → a ≡ true
 both-true true b is = refl
@@ -37,10 +34,3 @@ module _ (n : ℕ) (es : List Entry) (oldest : AreOldest n es) where
 
   pub stores-counted : length (stores_of es) ≡ count_by (is_of_kind 4) (take n es)
   stores-counted = length-slots store_slot (is_of_kind 4) no_entry n es (λ i. is_some-store_slot (entry_in es i) ∙ ap (λ b. is_of_kind 4 (entry_in es i) && b) (oldest i))
-
-  -- there is no store where none of the first n is of that kind
-  pub no-store : (not (list_any (is_of_kind 4) (take n es)) ≡ true) ↔ (stores_of es ≡ [])
-  no-store = (
-    λ none. nil_from_length (stores_of es) (omega (arith, stores-counted, ltb-false 0 (count_by (is_of_kind 4) (take n es)) (sym (any-counted (is_of_kind 4) (take n es)) ∙ not-true (list_any (is_of_kind 4) (take n es)) none))),
-    λ none. not_from_false (list_any (is_of_kind 4) (take n es)) (any-counted (is_of_kind 4) (take n es) ∙ le-ltb 0 (count_by (is_of_kind 4) (take n es)) (omega (arith, stores-counted, ap length none))),
-  )

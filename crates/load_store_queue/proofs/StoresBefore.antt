@@ -1,6 +1,6 @@
 -- The newest store that is older than a stamp, by the places of the entries.
 use Rattle.std.proofs.Common.{◌≡◌, ℕ, zero, suc, ◌<◌, ◌≤◌, Bool, true, false, ◌&&◌, List, [], ◌∷◌, Option, Some, None, refl, ap, ◌∙◌, arith, inl, inr}
-use Rattle.std.specs.Prelude.{nat_lt, option_and_then, if◌then◌else◌}
+use Rattle.std.specs.Prelude.{nat_lt, option_and_then, if◌then◌else◌, is_some, not, IsTrue, MatchOption}
 use Rattle.std.specs.List.{cons_option}
 use Rattle.std.specs.Option.{option_or}
 use Rattle.std.proofs.lemmas.Bool.{and_right, lt-ltb, le-ltb, cases_lt}
@@ -11,7 +11,9 @@ use Rattle.core_view.specs.declared.entry.Stage.TheVariants.{Fetched, Queued, Is
 use Rattle.core_view.specs.Operations.{is_store}
 use Rattle.core_view.specs.Flight.{bytes_done, is_done}
 use Rattle.core_view.specs.Loads.{passing}
-use Rattle.core_view.specs.Queues.{StoreSlot, is_renamed, store_slot, stores_of, bytes_before, newest_in}
+use Rattle.core_view.specs.declared.span.Span.{Span}
+use Rattle.core_view.specs.Spans.{shares}
+use Rattle.core_view.specs.Queues.{StoreSlot, is_renamed, store_slot, stores_of, bytes_before, newest_in, is_clear_in}
 use Rattle.flight.specs.Flights.{Flight, entry_in, NoneRenamedBelow, IsLastRenamed}
 use Rattle.flight.specs.Marked.{is_completed_store}
 use Rattle.load_store_queue.proofs.SlotKinds.{both-true}
@@ -108,3 +110,14 @@ module _ (test : Bytes → Bool) (f : Flight) (place : ℕ) (at : IsRenamedPlace
       -- and else it is passed
       pub none-from : passing test (bytes_done (entry_in f.entries older).stage) ≡ None → (i : ℕ) → older ≤ i → bytes_at i ≡ None
       none-from here i from = elim (cases_lt older i) [ inl lt ↦ after-store i lt | inr le ↦ (let same : i ≡ older = omega (arith, le, from) in ap bytes_at same ∙ at-store ∙ here) ]
+
+-- where no renamed entry is a completed store, a load at any place is clear
+pub clear-without : (f : Flight) (place : ℕ) → IsRenamedPlace f place → f.renamed ≤ 64 → NoneRenamedBelow is_completed_store f 64 → (s : Span) → is_clear_in (stores_of f.entries) (entry_in f.entries place).stamp s ≡ true
+clear-without f place at few none s =
+    rw (newest-without (λ b. shares b.span s) f place at place (omega arith) (none-older (λ b. shares b.span s) f place at) (λ i below renamed. none i (omega (arith, renamed, few)) renamed)) refl
+
+-- what holds where there is none
+pub where-none : (o : Option ℕ) (P : Type 0) (Q : ℕ → Type 0) (b : Bool) → is_some o ≡ not b → IsTrue b → MatchOption o P Q → P
+where-none None P Q b is t m = m
+where-none (Some x) P Q true is t m = absurd cc
+where-none (Some x) P Q false is t m = absurd (let bad : false ≡ true = t in cc)

@@ -5,13 +5,15 @@ ghost use Rattle.reorder_buffer.specs.Growing.{below};
 ghost use Rattle.paged_memory.specs.Cells.{byte_at, bytes_of};
 ghost use Rattle.core_view.specs.Outcomes.{load_span};
 ghost use Rattle.core_view.specs.Spans.{number_in};
+ghost use Rattle.core_view.specs.declared.span.Span.{Span};
 ghost use Rattle.core_view.specs.declared.entry.Entry.{Entry};
 ghost use Rattle.core_view.specs.declared.entry.Stage.TheVariants.{Queued};
 ghost use Rattle.core_view.specs.Flight.{bytes_in, span_in};
 ghost use Rattle.core_view.specs.Operations.{is_load, is_store, stops_at_fetch};
 ghost use Rattle.core_view.specs.Queues.{loads_of, stores_of, is_clear_in, value_seen_in, conflict_in};
 ghost use Rattle.core_view.specs.Stages.{execution_of, IsIssued};
-ghost use Rattle.flight.specs.Flights.{entry_in, IsPlain, Frees, is_due, renamed_one, issued_one, finished_one, retired_one, cut_at};
+ghost use Rattle.flight.specs.Marked.{is_completed_store};
+ghost use Rattle.flight.specs.Flights.{entry_in, NoneRenamedBelow, IsPlain, Frees, is_due, renamed_one, issued_one, finished_one, retired_one, cut_at};
 ghost use Rattle.load_store_queue.specs.Queues.{HasPlace, load_stamp, store_stamp, with_span, slot_with_bytes, without_oldest};
 ghost use Rattle.load_store_queue.specs.Answered.{number_answered};
 
@@ -19,7 +21,7 @@ use crate::answer::LoadAnswer;
 use crate::fault::QueueFault;
 use crate::reading::{number, span_of};
 use crate::search::{conflict, newest_sharing};
-use core_view::{Decoded, Execution, OperationKind, Span};
+use core_view::{Decoded, Execution, Span};
 use flight::{Finished, Flight};
 use paged_memory::{Memory, Width};
 use std::alloc::Allocator;
@@ -77,14 +79,16 @@ impl LoadStoreQueue {
         flight.kind_count(kind) < self.limits[kind.index()]
     }
 
-    /// Whether there is no store.
+    /// Whether no store has completed, so that each load is clear.
     #[inline(always)]
-    pub fn has_no_store<A: Allocator>(&self, flight: &Flight<A>) -> bool
-        ensures { IsTrue result ↔ (stores_of flight.now.entries ≡ []) }
+    pub fn has_no_completed_store<A: Allocator>(&self, flight: &Flight<A>) -> bool
+        ensures none { IsTrue result ↔ NoneRenamedBelow is_completed_store flight.now 64 }
+        ensures clear { IsTrue result → (place : ℕ) (span : Span) → place < flight.now.renamed → is_clear_in (stores_of flight.now.entries) (entry_in flight.now.entries place).stamp span ≡ true }
     {
-        // The renamed entries are the oldest.
+        // The renamed entries are the oldest, at most 64, and the stamps grow.
         let _renamed = flight.renamed_count();
-        !flight.has_kind(OperationKind::Store)
+        let _len = flight.len();
+        flight.last_completed_store(64).is_none()
     }
 
     /// The oldest fetched entry, which is a load, is renamed: it is the youngest load, and has not issued.

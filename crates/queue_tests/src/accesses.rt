@@ -231,9 +231,9 @@ impl Accesses {
         self.queue.has_place(&self.flight, &decoded(word))
     }
 
-    /// Whether there is no store.
-    pub fn has_no_store(&self) -> bool {
-        self.queue.has_no_store(&self.flight)
+    /// Whether no store has completed.
+    pub fn has_no_completed_store(&self) -> bool {
+        self.queue.has_no_completed_store(&self.flight)
     }
 
     /// Whether a stamp is above those of the entries.

@@ -26,7 +26,7 @@ enum Step {
     DropsFrom(u64),
     /// A load is fetched and takes its place.
     Places(u64),
-    /// Whether a load has a place, and whether no store is left.
+    /// Whether a load has a place, and whether no store has completed.
     Has(bool, bool),
 }
 
@@ -120,14 +120,15 @@ const A_LOAD_THAT_STOPS_CONFLICTS_WITH_NOTHING: &[Step] = &[
 ];
 
 const THE_OLDEST_RETIRE: &[Step] = &[
-    Has(false, false),
+    Has(false, true),
     // What is neither leaves no place.
     Retires(1),
-    Has(false, false),
+    Has(false, true),
     Retires(2),
-    Has(true, false),
+    Has(true, true),
     // Store 3 stays: once it has completed load 4 gets its bytes. Then it retires.
     Completes(3, Some((DATA, 1, 1)), None),
+    Has(true, false),
     Loads(4, DATA, Width::Byte, Some(1)),
     Retires(3),
     Has(true, true),
@@ -137,8 +138,9 @@ const THE_OLDEST_RETIRE: &[Step] = &[
 const A_CUT_DROPS_THE_YOUNGEST_LOADS_AND_STORES_ALIKE: &[Step] = &[
     Issues(5, Some((DATA, 1))),
     DropsFrom(5),
-    Has(true, false),
+    Has(true, true),
     Completes(3, Some((DATA, 1, 1)), None),
+    Has(true, false),
     Loads(4, DATA, Width::Byte, Some(1)),
     DropsFrom(3),
     Has(true, true),
@@ -176,9 +178,9 @@ fn assert_step(rt: &impl Abort, accesses: &mut Accesses, memory: &Memory, step: 
         Retires(stamp) => accesses.retire(rt, stamp),
         DropsFrom(stamp) => accesses.drop_from(rt, stamp),
         Places(stamp) => accesses.put(rt, stamp, LOAD),
-        Has(place, no_store) => {
-            let found = (accesses.has_place(LOAD), accesses.has_no_store());
-            assert_equal(rt, found, (place, no_store));
+        Has(place, none_completed) => {
+            let found = (accesses.has_place(LOAD), accesses.has_no_completed_store());
+            assert_equal(rt, found, (place, none_completed));
         }
     }
 }

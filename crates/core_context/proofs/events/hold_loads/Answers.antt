@@ -3,7 +3,7 @@ use Rattle.std.specs.Prelude.{MatchOption}
 use Rattle.flight.specs.Marked.{is_waiting_load}
 use Rattle.flight.specs.Flights.{NoneFrom, IsNext}
 use Rattle.data_flow.specs.Flow.{Lane}
-use Rattle.core_context.proofs.HeldLoads.{remarked_lane, held_first, held_next, held_skip, held_all, none_stored_held}
+use Rattle.core_context.proofs.HeldLoads.{remarked_lane, held_first, held_next, held_skip, held_all, none_completed_held}
 use Rattle.core_context.proofs.WaiterMarks.{remark_none}
 use Rattle.std.proofs.lemmas.Bool.{and_parts}
 use Rattle.core_view.specs.Flight.{is_queued}
@@ -65,11 +65,11 @@ returns-clause-others g c = c.loop-turn.invariant.below.others
 pub returns-clause-none : goal.returns-clause-none
 returns-clause-none g c = c.loop-turn.invariant.below.none
 
-pub returns-then-has_no_store-clause-held : goal.returns-then-has_no_store-clause-held
-returns-then-has_no_store-clause-held g c = none_stored_held c.args.flow.now c.args.context c.args.track.now c.requires.answered c.requires.let_go (c.has_no_store.ensures c.if-has_no_store.true)
+pub returns-then-has_no_completed_store-clause-held : goal.returns-then-has_no_completed_store-clause-held
+returns-then-has_no_completed_store-clause-held g c = none_completed_held c.args.flow.now c.args.context c.args.track.now c.requires.answered c.requires.let_go (c.has_no_completed_store.ensures c.if-has_no_completed_store.true)
 
-pub returns-then-has_no_store-clause-flow : goal.returns-then-has_no_store-clause-flow
-returns-then-has_no_store-clause-flow g c = remark_none c.args.flow.now
+pub returns-then-has_no_completed_store-clause-flow : goal.returns-then-has_no_completed_store-clause-flow
+returns-then-has_no_completed_store-clause-flow g c = remark_none c.args.flow.now
 
 pub hold_load-held-requires-clause-queued : goal.hold_load-held-requires-clause-queued
 hold_load-held-requires-clause-queued g c =
