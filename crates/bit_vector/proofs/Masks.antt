@@ -1,5 +1,5 @@
 -- Words by place.
-use Rattle.std.proofs.Common.{◌≡◌, ℕ, zero, suc, ◌+◌, ◌*◌, ◌%◌, ◌^◌, ◌<◌, ◌≤◌, Bool, true, false, cond, List, [], ◌∷◌, ◌++◌, length, take, map, set, count_by, bit_and, bit_or, refl, sym, ◌∙◌, ap, arith, ◌-◌}
+use Rattle.std.proofs.Common.{◌≡◌, ℕ, zero, suc, ◌+◌, ◌*◌, ◌%◌, ◌^◌, ◌<◌, ◌≤◌, Bool, true, false, cond, List, [], ◌∷◌, ◌++◌, length, take, map, set, length-set, count_by, bit_and, bit_or, refl, sym, ◌∙◌, ap, arith, ◌-◌}
 use Rattle.std.specs.Simd.Lanes.{mask_l}
 use mir.Val.{bool_byte}
 use Rattle.std.specs.Int.{bit_at, bit_not, w64}
@@ -8,7 +8,7 @@ use Rattle.std.proofs.lemmas.Simd.{mask_l-lt, bit_mask_l, ones-mask_l}
 use Rattle.std.proofs.lemmas.Nat.{and_mask, one_shl, or_shifted, or_comm, pow_pos, pow-add, and_le_l}
 use Rattle.std.proofs.Math.Pow.{pow_mono}
 use Rattle.std.proofs.lemmas.Nat.Bits.{same_from_bits, same_from_bits_below, bit_at_set_same, bit_at_set_other, bit_at_clear_same, bit_at_clear_other}
-use Rattle.std.proofs.lemmas.List.{get_or-set_same, get_or-set_other}
+use Rattle.std.proofs.lemmas.List.{get_or-set_same, get_or-set_other, set-set}
 
 pow-suc : (k : ℕ) → 2 ^ suc k ≡ 2 * 2 ^ k
 pow-suc k = let e : suc k ≡ 1 + k = omega arith in ap (λ n. 2 ^ n) e ∙ pow-add 2 1 k
@@ -82,6 +82,13 @@ mask-clear ms i within short fits fits' = let le : bit_and (mask_l ms) (bit_not 
 
 pow-le : (k : ℕ) → k ≤ 64 → 2 ^ k ≤ 18446744073709551616
 pow-le k le = pow_mono le
+
+pub mask-assign : (ms : List Bool) (i : ℕ) (b : Bool) (f : ℕ) → i < length ms → i < 64 → f ≡ cond b 1 0 → bit_or (mask_l (set ms i false)) (f * 2 ^ i % 18446744073709551616) ≡ mask_l (set ms i b)
+mask-assign ms i true f within short e =
+    ap (λ g. bit_or (mask_l (set ms i false)) (g * 2 ^ i % 18446744073709551616)) e ∙ mask-set (set ms i false) i (omega (arith, within, length-set ms i false)) short ∙ ap mask_l (set-set ms i false true)
+mask-assign ms i false f within short e =
+    let none : 0 * 2 ^ i % 18446744073709551616 ≡ 0 = omega arith in
+    ap (λ g. bit_or (mask_l (set ms i false)) (g * 2 ^ i % 18446744073709551616)) e ∙ ap (bit_or (mask_l (set ms i false))) none ∙ or-none (mask_l (set ms i false)) (length (set ms i false)) (mask_l-lt (set ms i false))
 
 pub mask-fits : (ms : List Bool) → length ms ≤ 64 → mask_l ms < 18446744073709551616
 mask-fits ms short = omega (arith, mask_l-lt ms, pow-le (length ms) short)

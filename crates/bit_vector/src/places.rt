@@ -39,11 +39,8 @@ pub fn assign(word: u64, place: usize, bit: bool) -> u64
     requires { place < 64 }
     ensures { (bits : List Bool) → word ≡ mask_l bits → place < length bits → length bits ≤ 64 → result ≡ mask_l (slice_set bits place bit) }
 {
-    if bit {
-        set(word, place)
-    } else {
-        clear(word, place)
-    }
+    // Without a jump on the bit.
+    clear(word, place) | (u64::from(bit) << place)
 }
 
 /// The word without its first bit.

@@ -2,7 +2,7 @@
 use Rattle.std.proofs.Common.{◌≡◌, ℕ, zero, suc, ◌<◌, ◌≤◌, Bool, true, false, not, ◌&&◌, ◌||◌, cond, List, [], ◌∷◌, length, get_or, take, map, Option, Some, None, refl, sym, ap, subst, ◌∙◌, arith, inl, inr}
 use Rattle.std.specs.Prelude.{◌==◌, nat_lt, filter, All, Contains, is_some}
 use Rattle.std.specs.List.{list_any}
-use Rattle.std.proofs.lemmas.Bool.{and_parts, eqb-true, eq-eqb, lt-ltb, ltb-true, cases_lt, true≢false}
+use Rattle.std.proofs.lemmas.Bool.{and_parts, eqb-true, eq-eqb, lt-ltb, ltb-true, cases_lt, not-true, true≢false}
 use Rattle.std.proofs.lemmas.List.{length-map, get_or-map, get_or_default}
 use Rattle.std.proofs.lemmas.List.Elements.{All-head, All-tail}
 use Rattle.hart_step.specs.State.{State}
@@ -18,12 +18,12 @@ use Rattle.core_view.specs.Flight.{known, IsGrowing, is_queued, is_open_guess}
 use Rattle.core_view.specs.View.{View, Context, entry_at, no_entry}
 use Rattle.data_flow.specs.Flow.{Flow, Waiter, lane, sources_at, both, is_supplied, is_waiter, waits_of, queued_waiter, queued}
 use Rattle.lawful_cycle.specs.Views.{context_in, is_id}
-use Rattle.lawful_cycle.specs.Issue.{first_value, second_value, is_ready_on, is_ready, Place, entry_in, id_in, queue_view, IsReadyIn, IsNotAfter}
+use Rattle.lawful_cycle.specs.Issue.{first_value, second_value, is_ready_on, is_ready, Place, entry_in, id_in, queue_view, IsNotAfter}
 use Rattle.core_context.specs.Queued.{unheld, waiting_of, waiter_for}
-use Rattle.core_context.specs.Issuable.{may_issue_at, must_wait, AreHeld}
+use Rattle.core_context.specs.Issuable.{may_issue_at, IsMarked, must_wait}
 use Rattle.core_context.specs.Track.{Track}
 use Rattle.core_context.specs.Cores.{is_waiting, waiters_of, IsCore}
-use Rattle.core_back.specs.Selected.{IsChoice, IsChosen}
+use Rattle.core_back.specs.Selected.{IsChoiceOf, IsChosenOf, IsChosen, is_supplied_at, IsSuppliedPlace}
 use Rattle.core_context.proofs.Laws.{queued_renamed, behind_at, sources_are, eqb-flip, same_place, queued_stage}
 use Rattle.core_back.proofs.Selections.{no_waiter, no_waiting, supplied_is}
 
@@ -92,36 +92,40 @@ waits_none : (b : Bool) → (waits_of b ≡ []) → b ≡ true
 waits_none true h = refl
 waits_none false h = absurd cc
 
--- two values that are there, or not, and whether what has them has to wait
-ready_both : (x : Context) (i : ℕ) (a b : Option ℕ) (held : Bool) → held ≡ must_wait x i (both a b) → is_some (both a b) ≡ true → held ≡ false → is_ready_on x i a b ≡ true
-ready_both x i None b held is some free = absurd (true≢false (sym some))
-ready_both x i (Some a) None held is some free = absurd (true≢false (sym some))
-ready_both x i (Some a) (Some b) held is some free = by_test (may_issue_at x i a b) (sym is ∙ free)
-  where
-    by_test : (t : Bool) → not t ≡ false → t ≡ true
-    by_test true h = refl
-    by_test false h = absurd (true≢false h)
+-- which entries have to wait, by the context, the place and the values of the sources
+abbrev pub Waits : Type 0
+Waits = Context → ℕ → Option (ℕ × ℕ) → Bool
 
-both_ready : (x : Context) (i : ℕ) (a b : Option ℕ) (held : Bool) → held ≡ must_wait x i (both a b) → is_ready_on x i a b ≡ true → (is_some (both a b) ≡ true) × (held ≡ false)
-both_ready x i None b held is ready = absurd (true≢false (sym ready))
-both_ready x i (Some a) None held is ready = absurd (true≢false (sym ready))
-both_ready x i (Some a) (Some b) held is ready = (refl, is ∙ ap not ready)
+-- each queued entry of a context is held exactly where it has to wait so
+abbrev pub AreHeldBy : Waits → Flow → ℕ → Track → Type 0
+AreHeldBy waits f c t = (i : ℕ) → i < t.renamed → (entry_at t.context i).stage ≡ Queued → IsMarked f c (entry_at t.context i).stamp (waits t.context i (sources_at (lane f c) i))
+
+-- it has the values of its sources, and doesn't have to wait
+abbrev pub has_values : Waits → Context → ℕ → Bool
+has_values waits x i = is_some (both (first_value x i) (second_value x i)) && not (waits x i (both (first_value x i) (second_value x i)))
+
+-- and is queued
+abbrev pub is_ready_by : Waits → Context → ℕ → Bool
+is_ready_by waits x i = nat_lt i (length x.flight) && is_queued (entry_at x i).stage && has_values waits x i
+
+abbrev pub IsReadyBy : Waits → View → Place → Type 0
+IsReadyBy waits v p = (p.context < 8) × (is_ready_by waits (context_in v p.context) p.place ≡ true)
 
 -- a waiter stands for the entry at a place
-pub record StandsFor (f : Flow) (c : ℕ) (t : Track) (w : Waiter) (i : ℕ) : Type 0 where
+pub record StandsFor (waits : Waits) (f : Flow) (c : ℕ) (t : Track) (w : Waiter) (i : ℕ) : Type 0 where
   pub within : i < length t.context.flight
   pub stage : (entry_at t.context i).stage ≡ Queued
   pub is : unheld w ≡ waiter_for c t.context.flight (entry_at t.context i)
-  pub held : w.held ≡ must_wait t.context i (sources_at (lane f c) i)
+  pub held : w.held ≡ waits t.context i (sources_at (lane f c) i)
 
-module _ {start : State} {stamp reorder : ℕ} {f : Flow} (c : ℕ) {t : Track} (core : IsCore start stamp reorder f [] c t) (marks : AreHeld f c t) where
-  held_is : (w : Waiter) → Contains f.waiters w → (i : ℕ) → i < length t.context.flight → (entry_at t.context i).stage ≡ Queued → unheld w ≡ waiter_for c t.context.flight (entry_at t.context i) → w.held ≡ must_wait t.context i (sources_at (lane f c) i)
+module _ (waits : Waits) {start : State} {stamp reorder : ℕ} {f : Flow} (c : ℕ) {t : Track} (core : IsCore start stamp reorder f [] c t) (marks : AreHeldBy waits f c t) where
+  held_is : (w : Waiter) → Contains f.waiters w → (i : ℕ) → i < length t.context.flight → (entry_at t.context i).stage ≡ Queued → unheld w ≡ waiter_for c t.context.flight (entry_at t.context i) → w.held ≡ waits t.context i (sources_at (lane f c) i)
   held_is w from i lt stage is =
       let named : is_waiter c (entry_at t.context i).stamp w ≡ true = rw (eq-eqb w.context c (ap (λ (v : Waiter). v.context) is), eq-eqb w.stamp (entry_at t.context i).stamp (ap (λ (v : Waiter). v.stamp) is)) refl in
       ap (λ (v : Waiter). v.held) (sym from.2) ∙ marks i (queued_renamed core i lt stage) stage from.0 w from.1 (ap (is_waiter c (entry_at t.context i).stamp) from.2 ∙ named)
 
   -- what waits of a context stands for one of its queued entries
-  pub stands : (w : Waiter) → Contains f.waiters w → w.context ≡ c → (i : ℕ) × StandsFor f c t w i
+  pub stands : (w : Waiter) → Contains f.waiters w → w.context ≡ c → (i : ℕ) × StandsFor waits f c t w i
   stands w from here =
       let kept = kept_place c f.waiters from.0 w from.1 from.2 here in
       let moved : (k : ℕ) × (k < length (waiters_of [] c t.context.flight)) × (get_or (waiters_of [] c t.context.flight) k (unheld w) ≡ unheld w) = subst (λ (ws : List Waiter). (k : ℕ) × (k < length ws) × (get_or ws k (unheld w) ≡ unheld w)) core.waiting kept in
@@ -131,7 +135,7 @@ module _ {start : State} {stamp reorder : ℕ} {f : Flow} (c : ℕ) {t : Track} 
       (p.0, record { within = p.1; stage = stage; is = is; held = held_is w from p.0 p.1 stage is })
 
   -- and each queued entry has one
-  pub stood_for : (i : ℕ) → i < length t.context.flight → (entry_at t.context i).stage ≡ Queued → (w : Waiter) × Contains f.waiters w × StandsFor f c t w i
+  pub stood_for : (i : ℕ) → i < length t.context.flight → (entry_at t.context i).stage ≡ Queued → (w : Waiter) × Contains f.waiters w × StandsFor waits f c t w i
   stood_for i lt stage =
       let u : Waiter = waiter_for c t.context.flight (entry_at t.context i) in
       let there = entry_waits (waiter_for c t.context.flight) (is_waiting [] c) t.context.flight i lt (rw stage refl) in
@@ -140,25 +144,27 @@ module _ {start : State} {stamp reorder : ℕ} {f : Flow} (c : ℕ) {t : Track} 
       (q.0, q.1, record { within = lt; stage = stage; is = q.2; held = held_is q.0 q.1 i lt stage q.2 })
 
   -- the values of its sources are there where the queue says so
-  supplied : (w : Waiter) (i : ℕ) → StandsFor f c t w i → is_supplied (known (lane f w.context).registers) (lane f w.context).nodes w.stamp ≡ is_some (both (first_value t.context i) (second_value t.context i))
+  supplied : (w : Waiter) (i : ℕ) → StandsFor waits f c t w i → is_supplied (known (lane f w.context).registers) (lane f w.context).nodes w.stamp ≡ is_some (both (first_value t.context i) (second_value t.context i))
   supplied w i s =
       let renamed = queued_renamed core i s.within s.stage in
       ap (λ (v : Waiter). is_supplied (known (lane f v.context).registers) (lane f v.context).nodes v.stamp) s.is ∙ supplied_is core i renamed ∙ ap is_some (sources_are core i renamed)
 
-  held_of : (w : Waiter) (i : ℕ) → StandsFor f c t w i → w.held ≡ must_wait t.context i (both (first_value t.context i) (second_value t.context i))
-  held_of w i s = s.held ∙ ap (must_wait t.context i) (sources_are core i (queued_renamed core i s.within s.stage))
+  held_of : (w : Waiter) (i : ℕ) → StandsFor waits f c t w i → w.held ≡ waits t.context i (both (first_value t.context i) (second_value t.context i))
+  held_of w i s = s.held ∙ ap (waits t.context i) (sources_are core i (queued_renamed core i s.within s.stage))
 
   -- it is ready in the queue where its entry is ready
-  pub ready_place : (w : Waiter) (i : ℕ) → StandsFor f c t w i → IsReady (queued_waiter f.lanes w) → is_ready t.context i ≡ true
+  pub ready_place : (w : Waiter) (i : ℕ) → StandsFor waits f c t w i → IsReady (queued_waiter f.lanes w) → is_ready_by waits t.context i ≡ true
   ready_place w i s ready =
       let some = sym (supplied w i s) ∙ waits_none (is_supplied (known (lane f w.context).registers) (lane f w.context).nodes w.stamp) ready.0 in
-      rw (lt-ltb i (length t.context.flight) s.within, s.stage) (ready_both t.context i (first_value t.context i) (second_value t.context i) w.held (held_of w i s) some ready.1)
+      let free = sym (held_of w i s) ∙ ready.1 in
+      rw (lt-ltb i (length t.context.flight) s.within, s.stage, some, free) refl
 
-  pub place_ready : (w : Waiter) (i : ℕ) → StandsFor f c t w i → is_ready t.context i ≡ true → IsReady (queued_waiter f.lanes w)
+  pub place_ready : (w : Waiter) (i : ℕ) → StandsFor waits f c t w i → is_ready_by waits t.context i ≡ true → IsReady (queued_waiter f.lanes w)
   place_ready w i s ready =
-      let on = (and_parts (nat_lt i (length t.context.flight) && is_queued (entry_at t.context i).stage) (is_ready_on t.context i (first_value t.context i) (second_value t.context i)) ready).1 in
-      let h = both_ready t.context i (first_value t.context i) (second_value t.context i) w.held (held_of w i s) on in
-      (ap waits_of (supplied w i s ∙ h.0), h.1)
+      let values = both (first_value t.context i) (second_value t.context i) in
+      let on = (and_parts (nat_lt i (length t.context.flight) && is_queued (entry_at t.context i).stage) (is_some values && not (waits t.context i values)) ready).1 in
+      let h = and_parts (is_some values) (not (waits t.context i values)) on in
+      (ap waits_of (supplied w i s ∙ h.0), held_of w i s ∙ not-true (waits t.context i values) h.1)
 
 -- ---- the queue and the flights of a view
 
@@ -176,10 +182,10 @@ kept_in q (x ∷ xs) (suc j) e lt is kept = go (q x) (kept_in q xs j e (omega (a
 abbrev AreInOrder : (QueueView → ℕ) → QueueView → QueueView → Type 0
 AreInOrder key a b = (key a ≤ key b) × (key a ≡ key b → a.stamp ≤ b.stamp)
 
-module _ {start : ℕ → State} {stamp reorder : ℕ} (f : Flow) (v : View) (tracks : ℕ → Track) (cores : (c : ℕ) → c < 8 → IsCore (start c) stamp reorder f [] c (tracks c)) (marks : (c : ℕ) → c < 8 → AreHeld f c (tracks c))
+module _ (waits : Waits) {start : ℕ → State} {stamp reorder : ℕ} (f : Flow) (v : View) (tracks : ℕ → Track) (cores : (c : ℕ) → c < 8 → IsCore (start c) stamp reorder f [] c (tracks c)) (marks : (c : ℕ) → c < 8 → AreHeldBy waits f c (tracks c))
     (all : All (λ w. w.context < 8) f.waiters) (shown : (c : ℕ) → c < 8 → (tracks c).context ≡ context_in v c) where
   -- what an order sees of a waiter is what it sees of the place that it stands for
-  view_is : (c : ℕ) → c < 8 → (w : Waiter) (i : ℕ) → StandsFor f c (tracks c) w i → queue_view v (record { context = c; place = i }) ≡ view_of (queued_waiter f.lanes w)
+  view_is : (c : ℕ) → c < 8 → (w : Waiter) (i : ℕ) → StandsFor waits f c (tracks c) w i → queue_view v (record { context = c; place = i }) ≡ view_of (queued_waiter f.lanes w)
   view_is c lt w i s =
       let t = tracks c in
       let seen : Waiter → QueueView = λ u. record { stamp = u.stamp; context = u.context; guessed = u.guessed; speculative = u.speculative } in
@@ -189,7 +195,7 @@ module _ {start : ℕ → State} {stamp reorder : ℕ} (f : Flow) (v : View) (tr
   -- an entry of the queue that is ready, and its place
   record IsAt (e : Waiting) (p : Place) : Type 0 where
     view : queue_view v p ≡ view_of e
-    ready : IsReadyIn v p
+    ready : IsReadyBy waits v p
 
   place_at : (e : Waiting) → Contains (queued f) e → IsReady e → (p : Place) × IsAt e p
   place_at e from ready =
@@ -198,28 +204,28 @@ module _ {start : ℕ → State} {stamp reorder : ℕ} (f : Flow) (v : View) (tr
       let is : e ≡ queued_waiter f.lanes w = sym from.2 ∙ get_or-map (queued_waiter f.lanes) f.waiters from.0 no_waiter e within in
       let lt : w.context < 8 = all from.0 no_waiter within in
       let there : Contains f.waiters w = (from.0, within, get_or_default f.waiters from.0 w no_waiter within) in
-      let s = stands w.context (cores w.context lt) (marks w.context lt) w there refl in (
+      let s = stands waits w.context (cores w.context lt) (marks w.context lt) w there refl in (
         record { context = w.context; place = s.0 },
         record {
           view = view_is w.context lt w s.0 s.1 ∙ ap view_of (sym is);
-          ready = (lt, ap (λ x. is_ready x s.0) (sym (shown w.context lt)) ∙ ready_place w.context (cores w.context lt) (marks w.context lt) w s.0 s.1 (subst IsReady is ready));
+          ready = (lt, ap (λ x. is_ready_by waits x s.0) (sym (shown w.context lt)) ∙ ready_place waits w.context (cores w.context lt) (marks w.context lt) w s.0 s.1 (subst IsReady is ready));
         },
       )
 
-  entry_of_place : (p : Place) → IsReadyIn v p → (e : Waiting) × Contains (queued f) e × IsReady e × (queue_view v p ≡ view_of e)
+  entry_of_place : (p : Place) → IsReadyBy waits v p → (e : Waiting) × Contains (queued f) e × IsReady e × (queue_view v p ≡ view_of e)
   entry_of_place p ready =
       let t = tracks p.context in
       let lt = ready.0 in
-      let here : is_ready t.context p.place ≡ true = ap (λ x. is_ready x p.place) (shown p.context lt) ∙ ready.1 in
-      let parts = and_parts (nat_lt p.place (length t.context.flight)) (is_queued (entry_at t.context p.place).stage) (and_parts (nat_lt p.place (length t.context.flight) && is_queued (entry_at t.context p.place).stage) (is_ready_on t.context p.place (first_value t.context p.place) (second_value t.context p.place)) here).0 in
-      let q = stood_for p.context (cores p.context lt) (marks p.context lt) p.place (ltb-true p.place (length t.context.flight) parts.0) (queued_stage (entry_at t.context p.place).stage parts.1) in
+      let here : is_ready_by waits t.context p.place ≡ true = ap (λ x. is_ready_by waits x p.place) (shown p.context lt) ∙ ready.1 in
+      let parts = and_parts (nat_lt p.place (length t.context.flight)) (is_queued (entry_at t.context p.place).stage) (and_parts (nat_lt p.place (length t.context.flight) && is_queued (entry_at t.context p.place).stage) (has_values waits t.context p.place) here).0 in
+      let q = stood_for waits p.context (cores p.context lt) (marks p.context lt) p.place (ltb-true p.place (length t.context.flight) parts.0) (queued_stage (entry_at t.context p.place).stage parts.1) in
       let w = q.0 in
       let from = q.1 in
       let below = from.1 in
       let e : Waiting = queued_waiter f.lanes w in (
         e,
         (from.0, omega (arith, below, length-map f.waiters (queued_waiter f.lanes)), get_or-map (queued_waiter f.lanes) f.waiters from.0 w e below ∙ ap (queued_waiter f.lanes) from.2),
-        place_ready p.context (cores p.context lt) (marks p.context lt) w p.place q.2 here,
+        place_ready waits p.context (cores p.context lt) (marks p.context lt) w p.place q.2 here,
         view_is p.context lt w p.place q.2,
       )
 
@@ -260,7 +266,7 @@ module _ {start : ℕ → State} {stamp reorder : ℕ} (f : Flow) (v : View) (tr
   match_names (e ∷ es) (p ∷ ps) h = ap (λ n. n ∷ map name_of es) (sym (ap named h.0.view)) ∙ ap (λ ns. id_in v p ∷ ns) (match_names es ps h.1)
 
   -- one place has a context and a stamp
-  same_name : (p q : Place) → IsReadyIn v p → IsReadyIn v q → p.context ≡ q.context → (entry_in v p).stamp ≡ (entry_in v q).stamp → q ≡ p
+  same_name : (p q : Place) → IsReadyBy waits v p → IsReadyBy waits v q → p.context ≡ q.context → (entry_in v p).stamp ≡ (entry_in v q).stamp → q ≡ p
   same_name p q ready other context stamps =
       let growing : IsGrowing 0 (context_in v p.context).flight = subst (λ (x : Context). IsGrowing 0 x.flight) (shown p.context ready.0) (cores p.context ready.0).live.flight.growing in
       let place : p.place ≡ q.place = same_place 0 (context_in v p.context).flight p.place q.place growing (ready_within p ready) (subst (λ c. q.place < length (context_in v c).flight) (sym context) (ready_within q other))
@@ -270,13 +276,13 @@ module _ {start : ℕ → State} {stamp reorder : ℕ} (f : Flow) (v : View) (tr
       parts : (a b c d : ℕ) → a ≡ c → b ≡ d → ◌≡◌ {A = Place} (record { context = a; place = b }) (record { context = c; place = d })
       parts a b c d p q = rw (p, q) refl
 
-      ready_within : (r : Place) → IsReadyIn v r → r.place < length (context_in v r.context).flight
+      ready_within : (r : Place) → IsReadyBy waits v r → r.place < length (context_in v r.context).flight
       ready_within r h =
           ltb-true r.place (length (context_in v r.context).flight) (and_parts (nat_lt r.place (length (context_in v r.context).flight)) (is_queued (entry_in v r).stage)
-          (and_parts (nat_lt r.place (length (context_in v r.context).flight) && is_queued (entry_in v r).stage) (is_ready_on (context_in v r.context) r.place (first_value (context_in v r.context) r.place) (second_value (context_in v r.context) r.place)) h.1).0).0
+          (and_parts (nat_lt r.place (length (context_in v r.context).flight) && is_queued (entry_in v r).stage) (has_values waits (context_in v r.context) r.place) h.1).0).0
 
   -- what is among the names is among the places
-  among_places : (p : Place) (e : Waiting) → IsReadyIn v p → queue_view v p ≡ view_of e → (es : List Waiting) (ps : List Place) → Match es ps → is_among (map name_of es) e ≡ true → Contains ps p
+  among_places : (p : Place) (e : Waiting) → IsReadyBy waits v p → queue_view v p ≡ view_of e → (es : List Waiting) (ps : List Place) → Match es ps → is_among (map name_of es) e ≡ true → Contains ps p
   among_places p e ready view [] ps h is = absurd (true≢false (sym is))
   among_places p e ready view (d ∷ es) [] h is = absurd h
   among_places p e ready view (d ∷ es) (q ∷ ps) h is = go (is_named d.context d.stamp e) refl is (λ later. among_places p e ready view es ps h.1 later)
@@ -289,13 +295,13 @@ module _ {start : ℕ → State} {stamp reorder : ℕ} (f : Flow) (v : View) (tr
           (0, omega arith, same_name p q ready h.0.ready context stamps)
       go false here some rest = let found = rest some in let below = found.1 in (suc found.0, omega (arith, below), found.2)
 
-  pub is_chosen : (key : QueueView → ℕ) (width : ℕ) (rest : List Waiting) (names : List EntryId) → IsSelected (λ e. key (view_of e)) width (queued f) rest names → IsChosen key width v names
-  is_chosen key width rest names s =
+  pub is_chosen_by : (key : QueueView → ℕ) (width : ℕ) (rest : List Waiting) (names : List EntryId) → IsSelected (λ e. key (view_of e)) width (queued f) rest names → IsChosenOf (IsReadyBy waits v) key width v names
+  is_chosen_by key width rest names s =
       let ps = places s.chosen s.queued s.ready in
       record { chosen = ps.0; names_are = s.names ∙ match_names s.chosen ps.0 ps.1; choice = choice ps.0 ps.1 }
     where
       -- a ready place that isn't chosen stays in the queue
-      left : (ps : List Place) → Match s.chosen ps → (p : Place) → IsReadyIn v p → ¬ Contains ps p → (e : Waiting) × Contains rest e × IsReady e × (queue_view v p ≡ view_of e)
+      left : (ps : List Place) → Match s.chosen ps → (p : Place) → IsReadyBy waits v p → ¬ Contains ps p → (e : Waiting) × Contains rest e × IsReady e × (queue_view v p ≡ view_of e)
       left ps h p ready out =
           let q = entry_of_place p ready in
           let from = q.1 in
@@ -308,7 +314,7 @@ module _ {start : ℕ → State} {stamp reorder : ℕ} (f : Flow) (v : View) (tr
               by_among true is = absurd (out (among_places p e ready view s.chosen ps h (ap (λ ns. is_among ns e) (sym s.names) ∙ is)))
               by_among false is = refl
 
-      choice : (ps : List Place) → Match s.chosen ps → IsChoice key width v ps
+      choice : (ps : List Place) → Match s.chosen ps → IsChoiceOf (IsReadyBy waits v) key width v ps
       choice ps h = record {
         ready = λ j d lt. (match_at s.chosen ps h j no_waiting d (omega (arith, lt, count))).ready;
         once = λ i j d lt within. apart (get_or s.chosen i no_waiting) (get_or s.chosen j no_waiting) (get_or ps i d) (get_or ps j d) (match_at s.chosen ps h i no_waiting d (omega (arith, lt, within, count))).view (match_at s.chosen ps h j no_waiting d (omega (arith, within, count))).view (s.once i j no_waiting lt (omega (arith, within, count)));
@@ -334,3 +340,55 @@ module _ {start : ℕ → State} {stamp reorder : ℕ} (f : Flow) (v : View) (tr
           apart e g p q a b h =
               ap (λ (u : QueueView). (q.context == u.context) && ((entry_in v q).stamp == u.stamp)) a ∙ ap (λ (u : QueueView). (u.context == e.context) && (u.stamp == e.stamp)) b
               ∙ ap (λ t. t && (g.stamp == e.stamp)) (eqb-flip g.context e.context) ∙ ap (λ t. (e.context == g.context) && t) (eqb-flip g.stamp e.stamp) ∙ h
+
+-- ---- what has to wait, and what needn't
+
+-- a choice among the same places
+choice_among : {R S : Place → Type 0} {key : QueueView → ℕ} {width : ℕ} {v : View} {names : List EntryId} → ((p : Place) → R p → S p) → ((p : Place) → S p → R p) → IsChosenOf R key width v names → IsChosenOf S key width v names
+choice_among to from h = record {
+  chosen = h.chosen;
+  names_are = h.names_are;
+  choice = record {
+    ready = λ j d lt. to (get_or h.chosen j d) (h.choice.ready j d lt);
+    once = h.choice.once;
+    in_order = h.choice.in_order;
+    most = h.choice.most;
+    used_up = λ p is out. h.choice.used_up p (from p is) out;
+    first = λ p is out. h.choice.first p (from p is) out;
+  };
+}
+
+-- what has to wait as its loads say is what isn't ready
+asked_values : (x : Context) (i : ℕ) (a b : Option ℕ) → (is_some (both a b) && not (must_wait x i (both a b))) ≡ is_ready_on x i a b
+asked_values x i None b = refl
+asked_values x i (Some a) None = refl
+asked_values x i (Some a) (Some b) = twice (may_issue_at x i a b)
+  where
+    twice : (t : Bool) → not (not t) ≡ t
+    twice true = refl
+    twice false = refl
+
+asked_ready : (x : Context) (i : ℕ) → is_ready_by must_wait x i ≡ is_ready x i
+asked_ready x i = ap (λ b. nat_lt i (length x.flight) && is_queued (entry_at x i).stage && b) (asked_values x i (first_value x i) (second_value x i))
+
+-- nothing has to wait
+abbrev pub no_wait : Waits
+no_wait x i values = false
+
+all_values : (a b : Option ℕ) → (is_some (both a b) && true) ≡ (is_some a && is_some b)
+all_values None b = refl
+all_values (Some a) None = refl
+all_values (Some a) (Some b) = refl
+
+unasked_supplied : (x : Context) (i : ℕ) → is_ready_by no_wait x i ≡ is_supplied_at x i
+unasked_supplied x i = ap (λ b. nat_lt i (length x.flight) && is_queued (entry_at x i).stage && b) (all_values (first_value x i) (second_value x i))
+
+pub chosen_asked : {key : QueueView → ℕ} {width : ℕ} {v : View} {names : List EntryId} → IsChosenOf (IsReadyBy must_wait v) key width v names → IsChosen key width v names
+chosen_asked {v = v} h = choice_among
+    (λ p is. (is.0, sym (asked_ready (context_in v p.context) p.place) ∙ is.1))
+    (λ p is. (is.0, asked_ready (context_in v p.context) p.place ∙ is.1)) h
+
+pub chosen_unasked : {key : QueueView → ℕ} {width : ℕ} {v : View} {names : List EntryId} → IsChosenOf (IsReadyBy no_wait v) key width v names → IsChosenOf (IsSuppliedPlace v) key width v names
+chosen_unasked {v = v} h = choice_among
+    (λ p is. (is.0, sym (unasked_supplied (context_in v p.context) p.place) ∙ is.1))
+    (λ p is. (is.0, unasked_supplied (context_in v p.context) p.place ∙ is.1)) h

@@ -1,9 +1,11 @@
 -- The entries that were selected issue one by one: what that makes of a view.
-use Rattle.std.proofs.Common.{◌≡◌, ◌≢◌, ℕ, zero, suc, ◌+◌, ◌<◌, Bool, true, false, List, [], ◌∷◌, ◌++◌, length, take, map, get_or, Option, Some, None, refl, sym, ap, ◌∙◌, subst, arith, inl, inr, append-nil, append_assoc}
-use Rattle.std.specs.Prelude.{◌==◌, set, find, if◌then◌else◌, unwrap_or, All}
+use Rattle.std.proofs.Common.{◌≡◌, ◌≢◌, ℕ, zero, suc, ◌+◌, ◌<◌, Bool, true, false, List, [], ◌∷◌, ◌++◌, length, map, get_or, Option, Some, None, refl, sym, ap, ◌∙◌, subst, arith, inl, inr, append-nil, append_assoc}
+use Rattle.std.specs.Prelude.{◌==◌, set, if◌then◌else◌, unwrap_or, All}
 use Rattle.std.specs.Option.{option_or}
-use Rattle.std.proofs.lemmas.Bool.{cases_lt, cases_eq, eq-eqb, ne_eqb, and_from, and_left, and_right, and_parts, ltb-true}
+use Rattle.std.proofs.lemmas.Bool.{cases_lt, cases_eq, eq-eqb, ne_eqb, and_from, and_left, and_right}
 use Rattle.std.proofs.lemmas.List.{length-append, length_push, length-map, length-set, map-append, get_or-map, get_or-set_same, get_or-set_other, get_or_append_left, get_or_at, ext_get_or}
+use Rattle.std.proofs.lemmas.List.Elements.{All-weaker}
+use Rattle.std.proofs.lemmas.List.Folds.{find-append}
 use Rattle.hart_step.specs.State.{State}
 use Rattle.issue_queue.specs.declared.entry.QueueView.{QueueView}
 use Rattle.data_tags.specs.declared.delay.Kind.{Kind}
@@ -16,49 +18,18 @@ use Rattle.core_view.specs.declared.note.EntryId.{EntryId}
 use Rattle.core_view.specs.declared.note.Issue.{Issue}
 use Rattle.core_view.specs.Operations.{first_source_of, second_source_of}
 use Rattle.core_view.specs.Outcomes.{image_of, outcome_in}
-use Rattle.core_view.specs.Flight.{Seen, seen_of, seen_after, seen_with, seen_past, source_value, IsGrowing}
+use Rattle.core_view.specs.Flight.{Seen, seen_of, source_value, is_queued, IsGrowing}
 use Rattle.core_view.specs.Events.{with_flight, with_stage, issue_event}
 use Rattle.core_view.specs.View.{Context, View, no_entry, entry_at, seen_at}
-use Rattle.lawful_cycle.specs.Views.{context_in, ChangesEach, is_id}
+use Rattle.lawful_cycle.specs.Views.{context_in, is_id}
 use Rattle.lawful_cycle.specs.Delays.{kind_of, address_in, IsLagOf}
-use Rattle.lawful_cycle.specs.Issue.{Place, operation_at_place, outcome_at, address_at, id_in, IsReadyIn, issue_of, issued_if, issued_from, no_issue, no_place, HasLag, IsIssue}
+use Rattle.lawful_cycle.specs.Issue.{Place, operation_at_place, outcome_at, address_at, is_ready, id_in, IsReadyIn, issue_of, issued_if, issued_from, no_issue, no_place, HasLag, IsIssue}
 use Rattle.core_back.specs.Issued.{IsIssued}
 use Rattle.core_back.specs.Selected.{IsChosen}
 use Rattle.core_back.specs.Machine.{Machine, context_at, no_context}
 use Rattle.core_context.proofs.Laws.{same_place}
-
--- ---- a flight of which some entries issued
-
-issued_length : (cycle c : ℕ) (issues : List Issue) (x : Context) (i : ℕ) (es : List Entry) → length (issued_from cycle c issues x i es) ≡ length es
-issued_length cycle c issues x i [] = refl
-issued_length cycle c issues x i (e ∷ es) = ap suc (issued_length cycle c issues x (suc i) es)
-
-issued_entry : (cycle c : ℕ) (issues : List Issue) (x : Context) (i k : ℕ) (es : List Entry) → k < length es → get_or (issued_from cycle c issues x i es) k no_entry ≡ issued_if cycle x (i + k) (get_or es k no_entry) (issue_of c (get_or es k no_entry) issues)
-issued_entry cycle c issues x i k [] lt = absurd (omega (arith, lt))
-issued_entry cycle c issues x i zero (e ∷ es) lt = let at : i ≡ i + 0 = omega arith in ap (λ j. issued_if cycle x j e (issue_of c e issues)) at
-issued_entry cycle c issues x i (suc k) (e ∷ es) lt =
-    let at : suc i + k ≡ i + suc k = omega arith in
-    issued_entry cycle c issues x (suc i) k es (omega (arith, lt)) ∙ ap (λ j. issued_if cycle x j (get_or es k no_entry) (issue_of c (get_or es k no_entry) issues)) at
-
-issued_none : (cycle c : ℕ) (x : Context) (i : ℕ) (es : List Entry) → issued_from cycle c [] x i es ≡ es
-issued_none cycle c x i [] = refl
-issued_none cycle c x i (e ∷ es) = ap (λ fs. e ∷ fs) (issued_none cycle c x (suc i) es)
-
--- what issued of these entries was queued
-abbrev pub WereQueued : ℕ → List Issue → List Entry → Type 0
-WereQueued c issues es = (k : ℕ) (n : Issue) → k < length es → issue_of c (get_or es k no_entry) issues ≡ Some n → (get_or es k no_entry).stage ≡ Queued
-
--- issues show nothing to younger entries
-seen_if : (cycle i : ℕ) (x : Context) (s : Seen) (e : Entry) (o : Option Issue) → ((n : Issue) → o ≡ Some n → e.stage ≡ Queued) → seen_after s (issued_if cycle x i e o) ≡ seen_after s e
-seen_if cycle i x s e None q = refl
-seen_if cycle i x s e (Some n) q = ap (λ stage. seen_with s e.operation stage) (sym (q n refl))
-
-seen_same : (cycle c : ℕ) (issues : List Issue) (x : Context) (i n : ℕ) (es : List Entry) (s : Seen) → WereQueued c issues es → seen_past s (take n (issued_from cycle c issues x i es)) ≡ seen_past s (take n es)
-seen_same cycle c issues x i zero es s q = refl
-seen_same cycle c issues x i (suc n) [] s q = refl
-seen_same cycle c issues x i (suc n) (e ∷ es) s q =
-    ap (λ t. seen_past t (take n (issued_from cycle c issues x (suc i) es))) (seen_if cycle i x s e (issue_of c e issues) (λ m is. q 0 m (omega arith) is))
-    ∙ seen_same cycle c issues x (suc i) n es (seen_after s e) (λ k m lt is. q (suc k) m (omega (arith, lt)) is)
+pub use Rattle.core_back.specs.Issuing.{WereQueued, HaveIssued, IsIssuing}
+use Rattle.core_back.proofs.IssuedFlights.{issued_length, issued_entry, issued_none, issued_stamp, not_issued, seen_same, ready_kept, IsInFlight, supplied_in_flight, ready_place_supplied}
 
 -- ---- an outcome, by the state, what is seen and the entry
 
@@ -76,27 +47,15 @@ address_same a b e f q r = rw (q, r) refl
 
 -- ---- one more issues
 
-find_push : (p : Issue → Bool) (xs : List Issue) (y : Issue) → find p (xs ++ y ∷ []) ≡ option_or (find p xs) (if p y then Some y else None)
-find_push p [] y = go (p y)
-  where
-    go : (b : Bool) → (if b then Some y else None) ≡ option_or None (if b then Some y else None)
-    go true = refl
-    go false = refl
-find_push p (x ∷ xs) y = go (p x) (find_push p xs y)
-  where
-    go : (b : Bool) → find p (xs ++ y ∷ []) ≡ option_or (find p xs) (if p y then Some y else None) → (if b then Some x else find p (xs ++ y ∷ [])) ≡ option_or (if b then Some x else find p xs) (if p y then Some y else None)
-    go true h = refl
-    go false h = h
-
 of_another : (c : ℕ) (e : Entry) (issues : List Issue) (n : Issue) → is_id c e.stamp n.entry ≡ false → issue_of c e (issues ++ n ∷ []) ≡ issue_of c e issues
-of_another c e issues n other = find_push (λ m. is_id c e.stamp m.entry) issues n ∙ ap (λ b. option_or (issue_of c e issues) (if b then Some n else None)) other ∙ or_none (issue_of c e issues)
+of_another c e issues n other = find-append (λ m. is_id c e.stamp m.entry) issues (n ∷ []) ∙ ap (λ b. option_or (issue_of c e issues) (if b then Some n else None)) other ∙ or_none (issue_of c e issues)
   where
     or_none : (o : Option Issue) → option_or o None ≡ o
     or_none None = refl
     or_none (Some m) = refl
 
 of_itself : (c : ℕ) (e : Entry) (issues : List Issue) (n : Issue) → issue_of c e issues ≡ None → is_id c e.stamp n.entry ≡ true → issue_of c e (issues ++ n ∷ []) ≡ Some n
-of_itself c e issues n none mine = find_push (λ m. is_id c e.stamp m.entry) issues n ∙ ap (λ b. option_or (issue_of c e issues) (if b then Some n else None)) mine ∙ ap (λ o. option_or o (Some n)) none
+of_itself c e issues n none mine = find-append (λ m. is_id c e.stamp m.entry) issues (n ∷ []) ∙ ap (λ b. option_or (issue_of c e issues) (if b then Some n else None)) mine ∙ ap (λ o. option_or o (Some n)) none
 
 -- another context's entries issue as before
 other_issues : (cycle c : ℕ) (issues : List Issue) (n : Issue) (x : Context) (i : ℕ) (es : List Entry) → n.entry.context ≢ c → issued_from cycle c issues x i es ≡ issued_from cycle c (issues ++ n ∷ []) x i es
@@ -106,11 +65,6 @@ other_issues cycle c issues n x i (e ∷ es) ne =
   where
     join : (a b : Entry) (as' bs : List Entry) → a ≡ b → as' ≡ bs → a ∷ as' ≡ b ∷ bs
     join a b as' bs p q = rw (p, q) refl
-
--- an entry that is queued still hasn't issued
-not_issued : (cycle i : ℕ) (x : Context) (e : Entry) (o : Option Issue) → (issued_if cycle x i e o).stage ≡ Queued → o ≡ None
-not_issued cycle i x e None q = refl
-not_issued cycle i x e (Some n) q = absurd cc
 
 -- in its own context
 module _ (cycle c : ℕ) (issues : List Issue) (n : Issue) (x : Context) (p : ℕ) (execution : Execution) (growing : IsGrowing 0 x.flight) (were : WereQueued c issues x.flight) (mine : n.entry.context ≡ c) (within : p < length x.flight) where
@@ -139,8 +93,8 @@ module _ (cycle c : ℕ) (issues : List Issue) (n : Issue) (x : Context) (p : �
   seen_here = seen_same cycle c issues x 0 p es (seen_of x.state) were
 
   module _ (queued : (get_or fs p no_entry).stage ≡ Queued) (stamp : (get_or fs p no_entry).stamp ≡ n.entry.stamp) where
-    none_yet : issue_of c (get_or es p no_entry) issues ≡ None
-    none_yet = not_issued cycle p x (get_or es p no_entry) (issue_of c (get_or es p no_entry) issues) (ap (λ (e : Entry). e.stage) (sym (entry_now p within)) ∙ queued)
+    pub none_yet : issue_of c (get_or es p no_entry) issues ≡ None
+    none_yet = not_issued cycle p x (get_or es p no_entry) (issue_of c (get_or es p no_entry) issues) (ap (λ (e : Entry). is_queued e.stage) (sym (entry_now p within)) ∙ ap is_queued queued)
 
     pub same_entry : get_or fs p no_entry ≡ get_or es p no_entry
     same_entry = entry_now p within ∙ ap (issued_if cycle x p (get_or es p no_entry)) none_yet
@@ -190,13 +144,6 @@ queued_other c issues n es ne were k m lt is = were k m lt (sym (of_another c (g
 
 -- ---- the machine, as far as its names have issued
 
--- of these contexts these issued; what was selected first is what issued, then what is left
-pub record HaveIssued (delays : ℕ → Kind → ℕ → Lag → Bool) (chosen : List Place) (m n : Machine) (issues : List Issue) : Type 0 where
-  pub contexts : ChangesEach (λ c x y. y ≡ with_flight x (issued_from m.view.cycle c issues x 0 x.flight)) m.view n.view
-  pub queued : (c : ℕ) → c < 8 → WereQueued c issues (context_at m c).flight
-  pub names : map (λ n. n.entry) issues ++ n.names ≡ map (id_in m.view) chosen
-  pub lags : (j : ℕ) → j < length issues → HasLag delays m.view (get_or chosen j no_place) (get_or issues j no_issue)
-
 pub issued_first : (delays : ℕ → Kind → ℕ → Lag → Bool) (chosen : List Place) (m n : Machine) (issues : List Issue) → length m.view.contexts ≡ 8 → n.view ≡ m.view → issues ≡ [] → n.names ≡ map (id_in m.view) chosen → HaveIssued delays chosen m n issues
 issued_first delays chosen m n issues count same none names = rw none (record {
   contexts = record {
@@ -219,7 +166,7 @@ within_contexts (x ∷ xs) zero i lt = omega arith
 within_contexts (x ∷ xs) (suc c) i lt = omega (arith, within_contexts xs c i lt)
 
 -- the place of a name is the one that has its stamp
-place_is : (v : View) (q : Place) (c p : ℕ) (id : EntryId) → IsGrowing 0 (context_in v c).flight → id_in v q ≡ id → id.context ≡ c → q.place < length (context_in v q.context).flight → p < length (context_in v c).flight → (entry_at (context_in v c) p).stamp ≡ id.stamp
+pub place_is : (v : View) (q : Place) (c p : ℕ) (id : EntryId) → IsGrowing 0 (context_in v c).flight → id_in v q ≡ id → id.context ≡ c → q.place < length (context_in v q.context).flight → p < length (context_in v c).flight → (entry_at (context_in v c) p).stamp ≡ id.stamp
     → q ≡ record { context = c; place = p }
 place_is v q c p id growing is mine inside within stamp = parts q.context q.place c p context place
   where
@@ -235,11 +182,67 @@ place_is v q c p id growing is mine inside within stamp = parts q.context q.plac
     parts : (a b c d : ℕ) → a ≡ c → b ≡ d → ◌≡◌ {A = Place} (record { context = a; place = b }) (record { context = c; place = d })
     parts a b c d p q = rw (p, q) refl
 
--- a ready place is one of the flight
-pub ready_within : (v : View) (q : Place) → IsReadyIn v q → q.place < length (context_in v q.context).flight
-ready_within v q h = ltb-true q.place (length (context_in v q.context).flight) (and_parts _ _ (and_parts _ _ h.1).0).0
+-- what was chosen has issued or is left
+pub issued_count : (delays : ℕ → Kind → ℕ → Lag → Bool) (chosen : List Place) (m n : Machine) (issues : List Issue) → HaveIssued delays chosen m n issues → length issues + length n.names ≡ length chosen
+issued_count delays chosen m n issues h =
+    let all = ap (λ (ids : List EntryId). length ids) h.names in
+    let split = length-append (map (λ (n : Issue). n.entry) issues) n.names in
+    let named = length-map issues (λ (n : Issue). n.entry) in
+    let of_chosen = length-map chosen (id_in m.view) in
+    omega (arith, all, split, named, of_chosen)
 
-module _ (delays : ℕ → Kind → ℕ → Lag → Bool) (chosen : List Place) (m n u : Machine) (issues : List Issue) (i : Issue) (growing : (c : ℕ) → c < 8 → IsGrowing 0 (context_at m c).flight) (ready : All (IsReadyIn m.view) chosen)
+-- what has issued is named as the first that were chosen
+pub issue_named : (delays : ℕ → Kind → ℕ → Lag → Bool) (chosen : List Place) (m n : Machine) (issues : List Issue) → HaveIssued delays chosen m n issues → (j : ℕ) → j < length issues → (j < length chosen) × ((get_or issues j no_issue).entry ≡ id_in m.view (get_or chosen j no_place))
+issue_named delays chosen m n issues h j lt = (
+  within,
+  sym (get_or-map (λ (n : Issue). n.entry) issues j no_issue no_issue.entry lt) ∙ sym (get_or_append_left (map (λ (n : Issue). n.entry) issues) n.names no_issue.entry j (omega (arith, lt, named)))
+      ∙ ap (λ (ids : List EntryId). get_or ids j no_issue.entry) h.names ∙ get_or-map (id_in m.view) chosen j no_place no_issue.entry within,
+)
+  where
+    named : length (map (λ (n : Issue). n.entry) issues) ≡ length issues
+    named = length-map issues (λ (n : Issue). n.entry)
+
+    within : j < length chosen
+    within = let count = issued_count delays chosen m n issues h in omega (arith, count, lt)
+
+module _ (delays : ℕ → Kind → ℕ → Lag → Bool) (chosen : List Place) (m n : Machine) (issues : List Issue) (growing : (c : ℕ) → c < 8 → IsGrowing 0 (context_at m c).flight) (inside : All (IsInFlight m.view) chosen) (h : HaveIssued delays chosen m n issues) (name : EntryId) (rest : List EntryId) (left : n.names ≡ name ∷ rest) where
+  -- the first of the names that are left is the next of those that were chosen
+  head_chosen : (length issues < length chosen) × (id_in m.view (get_or chosen (length issues) no_place) ≡ name)
+  head_chosen = (
+    long,
+    sym (get_or-map (id_in m.view) chosen (length issues) no_place name long) ∙ ap (λ (ids : List EntryId). get_or ids (length issues) name) (sym h.names)
+        ∙ ap (λ ids. get_or (map (λ (n : Issue). n.entry) issues ++ ids) (length issues) name) left ∙ get_or_at (map (λ (n : Issue). n.entry) issues) name rest name (length issues) named,
+  )
+    where
+      named : length (map (λ (n : Issue). n.entry) issues) ≡ length issues
+      named = length-map issues (λ (n : Issue). n.entry)
+
+      long : length issues < length chosen
+      long = let count = issued_count delays chosen m n issues h in let some = ap (λ (ids : List EntryId). length ids) left in omega (arith, count, some)
+
+  -- at the place that has its stamp
+  pub head_place : (p : ℕ) → p < length (context_at n name.context).flight → (entry_at (context_at n name.context) p).stamp ≡ name.stamp → (name.context < 8) × (length issues < length chosen) × (get_or chosen (length issues) no_place ≡ record { context = name.context; place = p })
+  head_place p lt stamp = (lc, head_chosen.0, place_is m.view (get_or chosen (length issues) no_place) name.context p name (growing name.context lc) head_chosen.1 refl (inside (length issues) no_place head_chosen.0) within was)
+    where
+      lc : name.context < 8
+      lc = let count = h.contexts.contexts.count_after in let below = within_contexts n.view.contexts name.context p lt in omega (arith, count, below)
+
+      x : Context
+      x = context_at m name.context
+
+      now : context_at n name.context ≡ with_flight x (issued_from m.view.cycle name.context issues x 0 x.flight)
+      now = h.contexts.contexts.each name.context lc
+
+      within : p < length x.flight
+      within =
+          let same = ap (λ (y : Context). length y.flight) now in
+          let long = issued_length m.view.cycle name.context issues x 0 x.flight in
+          omega (arith, lt, same, long)
+
+      was : (entry_at x p).stamp ≡ name.stamp
+      was = sym (issued_stamp m.view.cycle name.context issues x 0 p x.flight) ∙ ap (λ (y : Context). (entry_at y p).stamp) (sym now) ∙ stamp
+
+module _ (delays : ℕ → Kind → ℕ → Lag → Bool) (chosen : List Place) (m n u : Machine) (issues : List Issue) (i : Issue) (growing : (c : ℕ) → c < 8 → IsGrowing 0 (context_at m c).flight) (inside : All (IsInFlight m.view) chosen)
     (h : HaveIssued delays chosen m n issues) (one : IsIssued delays n u i) where
   abbrev c : ℕ
   c = i.entry.context
@@ -314,26 +317,15 @@ module _ (delays : ℕ → Kind → ℕ → Lag → Bool) (chosen : List Place) 
       ∙ ap (λ ids. map (λ (n : Issue). n.entry) issues ++ ids) (sym one.names) ∙ h.names
 
   -- the one that issues is the next of those that were chosen
-  names_long : length issues < length chosen
-  names_long =
-      let all = ap (λ (ids : List EntryId). length ids) names_next in
-      let split = length-append (map (λ (n : Issue). n.entry) (issues ++ i ∷ [])) u.names in
-      let named = length-map (issues ++ i ∷ []) (λ (n : Issue). n.entry) in
-      let more = length_push issues i in
-      let of_chosen = length-map chosen (id_in m.view) in
-      omega (arith, all, split, named, more, of_chosen)
-
   chosen_is : get_or chosen (length issues) no_place ≡ record { context = i.entry.context; place = one.place }
-  chosen_is = place_is m.view (get_or chosen (length issues) no_place) i.entry.context one.place i.entry (growing i.entry.context lc) named refl (ready_within m.view (get_or chosen (length issues) no_place) (ready (length issues) no_place names_long)) within
-      (stamp_first m.view.cycle i.entry.context issues i x one.place one.execution (growing i.entry.context lc) (h.queued i.entry.context lc) refl within queued stamp)
-    where
-      count : length (map (λ (n : Issue). n.entry) issues) ≡ length issues
-      count = length-map issues (λ (n : Issue). n.entry)
+  chosen_is = (head_place delays chosen m n issues growing inside h i.entry u.names one.names one.place one.within one.stamp).2
 
-      named : id_in m.view (get_or chosen (length issues) no_place) ≡ i.entry
-      named =
-          sym (get_or-map (id_in m.view) chosen (length issues) no_place i.entry names_long) ∙ ap (λ (ids : List EntryId). get_or ids (length issues) i.entry) (sym h.names)
-          ∙ ap (λ ids. get_or (map (λ (n : Issue). n.entry) issues ++ ids) (length issues) i.entry) one.names ∙ get_or_at (map (λ (n : Issue). n.entry) issues) i.entry u.names i.entry (length issues) count
+  -- and was ready before any issued
+  pub next_ready : IsReadyIn m.view (get_or chosen (length issues) no_place)
+  next_ready = subst (IsReadyIn m.view) (sym chosen_is) (lc, sym (ready_kept m.view.cycle i.entry.context issues x (h.queued i.entry.context lc) one.place within none) ∙ ap (λ y. is_ready y one.place) (sym now) ∙ one.performed.ready)
+    where
+      none : issue_of i.entry.context (entry_at x one.place) issues ≡ None
+      none = none_yet m.view.cycle i.entry.context issues i x one.place one.execution (growing i.entry.context lc) (h.queued i.entry.context lc) refl within queued stamp
 
   lag_is : HasLag delays m.view (record { context = i.entry.context; place = one.place }) i
   lag_is = parts (kind_of (operation_at_place (context_at n i.entry.context) one.place)) (kind_of (operation_at_place x one.place)) (address_at (context_at n i.entry.context) one.place) (address_at x one.place) (outcome_at (context_at n i.entry.context) one.place) (outcome_at x one.place) one.execution.miss i.miss
@@ -365,6 +357,10 @@ module _ (delays : ℕ → Kind → ℕ → Lag → Bool) (chosen : List Place) 
     lags = lags_next;
   }
 
+-- what was chosen as ready stands in flight
+pub chosen_in_flight : (v : View) (chosen : List Place) → All (IsReadyIn v) chosen → All (IsInFlight v) chosen
+chosen_in_flight v chosen ready = All-weaker (IsReadyIn v) (IsInFlight v) (λ p h. supplied_in_flight v p (ready_place_supplied v p h)) chosen ready
+
 -- ---- all have issued
 
 pub issue_lawful : (key : QueueView → ℕ) (delays : ℕ → Kind → ℕ → Lag → Bool) (width : ℕ) (names : List EntryId) (m n : Machine) (issues : List Issue) (choice : IsChosen key width m.view names) → width ≡ m.view.profile.issue_width → HaveIssued delays choice.chosen m n issues → n.names ≡ []
@@ -386,15 +382,9 @@ issue_lawful key delays width names m n issues choice is h none = record {
     named = sym (append-nil (map (λ (n : Issue). n.entry) issues)) ∙ ap (λ ids. map (λ (n : Issue). n.entry) issues ++ ids) (sym none) ∙ h.names
 
     count : length issues ≡ length choice.chosen
-    count = sym (length-map issues (λ (n : Issue). n.entry)) ∙ ap (λ (ids : List EntryId). length ids) named ∙ length-map choice.chosen (id_in m.view)
+    count = let all = issued_count delays choice.chosen m n issues h in let left = ap (λ (ids : List EntryId). length ids) none in omega (arith, all, left)
 
 -- ---- in the loop
-
--- some of what was chosen has issued
-pub record IsIssuing (key : QueueView → ℕ) (delays : ℕ → Kind → ℕ → Lag → Bool) (width : ℕ) (m n : Machine) (issues : List Issue) : Type 0 where
-  pub names : List EntryId
-  pub choice : IsChosen key width m.view names
-  pub issued : HaveIssued delays choice.chosen m n issues
 
 pub issuing_first : (key : QueueView → ℕ) (delays : ℕ → Kind → ℕ → Lag → Bool) (width : ℕ) (m n : Machine) (issues : List Issue) → length m.view.contexts ≡ 8 → n.view ≡ m.view → issues ≡ [] → IsChosen key width m.view n.names → IsIssuing key delays width m n issues
 issuing_first key delays width m n issues count same none choice = record { names = n.names; choice = choice; issued = issued_first delays choice.chosen m n issues count same none choice.names_are }
@@ -402,7 +392,7 @@ issuing_first key delays width m n issues count same none choice = record { name
 pub issuing_next : (key : QueueView → ℕ) (delays : ℕ → Kind → ℕ → Lag → Bool) (width : ℕ) (m n u : Machine) (issues more : List Issue) (i : Issue) → ((c : ℕ) → c < 8 → IsGrowing 0 (context_at m c).flight) → IsIssuing key delays width m n issues → IsIssued delays n u i → more ≡ issues ++ i ∷ []
     → IsIssuing key delays width m u more
 issuing_next key delays width m n u issues more i growing h one pushed =
-    record { names = h.names; choice = h.choice; issued = subst (HaveIssued delays h.choice.chosen m u) (sym pushed) (issued_next delays h.choice.chosen m n u issues i growing h.choice.choice.ready h.issued one) }
+    record { names = h.names; choice = h.choice; issued = subst (HaveIssued delays h.choice.chosen m u) (sym pushed) (issued_next delays h.choice.chosen m n u issues i growing (chosen_in_flight m.view h.choice.chosen h.choice.choice.ready) h.issued one) }
 
 pub issuing_done : (key : QueueView → ℕ) (delays : ℕ → Kind → ℕ → Lag → Bool) (width : ℕ) (m n : Machine) (issues : List Issue) → IsIssuing key delays width m n issues → width ≡ m.view.profile.issue_width → n.names ≡ [] → IsIssue key delays m.view n.view issues
 issuing_done key delays width m n issues h is none = issue_lawful key delays width h.names m n issues h.choice is h.issued none

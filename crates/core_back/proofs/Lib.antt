@@ -3,6 +3,7 @@ pub mod InFlight
 pub mod MachineIssues
 pub mod Machines
 pub mod Selections
+pub mod HeldNames
 pub mod Chosen
 pub mod FirstMachine
 pub mod AlikeMachines
@@ -17,7 +18,11 @@ pub mod CompletedCount
 pub mod NextOutcomes
 pub mod Options
 pub mod Laws
+pub mod IssuedFlights
 pub mod IssueViews
+pub mod AskedIssues
+pub mod ChosenAnew
+pub mod IssuedRuns
 pub mod DoneTurns
 pub mod LeftTurns
 pub mod DuePlaces

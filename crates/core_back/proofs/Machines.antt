@@ -14,7 +14,8 @@ use Rattle.core_context.specs.Track.{Track}
 use Rattle.core_context.specs.Cores.{IsCore}
 use Rattle.core_back.specs.Machine.{Machine, context_at, with_context, with_contexts, no_track, no_context}
 use Rattle.core_back.specs.Fetched.{with_block}
-use Rattle.core_back.specs.Shown.{machine_of, IsMachine, HasRoom}
+use Rattle.core_back.specs.Shown.{machine_of, IsMachine, HasRoom, waiting_flow}
+use Rattle.core_context.specs.Issuable.{AreLetGo}
 use Rattle.core_context.specs.Left.{IsIdleCore, IsLeft, KeepsSizes, IsEventAt}
 use Rattle.core_context.proofs.Laws.{left_core}
 
@@ -40,7 +41,7 @@ module _ {A : Type 0} where
     pub in_lanes : c < length m.flow.lanes
     pub in_tracks : c < length m.tracks.items
     pub track : t ≡ get_or m.tracks.items c no_track
-    pub core : IsCore (start (arc_value m.origins.c0) c) m.stamp m.profile.reorder_buffer m.flow m.selected c t
+    pub core : IsCore (start (arc_value m.origins.c0) c) m.stamp m.profile.reorder_buffer (waiting_flow m.selected m.flow) [] c t
     pub context : t.context ≡ context_at now c
 
   pub at_context : (m : Inside A) (now : Machine) (c k : ℕ) (t : Track) → machine_of m ≡ now → IsMachine m → c < 8 → k ≡ c → t ≡ get_or m.tracks.items k t → At m now c t
@@ -70,7 +71,10 @@ module _ {A : Type 0} where
   idle_names m now shows idle = ap (λ (v : Machine). v.names) shows ∙ idle
 
   pub idle_core : (m : Inside A) (now : Machine) (c : ℕ) (t : Track) → machine_of m ≡ now → now.names ≡ [] → At m now c t → IsCore (start (arc_value m.origins.c0) c) m.stamp m.profile.reorder_buffer m.flow [] c t
-  idle_core m now c t shows idle at_c = subst (λ names. IsCore (start (arc_value m.origins.c0) c) m.stamp m.profile.reorder_buffer m.flow names c t) (idle_names m now shows idle) at_c.core
+  idle_core m now c t shows idle at_c = subst (λ names. IsCore (start (arc_value m.origins.c0) c) m.stamp m.profile.reorder_buffer (waiting_flow names m.flow) [] c t) (idle_names m now shows idle) at_c.core
+
+  pub idle_core_at : (m : Inside A) (now : Machine) → machine_of m ≡ now → IsMachine m → now.names ≡ [] → (c : ℕ) → c < 8 → IsCore (start (arc_value m.origins.c0) c) m.stamp m.profile.reorder_buffer m.flow [] c (get_or m.tracks.items c no_track)
+  idle_core_at m now shows ok idle c lt = subst (λ names. IsCore (start (arc_value m.origins.c0) c) m.stamp m.profile.reorder_buffer (waiting_flow names m.flow) [] c (get_or m.tracks.items c no_track)) (idle_names m now shows idle) (ok.cores c lt)
 
   -- so its track and the data flow stand for it
   pub is_idle : (m : Inside A) (now : Machine) (c : ℕ) (t : Track) → machine_of m ≡ now → now.names ≡ [] → c < 8 → At m now c t → IsIdleCore m.flow c t
@@ -99,15 +103,15 @@ module _ {A : Type 0} where
       by_context false is =
           let other : d ≢ c = λ same. absurd (grind (arith, nat_tests, is, same)) in
           let before : IsCore (start (arc_value m.origins.c0) d) m.stamp m.profile.reorder_buffer m.flow [] d (get_or m.tracks.items d no_track) =
-          subst (λ names. IsCore (start (arc_value m.origins.c0) d) m.stamp m.profile.reorder_buffer m.flow names d (get_or m.tracks.items d no_track)) (idle_names m now shows idle) (ok.cores d lt-d) in
+          subst (λ names. IsCore (start (arc_value m.origins.c0) d) m.stamp m.profile.reorder_buffer (waiting_flow names m.flow) [] d (get_or m.tracks.items d no_track)) (idle_names m now shows idle) (ok.cores d lt-d) in
           rw (get_or-set_other m.tracks.items c d u no_track other) (left_core (start (arc_value m.origins.c0) d) m.stamp m.stamp m.profile.reorder_buffer m.flow g [] d (get_or m.tracks.items d no_track) before (left d other) (omega arith))
 
   -- the machine after an event of the context c
   pub machine_after : (m n : Inside A) (now : Machine) (c k : ℕ) (u : Track) (g : Flow) → machine_of m ≡ now → IsMachine m → now.names ≡ [] → c < 8
       → IsCore (start (arc_value m.origins.c0) c) m.stamp m.profile.reorder_buffer g [] c u → ((d : ℕ) → d ≢ c → IsLeft m.flow g d) → KeepsSizes m.flow g
       → u.load_places ≡ (get_or m.tracks.items c no_track).load_places → u.store_places ≡ (get_or m.tracks.items c no_track).store_places
-      → k ≡ c → n.origins ≡ m.origins → n.flow ≡ g → n.tracks.items ≡ set m.tracks.items k u → n.selected ≡ m.selected → n.cycle ≡ m.cycle → n.stamp ≡ m.stamp → n.fetch_room ≡ m.fetch_room → n.profile ≡ m.profile → n.holds ≡ m.holds → IsMachine n
-  machine_after m n now c k u g shows ok idle lt core left sizes loads stores same origins flow tracks_k names cycle stamp room profile holds =
+      → k ≡ c → n.origins ≡ m.origins → n.flow ≡ g → n.tracks.items ≡ set m.tracks.items k u → n.selected ≡ m.selected → n.cycle ≡ m.cycle → n.stamp ≡ m.stamp → n.fetch_room ≡ m.fetch_room → n.profile ≡ m.profile → IsMachine n
+  machine_after m n now c k u g shows ok idle lt core left sizes loads stores same origins flow tracks_k names cycle stamp room profile =
       let tracks : n.tracks.items ≡ set m.tracks.items c u = tracks_k ∙ ap (λ i. set m.tracks.items i u) same in
       let none = idle_names m now shows idle in
       record {
@@ -116,17 +120,17 @@ module _ {A : Type 0} where
         tracks = rw tracks (length-set m.tracks.items c u ∙ ok.tracks);
         lanes = rw flow (sizes.lanes ∙ ok.lanes);
         contexts = rw flow (sizes.contexts ok.contexts);
-        let_go = rw (flow, holds) (λ unheld. sizes.let_go (ok.let_go unheld));
+        let_go = λ over. subst AreLetGo (sym flow) (sizes.let_go (ok.let_go none));
         apart = rw (names, none) (λ i j d lt over. absurd (omega (arith, over)));
         supplied = rw (names, none) (λ k d over. absurd (omega (arith, over)));
-        clear = rw (names, none) (λ k d over. absurd (omega (arith, over)));
-        left = rw (names, none) (λ k d over. absurd (omega (arith, over)));
+        held = rw (names, none) (λ k d over. absurd (omega (arith, over)));
+        waits = rw (names, none) (λ k d over. absurd (omega (arith, over)));
         stamps = rw (stamp, room, cycle) ok.stamps;
         room = rw (profile, flow, tracks) (room_after m.profile m.flow g m.tracks.items c u ok.room (omega (arith, lt, ok.tracks)) sizes.extra sizes.places loads stores);
       }
 
   pub machine_after_event : (m n : Inside A) (now : Machine) (c k : ℕ) (t u : Track) (g : Flow) → machine_of m ≡ now → IsMachine m → now.names ≡ [] → c < 8 → At m now c t → IsEventAt c m.flow g t u
-      → k ≡ c → n.origins ≡ m.origins → n.flow ≡ g → n.tracks.items ≡ set m.tracks.items k u → n.selected ≡ m.selected → n.cycle ≡ m.cycle → n.stamp ≡ m.stamp → n.fetch_room ≡ m.fetch_room → n.profile ≡ m.profile → n.holds ≡ m.holds → IsMachine n
+      → k ≡ c → n.origins ≡ m.origins → n.flow ≡ g → n.tracks.items ≡ set m.tracks.items k u → n.selected ≡ m.selected → n.cycle ≡ m.cycle → n.stamp ≡ m.stamp → n.fetch_room ≡ m.fetch_room → n.profile ≡ m.profile → IsMachine n
   machine_after_event m n now c k t u g shows ok idle lt h event =
       machine_after m n now c k u g shows ok idle lt (event.kept (start (arc_value m.origins.c0) c) m.stamp m.profile.reorder_buffer (idle_core m now c t shows idle h)) event.others event.sizes
       (event.loads ∙ ap (λ (v : Track). v.load_places) h.track) (event.stores ∙ ap (λ (v : Track). v.store_places) h.track)
@@ -164,8 +168,8 @@ module _ {A : Type 0} where
 
   -- the machine after a track was passed to a call that leaves it as it was
   pub machine_same : (m n : Inside A) (c k : ℕ) (u : Track) → IsMachine m → u ≡ get_or m.tracks.items c no_track → k ≡ c
-      → n.origins ≡ m.origins → n.flow ≡ m.flow → n.tracks.items ≡ set m.tracks.items k u → n.selected ≡ m.selected → n.cycle ≡ m.cycle → n.stamp ≡ m.stamp → n.fetch_room ≡ m.fetch_room → n.profile ≡ m.profile → n.holds ≡ m.holds → IsMachine n
-  machine_same m n c k u ok read same origins flow tracks_k names cycle stamp room profile holds =
+      → n.origins ≡ m.origins → n.flow ≡ m.flow → n.tracks.items ≡ set m.tracks.items k u → n.selected ≡ m.selected → n.cycle ≡ m.cycle → n.stamp ≡ m.stamp → n.fetch_room ≡ m.fetch_room → n.profile ≡ m.profile → IsMachine n
+  machine_same m n c k u ok read same origins flow tracks_k names cycle stamp room profile =
       let tracks : n.tracks.items ≡ m.tracks.items = tracks_k ∙ ap (λ i. set m.tracks.items i u) same ∙ ap (set m.tracks.items c) read ∙ set-get_or m.tracks.items c no_track in
       record {
         cores = rw (origins, flow, tracks, names, stamp, profile) ok.cores;
@@ -173,11 +177,11 @@ module _ {A : Type 0} where
         tracks = rw tracks ok.tracks;
         lanes = rw flow ok.lanes;
         contexts = rw flow ok.contexts;
-        let_go = rw (flow, holds) ok.let_go;
+        let_go = rw (flow, names) ok.let_go;
         apart = rw names ok.apart;
         supplied = rw (names, flow) ok.supplied;
-        clear = rw (names, flow, tracks) ok.clear;
-        left = rw (names, flow) ok.left;
+        held = rw (names, flow) ok.held;
+        waits = rw (names, flow) ok.waits;
         stamps = rw (stamp, room, cycle) ok.stamps;
         room = rw (profile, flow, tracks) ok.room;
       }
@@ -186,8 +190,8 @@ module _ {A : Type 0} where
   pub machine_fetched : (m n : Inside A) (now : Machine) (c k number : ℕ) (u : Track) → machine_of m ≡ now → IsMachine m → now.names ≡ [] → c < 8
       → IsCore (start (arc_value m.origins.c0) c) (m.stamp + number) m.profile.reorder_buffer m.flow [] c u
       → u.load_places ≡ (get_or m.tracks.items c no_track).load_places → u.store_places ≡ (get_or m.tracks.items c no_track).store_places → k ≡ c
-      → n.origins ≡ m.origins → n.flow ≡ m.flow → n.tracks.items ≡ set m.tracks.items k u → n.selected ≡ m.selected → n.cycle ≡ m.cycle → n.stamp ≡ m.stamp + number → n.fetch_room + number ≡ m.fetch_room → n.profile ≡ m.profile → n.holds ≡ m.holds → IsMachine n
-  machine_fetched m n now c k number u shows ok idle lt core loads stores same origins flow tracks_k names cycle stamp room profile holds =
+      → n.origins ≡ m.origins → n.flow ≡ m.flow → n.tracks.items ≡ set m.tracks.items k u → n.selected ≡ m.selected → n.cycle ≡ m.cycle → n.stamp ≡ m.stamp + number → n.fetch_room + number ≡ m.fetch_room → n.profile ≡ m.profile → IsMachine n
+  machine_fetched m n now c k number u shows ok idle lt core loads stores same origins flow tracks_k names cycle stamp room profile =
       let tracks : n.tracks.items ≡ set m.tracks.items c u = tracks_k ∙ ap (λ i. set m.tracks.items i u) same in
       let none = idle_names m now shows idle in
       let stamps = ok.stamps in
@@ -197,11 +201,11 @@ module _ {A : Type 0} where
         tracks = rw tracks (length-set m.tracks.items c u ∙ ok.tracks);
         lanes = rw flow ok.lanes;
         contexts = rw flow ok.contexts;
-        let_go = rw (flow, holds) ok.let_go;
+        let_go = λ over. subst AreLetGo (sym flow) (ok.let_go none);
         apart = rw (names, none) (λ i j d lt over. absurd (omega (arith, over)));
         supplied = rw (names, none) (λ k d over. absurd (omega (arith, over)));
-        clear = rw (names, none) (λ k d over. absurd (omega (arith, over)));
-        left = rw (names, none) (λ k d over. absurd (omega (arith, over)));
+        held = rw (names, none) (λ k d over. absurd (omega (arith, over)));
+        waits = rw (names, none) (λ k d over. absurd (omega (arith, over)));
         stamps = rw cycle (omega (arith, stamps, stamp, room));
         room = rw (profile, flow, tracks) (room_after m.profile m.flow m.flow m.tracks.items c u ok.room here refl refl loads stores);
       }
@@ -219,7 +223,7 @@ module _ {A : Type 0} where
           by_context false is =
               let other : d ≢ c = λ this. absurd (grind (arith, nat_tests, is, this)) in
               let before : IsCore (start (arc_value m.origins.c0) d) m.stamp m.profile.reorder_buffer m.flow [] d (get_or m.tracks.items d no_track) =
-              subst (λ names. IsCore (start (arc_value m.origins.c0) d) m.stamp m.profile.reorder_buffer m.flow names d (get_or m.tracks.items d no_track)) (idle_names m now shows idle) (ok.cores d lt-d) in
+              subst (λ names. IsCore (start (arc_value m.origins.c0) d) m.stamp m.profile.reorder_buffer (waiting_flow names m.flow) [] d (get_or m.tracks.items d no_track)) (idle_names m now shows idle) (ok.cores d lt-d) in
               rw (get_or-set_other m.tracks.items c d u no_track other) (left_core (start (arc_value m.origins.c0) d) m.stamp (m.stamp + number) m.profile.reorder_buffer m.flow m.flow [] d (get_or m.tracks.items d no_track) before (record { lane = refl; waits = refl }) (omega arith))
 
   -- and what it shows

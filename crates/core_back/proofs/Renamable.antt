@@ -20,7 +20,7 @@ use Rattle.core_context.specs.Cores.{node_of_entry, AllFetched}
 use Rattle.core_context.specs.Track.{Track}
 use Rattle.core_context.specs.Renamable.{IsRenamable}
 use Rattle.core_back.specs.Machine.{Machine, context_at, no_track, no_context}
-use Rattle.core_back.specs.Shown.{machine_of, IsMachine}
+use Rattle.core_back.specs.Shown.{machine_of, IsMachine, waiting_flow}
 use Rattle.core_context.specs.Queued.{waiting_of}
 use Rattle.core_context.specs.Cores.{waiters_of}
 use Rattle.core_context.proofs.Laws.{count_cons, count_split, fetched_none, sum_eight_same, count_waiters}
@@ -129,7 +129,7 @@ module _ {A : Type 0} where
 
   pub idle_waiting : (m : Inside A) (now : Machine) → machine_of m ≡ now → IsMachine m → now.names ≡ [] → (c : ℕ) → c < 8 → waiting_of m.flow c ≡ waiters_of [] c (context_at now c).flight
   idle_waiting m now shows ok idle c lt =
-      (ok.cores c lt).waiting ∙ ap (λ ns. waiters_of ns c (get_or m.tracks.items c no_track).context.flight) (idle_names m now shows idle) ∙ ap (λ (x : Context). waiters_of [] c x.flight) (track_flight m now c shows ok lt)
+      subst (λ ns. waiting_of (waiting_flow ns m.flow) c ≡ waiters_of [] c (get_or m.tracks.items c no_track).context.flight) (idle_names m now shows idle) (ok.cores c lt).waiting ∙ ap (λ (x : Context). waiters_of [] c x.flight) (track_flight m now c shows ok lt)
 
   -- as many wait as are queued
   all_waiting : (m : Inside A) (now : Machine) → machine_of m ≡ now → IsMachine m → now.names ≡ [] → length m.flow.waiters ≡ of_all (λ e. is_queued e.stage) now.view

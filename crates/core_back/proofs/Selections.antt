@@ -49,7 +49,7 @@ name_selected names i d lt =
 
 -- ---- what waits
 
-any-map : {X Y : Type 0} (test : Y → Bool) (h : X → Y) (xs : List X) → list_any test (map h xs) ≡ list_any (λ x. test (h x)) xs
+pub any-map : {X Y : Type 0} (test : Y → Bool) (h : X → Y) (xs : List X) → list_any test (map h xs) ≡ list_any (λ x. test (h x)) xs
 any-map test h [] = refl
 any-map test h (x ∷ xs) = ap (λ b. test (h x) || b) (any-map test h xs)
 
@@ -97,8 +97,8 @@ select_left {names = names} f g s c k =
     sym (queue_waits g c k) ∙ ap (list_any (is_named c k)) s.others ∙ left_named c k names (queued f) ∙ ap (λ w. w && not (is_selected names c k)) (queue_waits f c k)
 
 -- what was selected waited
-pub select_waited : {key : Waiting → ℕ} {width : ℕ} {names : List EntryId} (f g : Flow) → IsSelected key width (queued f) (queued g) names → (c k : ℕ) → is_selected names c k ≡ true → waits_in f c k ≡ true
-select_waited f g s c k h = sym (queue_waits f c k) ∙ chosen_named c k (queued f) s.chosen s.queued (subst (λ ns. is_selected ns c k ≡ true) s.names h)
+pub select_waited : {key : Waiting → ℕ} {width : ℕ} {rest : List Waiting} {names : List EntryId} (f : Flow) → IsSelected key width (queued f) rest names → (c k : ℕ) → is_selected names c k ≡ true → waits_in f c k ≡ true
+select_waited f s c k h = sym (queue_waits f c k) ∙ chosen_named c k (queued f) s.chosen s.queued (subst (λ ns. is_selected ns c k ≡ true) s.names h)
 
 -- so the waiters are the others
 left_waiters : (names : List EntryId) (ls : List Lane) (ws : List Waiter) → map waiter_of (filter (λ e. not (is_among names e)) (map (queued_waiter ls) ws)) ≡ filter (λ w. not (is_selected names w.context w.stamp)) ws
@@ -120,7 +120,7 @@ all_waiters ls (w ∷ ws) = ap (λ vs. w ∷ vs) (all_waiters ls ws)
 pub select_waiters : {key : Waiting → ℕ} {width : ℕ} {names : List EntryId} (f g : Flow) → IsSelected key width (queued f) (queued g) names → g.waiters ≡ filter (λ w. not (is_selected names w.context w.stamp)) f.waiters
 select_waiters {names = names} f g s = sym (all_waiters g.lanes g.waiters) ∙ ap (map waiter_of) s.others ∙ left_waiters names f.lanes f.waiters
 
-left_of : (names : List EntryId) (c : ℕ) (ws : List Waiter) → map unheld (filter (λ w. w.context == c) (filter (λ w. not (is_selected names w.context w.stamp)) ws)) ≡ filter (λ w. not (is_selected names c w.stamp)) (map unheld (filter (λ w. w.context == c) ws))
+pub left_of : (names : List EntryId) (c : ℕ) (ws : List Waiter) → map unheld (filter (λ w. w.context == c) (filter (λ w. not (is_selected names w.context w.stamp)) ws)) ≡ filter (λ w. not (is_selected names c w.stamp)) (map unheld (filter (λ w. w.context == c) ws))
 left_of names c [] = refl
 left_of names c (w ∷ ws) = go (w.context == c) (is_selected names w.context w.stamp) (is_selected names c w.stamp) refl refl (λ here. ap (λ d. is_selected names d w.stamp) (eqb-true w.context c here)) (left_of names c ws)
   where
@@ -135,7 +135,7 @@ left_of names c (w ∷ ws) = go (w.context == c) (is_selected names w.context w.
     go false true u here named same ih = ih
     go false false u here named same ih = rw here ih
 
-still_waiting : (names : List EntryId) (c : ℕ) (fs es : List Entry) → filter (λ w. not (is_selected names c w.stamp)) (map (waiter_for c fs) (filter (is_waiting [] c) es)) ≡ map (waiter_for c fs) (filter (is_waiting names c) es)
+pub still_waiting : (names : List EntryId) (c : ℕ) (fs es : List Entry) → filter (λ w. not (is_selected names c w.stamp)) (map (waiter_for c fs) (filter (is_waiting [] c) es)) ≡ map (waiter_for c fs) (filter (is_waiting names c) es)
 still_waiting names c fs [] = refl
 still_waiting names c fs (e ∷ es) = go (is_queued e.stage) (is_selected names c e.stamp) refl (still_waiting names c fs es)
   where
@@ -268,7 +268,7 @@ pub select_core : {start : State} {stamp reorder c : ℕ} {f g : Flow} {t : Trac
     → IsCore start stamp reorder g names c t
 select_core {start = start} {stamp = stamp} {reorder = reorder} {c = c} {f = f} {g = g} {t = t} {names = names} core same s =
     other_core start stamp stamp reorder f g [] names c t core (ap (λ (h : Flow). lane h c) same) (select_waiting f g c t.context.flight s core.waiting)
-    (λ k h. sym (core_waiting core k) ∙ ap (λ b. b || false) (select_waited f g s c k h)) (omega arith)
+    (λ k h. sym (core_waiting core k) ∙ ap (λ b. b || false) (select_waited f s c k h)) (omega arith)
 
 -- ---- the first name
 

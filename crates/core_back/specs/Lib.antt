@@ -1,6 +1,7 @@
 pub mod Machine
 pub mod Shown
 pub mod Issued
+pub mod Issuing
 pub mod Selected
 pub mod Fetched
 pub mod Renamable

@@ -1,7 +1,8 @@
 //! The part of a cycle in which entries issue.
 
-ghost use Rattle.std.specs.Prelude.{◌≡◌, ◌+◌, ◌<◌, ◌≤◌, ◌^◌, []};
+ghost use Rattle.std.specs.Prelude.{◌≡◌, ◌+◌, ◌<◌, ◌≤◌, ◌^◌, [], length};
 ghost use Rattle.lawful_cycle.specs.Issue.{IsIssue};
+ghost use Rattle.core_back.specs.Issued.{IsIssuedAnew};
 ghost use Rattle.core_back.specs.Machine.{IsAlike, in_flight};
 
 use crate::machine::Machine;
@@ -33,8 +34,44 @@ pub fn issue<A: Allocator, O: Order, D: Delay, L: Listing<Issue, 8>>(
     // `cycle` ensures that each context is live, so its stamps grow.
     let _live = machine.cycle();
     machine.select(order, width);
-    for _place in 0..machine.selected_count() {
-        issued.push(machine.issue_next(delay));
+    while machine.selected_count() != 0 {
+        let Some(issue) = machine.issue_next(delay) else {
+            let left = width - issued.len();
+            issue_anew(machine, order, delay, left, issued);
+            return;
+        };
+        issued.push(issue);
+    }
+}
+
+/// The same where a load that was selected has to wait: the first ready entries issue, at most so many.
+// It is rare, and asks each load ahead of the selection.
+#[cold]
+#[inline(never)]
+fn issue_anew<A: Allocator, O: Order, D: Delay, L: Listing<Issue, 8>>(
+    machine: &mut Machine<A>,
+    order: &O,
+    delay: &mut D,
+    width: usize,
+    issued: &mut L,
+)
+    requires some { 0 < length machine.old.names }
+    requires cycle { machine.old.view.cycle < 2 ^ 56 }
+    requires room { length (L.items issued.old) + width ≤ 8 }
+    ensures alike { IsAlike machine.old machine.new }
+    ensures keeps { D.may_answer delay.new ≡ D.may_answer delay.old }
+    ensures keeps_greatest { D.greatest_lag delay.new ≡ D.greatest_lag delay.old }
+    ensures flights { in_flight machine.new ≡ in_flight machine.old }
+    ensures anew { IsIssuedAnew (O.key_of order.now) (D.may_answer delay.old) width machine.old machine.new (L.items issued.old) (L.items issued.new) }
+{
+    // `cycle` ensures that each context is live, so its stamps grow.
+    let _live = machine.cycle();
+    machine.select_anew(order, width);
+    while machine.selected_count() != 0 {
+        let Some(next) = machine.issue_next(delay) else {
+            unreachable!();
+        };
+        issued.push(next);
     }
 }
 

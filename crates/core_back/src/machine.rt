@@ -13,8 +13,9 @@ ghost use Rattle.core_back.specs.Machine.{IsAlike, context_at, in_flight, with_c
 ghost use Rattle.core_view.specs.Stages.{execution_of, IsIssued as IsIssuedStage};
 ghost use Rattle.flight.specs.Flights.{is_due, NoneFrom, IsNext};
 ghost use Rattle.core_context.specs.Heads.{IsGoing, first_done, step_on};
-ghost use Rattle.core_back.specs.Selected.{IsChosen};
-ghost use Rattle.core_back.specs.Issued.{IsIssued};
+ghost use Rattle.core_back.specs.Selected.{IsChosen, IsChosenOf, IsSuppliedPlace};
+ghost use Rattle.core_back.specs.Shown.{flow_left};
+ghost use Rattle.core_back.specs.Issued.{IsIssued, IsHeadWaiting};
 ghost use Rattle.core_back.specs.Fetched.{IsRenamed, IsRenamedRun, IsPickTurn};
 ghost use Rattle.core_back.specs.Renamable.{front_stops};
 ghost use Rattle.core_back.specs.First.{IsFirst, IsTarget, AreMarksAt};
@@ -52,8 +53,6 @@ pub struct Machine<A: Allocator = Global> {
     tracks: Vec<Track<A>, A>,
     profile: Profile,
     fetch_room: u8,
-    // Whether a load may be held in the issue queue.
-    holds: bool,
     flow: DataFlow<A>,
     selected: Selection,
     origins: Eight<Arc<Origin<A>, A>>,
@@ -94,7 +93,6 @@ impl<A: Allocator + Copy> Machine<A> {
             flow,
             tracks,
             selected: Selection::new(),
-            holds: false,
             cycle: 0,
             stamp: 0,
             fetch_room: 8,
@@ -319,26 +317,65 @@ impl<A: Allocator> Machine<A> {
         events::complete(&mut self.flow, track, context, place)
     }
 
-    /// Selects the first ready entries by an order, at most so many. A load that isn't clear isn't ready.
+    /// Selects the first entries by an order that are queued and have the values of their sources, at most so many. A load
+    /// may have to wait: that is asked as it issues.
+    #[inline(always)]
     pub fn select<O: Order>(&mut self, order: &O, width: usize)
+        requires width { width ≤ 8 }
+        requires idle { self.old.names ≡ [] }
+        ensures selected { self.new ≡ record self.old { names = self.new.names } }
+        ensures most { length self.new.names ≤ width }
+        ensures choice { IsChosenOf (IsSuppliedPlace self.old.view) (O.key_of order.now) width self.old.view self.new.names }
+    {
+        self.selected.hold_first(&mut self.flow, order, width);
+    }
+
+    /// What was selected and has not issued goes back, and the first ready entries by an order are selected, at most so
+    /// many. A load that isn't clear isn't ready.
+    #[cold]
+    #[inline(never)]
+    pub fn select_anew<O: Order>(&mut self, order: &O, width: usize)
+        requires width { width ≤ 8 }
+        requires some { 0 < length self.old.names }
+        ensures selected { self.new ≡ record self.old { names = self.new.names } }
+        ensures most { length self.new.names ≤ width }
+        ensures choice { IsChosen (O.key_of order.now) width self.old.view self.new.names }
+    {
+        self.give_back();
+        self.select_clear(order, width);
+    }
+
+    /// What was selected and has not issued goes back.
+    fn give_back(&mut self)
+        requires { 0 < length self.old.names }
+        ensures { self.new ≡ record self.old { names = [] } }
+    {
+        self.selected.mark(&mut self.flow, false);
+        // What is held still has issued.
+        self.flow.drop_held();
+        self.selected.clear();
+    }
+
+    /// Selects the first ready entries by an order, at most so many. A load that isn't clear isn't ready.
+    fn select_clear<O: Order>(&mut self, order: &O, width: usize)
         requires width { width ≤ 8 }
         requires idle { self.old.names ≡ [] }
         ensures selected { self.new ≡ record self.old { names = self.new.names } }
         ensures most { length self.new.names ≤ width }
         ensures choice { IsChosen (O.key_of order.now) width self.old.view self.new.names }
     {
-        events::release(&mut self.flow, self.holds);
-        self.holds = false;
         // Only a ready load may have to wait.
         let mut left = self.flow.contexts_with_ready_load();
         while left != 0 {
             let context = first_context(left);
             let track = &self.tracks[context.index()];
-            let held = events::hold_loads(&mut self.flow, track, context);
-            self.holds = self.holds || held;
+            let _held = events::hold_loads(&mut self.flow, track, context);
             left = word_mask::cleared(left, context.index());
         }
-        self.selected.select(&mut self.flow, order, width);
+        self.selected.hold_first(&mut self.flow, order, width);
+        // What had to wait isn't held any more, and what was selected is.
+        self.flow.release();
+        self.selected.mark(&mut self.flow, true);
     }
 
     /// How many entries are selected that have not issued yet.
@@ -349,16 +386,19 @@ impl<A: Allocator> Machine<A> {
         self.selected.len()
     }
 
-    /// The first of the selected entries issues, after the lag that a delay gives.
+    /// The first of the selected entries issues, after the lag that a delay gives. A load that has to wait for an older
+    /// store doesn't: `None`, and all stays as it is.
     #[inline(always)]
-    pub fn issue_next<D: Delay>(&mut self, delay: &mut D) -> Issue
+    pub fn issue_next<D: Delay>(&mut self, delay: &mut D) -> Option<Issue>
         requires some { 0 < length self.old.names }
         requires cycle { self.old.view.cycle < 2 ^ 56 }
-        ensures issued { IsIssued (D.may_answer delay.old) self.old self.new result }
+        ensures issued { IfSome result (IsIssued (D.may_answer delay.old) self.old self.new) }
+        ensures waits { result ≡ None → IsHeadWaiting self.old }
+        ensures same { result ≡ None → self.new ≡ self.old }
         ensures keeps { D.may_answer delay.new ≡ D.may_answer delay.old }
         ensures keeps_greatest { D.greatest_lag delay.new ≡ D.greatest_lag delay.old }
     {
-        let name = self.selected.take_first();
+        let name = self.selected.first();
         let track = &mut self.tracks[name.context.index()];
         let lag = events::issue(
             &self.flow,
@@ -367,8 +407,10 @@ impl<A: Allocator> Machine<A> {
             name.stamp,
             self.cycle,
             delay,
-        );
-        issue_of(name, lag)
+        )?;
+        let _first = self.selected.take_first();
+        drop_issued(&mut self.flow, &self.selected);
+        Some(issue_of(name, lag))
     }
 
     /// Whether a context has an entry that is fetched and not yet renamed: without one, none can be.
@@ -621,6 +663,16 @@ fn id_of(context: Ctx, stamp: u64) -> EntryId
     ensures { result ≡ record { context = context; stamp = stamp } }
 {
     EntryId { context, stamp }
+}
+
+/// What is held leaves the queue, once all that was selected has issued.
+#[inline(always)]
+fn drop_issued<A: Allocator>(flow: &mut DataFlow<A>, selected: &Selection)
+    ensures { flow.new ≡ flow_left selected.now flow.old }
+{
+    if selected.len() == 0 {
+        flow.drop_held();
+    }
 }
 
 /// An entry that issued, and its lag.

@@ -1,8 +1,8 @@
 -- Loads that are held in the issue queue until they are clear.
 use Rattle.std.proofs.Common.{◌≡◌, ◌≢◌, ℕ, zero, suc, ◌+◌, ◌<◌, ◌≤◌, Bool, true, false, not, List, [], ◌∷◌, length, get_or, take, map, Option, Some, None, refl, sym, ap, subst, ◌∙◌, arith, inl, inr}
-use Rattle.std.specs.Prelude.{All, ◌||◌, ◌&&◌, ◌==◌, set, if◌then◌else◌}
+use Rattle.std.specs.Prelude.{◌||◌, ◌&&◌, ◌==◌, set, if◌then◌else◌}
 use Rattle.std.proofs.lemmas.Bool.{and_parts, or_parts, eqb-true, cases_lt}
-use Rattle.std.proofs.lemmas.List.Elements.{All-map, All-head, All-tail}
+use Rattle.std.proofs.lemmas.List.Elements.{All-map}
 use Rattle.hart_step.specs.declared.effect.Effect.{Effect}
 use Rattle.hart_step.specs.declared.effect.Effect.TheVariants as effect
 use Rattle.hart_step.specs.Effects.{effect_of}
@@ -105,15 +105,6 @@ held_other f g c k entry d j b stamp is other before = rw (is, stamp) (All-map (
         by_test false h = was of
 
 -- ---- all are let go
-
-pub released_none : (f : Flow) → AreLetGo f → f ≡ record f { waiters = map released f.waiters }
-released_none f all = ap (λ (ws : List Waiter). let r : Flow = record f { waiters = ws } in r) (go f.waiters all)
-  where
-    go : (ws : List Waiter) → All (λ (w : Waiter). w.held ≡ false) ws → ws ≡ map released ws
-    go [] all = refl
-    go (w ∷ ws) all =
-        let here : w.held ≡ false = All-head (λ (v : Waiter). v.held ≡ false) w ws all in
-        ap (λ (b : Bool). let v : Waiter = record w { held = b } in v ∷ ws) here ∙ ap (λ vs. released w ∷ vs) (go ws (All-tail (λ (v : Waiter). v.held ≡ false) w ws all))
 
 pub released_remarked : (f g : Flow) → g ≡ record f { waiters = map released f.waiters } → IsRemarked f g
 released_remarked f g is = record {

@@ -1,8 +1,9 @@
 -- An entry issues: what it computes with, and what it leaves of a core.
 use Rattle.std.proofs.Common.{◌≡◌, ◌≢◌, ℕ, ◌<◌, ◌≤◌, Bool, true, false, not, ◌&&◌, ◌||◌, List, ◌∷◌, length, get_or, take, map, Option, Some, None, refl, sym, ap, subst, ◌∙◌, arith, inl, inr}
-use Rattle.std.specs.Prelude.{◌==◌, set}
+use Rattle.std.specs.Prelude.{◌==◌, set, IfSome}
 use Rattle.std.proofs.Math.Seq.{take-set-lt}
-use Rattle.std.proofs.lemmas.Bool.{ne_eqb, true≢false, cases_lt}
+use Rattle.std.proofs.lemmas.Bool.{ne_eqb, true≢false, not-false, cases_lt}
+use Rattle.std.proofs.lemmas.Option.{same_Some}
 use Rattle.std.proofs.lemmas.List.{length-set, length-take-le, map-set, set-get_or, get_or-map, get_or-take, take-take, drop-set-lt}
 use Rattle.hart_step.specs.State.{State}
 use Rattle.core_view.specs.declared.note.EntryId.{EntryId}
@@ -19,9 +20,12 @@ use Rattle.core_view.specs.View.{Context, entry_at, no_entry, seen_at as flight_
 use Rattle.core_view.proofs.Live.{issue_live}
 use Rattle.core_view.proofs.Sound.{sound_at}
 use Rattle.data_flow.specs.Flow.{Flow, lane, no_node, both, sources_at}
+use Rattle.data_tags.specs.declared.delay.Kind.{Kind}
+use Rattle.data_tags.specs.declared.delay.Lag.{Lag}
 use Rattle.core_context.specs.Queued.{queued_at}
 use Rattle.core_context.specs.Track.{Track, issued}
-use Rattle.core_context.specs.Issuable.{IsAnswered, may_issue_at}
+use Rattle.core_context.specs.Issuable.{IsAnswered, may_issue_at, IsSupplied, IsIssuable, HasIssued}
+use Rattle.core_context.specs.Performed.{HasPerformed}
 use Rattle.core_context.specs.Cores.{node_of_entry, is_selected, IsCore}
 use Rattle.core_context.proofs.Flights.{renamed-set, renamed-take, fetched_after}
 use Rattle.core_context.proofs.OtherContexts.{other_core}
@@ -99,6 +103,30 @@ selected_at {t = t} core k i h lt is =
     let q = p.1 in
     let same : p.0 ≡ i = same_place 0 t.context.flight p.0 i core.live.flight.growing q.within lt (q.stamp ∙ sym is) in
     subst (IsSelectedPlace t k) same q
+
+-- ---- the entry that may issue
+
+-- the entry with a stamp may issue, where the one at its place has not to wait
+pub place_issuable : (f : Flow) (c : ℕ) (t : Track) (k place : ℕ) (values : ℕ × ℕ) (waits : Bool) → IsSupplied f c t k → (place < length t.context.flight) × ((entry_at t.context place).stamp ≡ k) → Some values ≡ sources_at (lane f c) place
+    → ((second : ℕ) → waits ≡ not (may_issue_at t.context place values.0 second)) → waits ≡ false → IsIssuable f c t k
+place_issuable f c t k place values waits supplied there sources is goes = record {
+  queued = supplied.queued;
+  here = λ i lt stamp.
+      let one = supplied.here i lt stamp in
+      let same : place ≡ i = same_place 0 t.context.flight place i one.answered.growing there.0 lt (there.1 ∙ sym stamp) in
+      record { supplied = one; clear = λ a b known. subst (λ j. may_issue_at t.context j a b ≡ true) same (clear a b (sources ∙ ap (sources_at (lane f c)) same ∙ known)) };
+}
+  where
+    clear : (a b : ℕ) → Some values ≡ Some (a, b) → may_issue_at t.context place a b ≡ true
+    clear a b known = subst (λ (v : ℕ × ℕ). may_issue_at t.context place v.0 v.1 ≡ true) (same_Some values (a, b) known) (not-false (may_issue_at t.context place values.0 values.1) (sym (is values.1) ∙ goes))
+
+-- ---- what an event says of it
+
+-- the entry at a place issued, if it did, on the values of its sources
+pub issued_if_some : (delays : Kind → ℕ → Lag → Bool) (f : Flow) (c cycle i a b : ℕ) (old new : Track) (r : Option Lag) → i < length old.context.flight → Some (a, b) ≡ sources_at (lane f c) i → IfSome r (λ _. may_issue_at old.context i a b ≡ true)
+    → IfSome r (HasPerformed delays a b cycle i old new) → IfSome r (HasIssued delays f c (entry_at old.context i).stamp cycle old new)
+issued_if_some delays f c cycle i a b old new None lt sources clear performed = tt
+issued_if_some delays f c cycle i a b old new (Some lag) lt sources clear performed = record { place = i; first = a; second = b; within = lt; stamp = refl; sources = sym sources; clear = clear; stated = performed.stated; after = performed.after }
 
 -- ---- the core once it has issued
 

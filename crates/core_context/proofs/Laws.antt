@@ -24,3 +24,5 @@ pub use Rattle.core_context.proofs.Flights.{growing_take}
 -- what is held, and what a release lets go
 pub use Rattle.core_context.proofs.ReadyLoads.{none_ready_held}
 pub use Rattle.core_context.proofs.HeldLoads.{held_kept, issued_clear, let_go_marked, released_all, released_remarked, remarked_lane, remarked_twice}
+-- an entry that issues changes of none whether it may issue
+pub use Rattle.core_context.proofs.HeldLoads.{issued_may}

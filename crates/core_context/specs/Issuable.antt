@@ -55,12 +55,21 @@ AreHeld f c t = (i : ℕ) → i < t.renamed → (entry_at t.context i).stage ≡
 abbrev pub IsClear : Flow → ℕ → Track → ℕ → Type 0
 IsClear f c t k = (i a b : ℕ) → i < t.renamed → (entry_at t.context i).stamp ≡ k → sources_at (lane f c) i ≡ Some (a, b) → may_issue_at t.context i a b ≡ true
 
--- the entry of a context at a place may issue: it is queued, and has the values of its sources, on which it is clear
-pub record IsIssuableAt (f : Flow) (c : ℕ) (t : Track) (i : ℕ) : Type 0 where
+-- the entry of a context at a place has all to be asked with: it is queued, and has the values of its sources
+pub record IsSuppliedAt (f : Flow) (c : ℕ) (t : Track) (i : ℕ) : Type 0 where
   pub known : i < length (lane f c).nodes
   pub stage : (entry_at t.context i).stage ≡ Queued
   pub sources : is_some (sources_at (lane f c) i) ≡ true
   pub answered : IsAnswered t.context i
+
+-- one with a stamp is queued, and has the values of its sources
+pub record IsSupplied (f : Flow) (c : ℕ) (t : Track) (k : ℕ) : Type 0 where
+  pub queued : queued_at k t.context.flight ≡ true
+  pub here : (i : ℕ) → i < length t.context.flight → (entry_at t.context i).stamp ≡ k → IsSuppliedAt f c t i
+
+-- the entry of a context at a place may issue: on the values of its sources it is clear
+pub record IsIssuableAt (f : Flow) (c : ℕ) (t : Track) (i : ℕ) : Type 0 where
+  pub supplied : IsSuppliedAt f c t i
   pub clear : (a b : ℕ) → sources_at (lane f c) i ≡ Some (a, b) → may_issue_at t.context i a b ≡ true
 
 -- one with a stamp is queued, and may issue
@@ -68,7 +77,17 @@ pub record IsIssuable (f : Flow) (c : ℕ) (t : Track) (k : ℕ) : Type 0 where
   pub queued : queued_at k t.context.flight ≡ true
   pub here : (i : ℕ) → i < length t.context.flight → (entry_at t.context i).stamp ≡ k → IsIssuableAt f c t i
 
--- it has issued in a cycle on the values of its sources, after a lag that a delay states
+-- the entry of a context and stamp has to wait for an older store, on the values of its sources
+pub record HasToWait (f : Flow) (c k : ℕ) (t : Track) : Type 0 where
+  pub place : ℕ
+  pub first : ℕ
+  pub second : ℕ
+  pub within : place < length t.context.flight
+  pub stamp : (entry_at t.context place).stamp ≡ k
+  pub sources : sources_at (lane f c) place ≡ Some (first, second)
+  pub waits : may_issue_at t.context place first second ≡ false
+
+-- it has issued in a cycle on the values of its sources, on which it was clear, after a lag that a delay states
 pub record HasIssued (delays : Kind → ℕ → Lag → Bool) (f : Flow) (c k cycle : ℕ) (old new : Track) (lag : Lag) : Type 0 where
   pub place : ℕ
   pub first : ℕ
@@ -76,5 +95,6 @@ pub record HasIssued (delays : Kind → ℕ → Lag → Bool) (f : Flow) (c k cy
   pub within : place < length old.context.flight
   pub stamp : (entry_at old.context place).stamp ≡ k
   pub sources : sources_at (lane f c) place ≡ Some (first, second)
+  pub clear : may_issue_at old.context place first second ≡ true
   pub stated : let e = entry_at old.context place in IsLagOf delays (kind_of e.operation) (address_in e.operation e.pc first second) (performed_at old.context place first second) lag
   pub after : new ≡ issued old place (record { due = cycle + lag.cycles; miss = lag.miss; outcome = performed_at old.context place first second })

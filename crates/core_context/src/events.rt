@@ -1,16 +1,16 @@
 //! The events of a cycle, each on one context and the data flow.
 
-ghost use Rattle.std.specs.Prelude.{◌≡◌, ◌≢◌, ◌↔◌, ℕ, ◌+◌, ◌<◌, ◌≤◌, ◌^◌, ◌==◌, ◌&&◌, length, take, drop, IsSome, IsTrue, IfSome, Some, None, not, All, Bool, true, false, map, slice_get, option_map};
+ghost use Rattle.std.specs.Prelude.{◌≡◌, ◌≢◌, ◌↔◌, ℕ, ◌+◌, ◌<◌, ◌≤◌, ◌^◌, ◌==◌, ◌&&◌, length, take, drop, IsSome, IsTrue, IfSome, Some, None, not, All, Bool, true, false, slice_get, option_map};
 ghost use Rattle.std.specs.List.{list_any};
 ghost use Rattle.std.specs.Option.{option_map_or};
-ghost use Rattle.data_flow.specs.Flow.{lane, node_at, sources_at, taken, waits_in, cut_flow, released};
+ghost use Rattle.data_flow.specs.Flow.{lane, node_at, sources_at, taken, waits_in, cut_flow};
 ghost use Rattle.core_view.specs.declared.entry.Entry.{Entry};
 ghost use Rattle.core_view.specs.declared.entry.Stage.TheVariants.{Fetched, Queued};
 ghost use Rattle.core_view.specs.declared.outcome.Outcome.TheVariants.{Stops};
 ghost use Rattle.core_view.specs.Flight.{is_open_guess as is_open_guess_entry};
 ghost use Rattle.core_view.specs.Operations.{destination_of, stops_at_fetch};
 ghost use Rattle.core_view.specs.View.{entry_at};
-ghost use Rattle.core_context.specs.Issuable.{HasIssued, IsAnswered, IsIssuable, IsIssuableAt, IsMarked, AreLetGo, must_wait, AreHeld};
+ghost use Rattle.core_context.specs.Issuable.{HasIssued, HasToWait, IsAnswered, IsSupplied, IsSuppliedAt, IsIssuable, IsIssuableAt, IsMarked, must_wait, AreHeld};
 ghost use Rattle.core_context.specs.Track.{is_last, retired, parked, stopped, completed, renamed_one};
 ghost use Rattle.core_context.specs.Cores.{operands_of};
 ghost use Rattle.entry_stages.specs.Heads.{IsGoing, first_done, step_on};
@@ -404,7 +404,8 @@ fn settle_speculation<A: Allocator>(
     }
 }
 
-/// The entry with a stamp issues in a cycle, after the lag that a delay gives.
+/// The entry with a stamp issues in a cycle, after the lag that a delay gives. A load that has to wait for an older store
+/// doesn't: `None`, and it is left as it is.
 #[inline(always)]
 pub fn issue<A: Allocator, D: Delay>(
     flow: &DataFlow<A>,
@@ -413,20 +414,44 @@ pub fn issue<A: Allocator, D: Delay>(
     stamp: u64,
     cycle: u64,
     delay: &mut D,
-) -> Lag
-    requires issuable { IsIssuable flow.now context track.old stamp }
+) -> Option<Lag>
+    requires supplied { IsSupplied flow.now context track.old stamp }
     requires cycle { cycle < 2 ^ 56 }
-    ensures issued { HasIssued (D.may_answer delay.old context) flow.now context stamp cycle track.old track.new result }
+    ensures issued { IfSome result (HasIssued (D.may_answer delay.old context) flow.now context stamp cycle track.old track.new) }
+    ensures waits { result ≡ None → HasToWait flow.now context stamp track.old }
+    ensures same { result ≡ None → track.new ≡ track.old }
     ensures keeps { D.may_answer delay.new ≡ D.may_answer delay.old }
     ensures keeps_greatest { D.greatest_lag delay.new ≡ D.greatest_lag delay.old }
 {
     let Some(place) = track.known_place(stamp) else {
-        return issue_searched(flow, track, context, stamp, cycle, delay);
+        // Asked apart from what issues: an `Option` that a call out of line returns is built in memory.
+        if waits_searched(flow, track, context, stamp) {
+            return None;
+        }
+        return Some(issue_searched(flow, track, context, stamp, cycle, delay));
     };
     issue_at(flow, track, context, place, cycle, delay)
 }
 
-/// The same, where the place isn't known.
+/// Whether the entry with a stamp has to wait for an older store, where its place isn't known.
+#[cold]
+#[inline(never)]
+fn waits_searched<A: Allocator>(
+    flow: &DataFlow<A>,
+    track: &Track<A>,
+    context: Ctx,
+    stamp: u64,
+) -> bool
+    requires supplied { IsSupplied flow.now context track.now stamp }
+    ensures waits { result ≡ true → HasToWait flow.now context stamp track.now }
+    ensures issuable { result ≡ false → IsIssuable flow.now context track.now stamp }
+{
+    let place = track.queued_place(stamp).unwrap();
+    let (first, _second) = flow.read_sources(context, place);
+    track.load_waits_by_search(place, first)
+}
+
+/// The entry with a stamp, which may issue, does, where its place isn't known.
 #[cold]
 fn issue_searched<A: Allocator, D: Delay>(
     flow: &DataFlow<A>,
@@ -446,7 +471,7 @@ fn issue_searched<A: Allocator, D: Delay>(
     issue_apart(flow, track, context, place, cycle, delay)
 }
 
-/// The entry at a place issues in a cycle, after the lag that a delay gives.
+/// The entry at a place issues in a cycle, after the lag that a delay gives, unless it is a load that has to wait.
 #[inline(always)]
 fn issue_at<A: Allocator, D: Delay>(
     flow: &DataFlow<A>,
@@ -455,11 +480,13 @@ fn issue_at<A: Allocator, D: Delay>(
     place: usize,
     cycle: u64,
     delay: &mut D,
-) -> Lag
+) -> Option<Lag>
     requires place { place < length track.old.context.flight }
-    requires issuable { IsIssuableAt flow.now context track.old place }
+    requires supplied { IsSuppliedAt flow.now context track.old place }
     requires cycle { cycle < 2 ^ 56 }
-    ensures issued { HasIssued (D.may_answer delay.old context) flow.now context (entry_at track.old.context place).stamp cycle track.old track.new result }
+    ensures issued { IfSome result (HasIssued (D.may_answer delay.old context) flow.now context (entry_at track.old.context place).stamp cycle track.old track.new) }
+    ensures waits { result ≡ None → HasToWait flow.now context (entry_at track.old.context place).stamp track.old }
+    ensures same { result ≡ None → track.new ≡ track.old }
     ensures keeps { D.may_answer delay.new ≡ D.may_answer delay.old }
     ensures keeps_greatest { D.greatest_lag delay.new ≡ D.greatest_lag delay.old }
 {
@@ -467,7 +494,7 @@ fn issue_at<A: Allocator, D: Delay>(
     perform(track, place, values, context, cycle, delay)
 }
 
-/// The same, out of line.
+/// The entry at a place, which may issue, does, out of line.
 fn issue_apart<A: Allocator, D: Delay>(
     flow: &DataFlow<A>,
     track: &mut Track<A>,
@@ -489,26 +516,6 @@ fn issue_apart<A: Allocator, D: Delay>(
     perform_apart(
         track, place, operation, entry.pc, values, context, cycle, delay,
     )
-}
-
-/// Lets all loads go, where one may be held.
-pub fn release<A: Allocator>(flow: &mut DataFlow<A>, holds: bool)
-    requires { holds ≡ false → AreLetGo flow.old }
-    ensures { flow.new ≡ record flow.old { waiters = map released flow.old.waiters } }
-{
-    if holds {
-        release_all(flow);
-    }
-}
-
-/// Lets all loads go.
-// Mostly none is held, so that it stays out of the way.
-#[cold]
-#[inline(never)]
-fn release_all<A: Allocator>(flow: &mut DataFlow<A>)
-    ensures { flow.new ≡ record flow.old { waiters = map released flow.old.waiters } }
-{
-    flow.release();
 }
 
 /// Tells the queue which loads of a context, which are all let go, have to wait for an older store. Returns whether one
@@ -558,10 +565,10 @@ fn hold_load<A: Allocator>(
 {
     // How many are renamed is at most how many there are.
     let _renamed = track.renamed_count();
-    let Some((first, second)) = flow.sources(context, place) else {
+    let Some((first, _second)) = flow.sources(context, place) else {
         return false;
     };
-    if !track.must_wait(place, first, second) {
+    if !track.load_waits_by_search(place, first) {
         return false;
     }
     let entry = track.entry_at(place);

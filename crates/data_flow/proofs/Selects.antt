@@ -1,5 +1,5 @@
 -- What the queue selects is selected from what waits.
-use Rattle.std.proofs.Common.{◌≡◌, ℕ, not, List, map, sym, ap, subst, ◌∙◌}
+use Rattle.std.proofs.Common.{◌≡◌, ℕ, not, List, map, refl, sym, ap, subst, ◌∙◌}
 use Rattle.std.specs.Prelude.{All, filter, Option}
 use Rattle.std.proofs.lemmas.List.Elements.{All-weaker, All-same, All-filter}
 use Rattle.issue_queue.specs.declared.entry.QueueView.{QueueView}
@@ -38,6 +38,15 @@ selects {A} d now q key width selected shows up capacity s =
         waiting = All-same waits q.entries (filter (λ e. not (is_among selected e)) d.queue.entries) s.others (All-filter (λ e. not (is_among selected e)) waits d.queue.entries up.waiting);
       };
     }
+
+-- what is listed, and stays
+pub listed_first : {A : Type 0} (d : Inside A) (now : Flow) (key : QueueView → ℕ) (width : ℕ) (names : List EntryId) → flow d ≡ now → IsWiredUp d
+    → IsSelected (λ e. key (view_of e)) width d.queue.entries (filter (λ e. not (is_among names e)) d.queue.entries) names
+    → IsSelected (λ e. key (view_of e)) width (queued now) (filter (λ e. not (is_among names e)) (queued now)) names
+listed_first d now key width names shows up s =
+    let q : IssueQueue = record d.queue { entries = filter (λ e. not (is_among names e)) d.queue.entries } in
+    let there : IsSelected (λ e. key (view_of e)) width (queued now) (queued (flow (record d { queue = q }))) names = (selects d now q key width names shows up refl s).selected in
+    subst (λ (rest : List Entry). IsSelected (λ e. key (view_of e)) width (queued now) rest names) there.others there
 
 -- the place of a context by what waits
 pub placed_oldest : {A : Type 0} (d : Inside A) (now : Flow) (c : ℕ) (r : Option ℕ) → flow d ≡ now → r ≡ place_of_oldest c d.queue.entries → r ≡ place_of_oldest c (queued now)

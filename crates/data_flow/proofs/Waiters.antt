@@ -1,11 +1,12 @@
 -- What waits, after the calls of the queue that wake, drop and put entries.
-use Rattle.std.proofs.Common.{◌≡◌, ℕ, Bool, true, false, not, List, [], ◌∷◌, ◌++◌, map, refl, ap}
+use Rattle.std.proofs.Common.{◌≡◌, ℕ, true, false, not, List, [], ◌∷◌, ◌++◌, map, refl, sym, ap}
 use Rattle.std.specs.Prelude.{All, filter}
 use Rattle.std.proofs.lemmas.Bool.{not-true}
 use Rattle.std.proofs.lemmas.List.{map-append}
 use Rattle.std.proofs.lemmas.List.Elements.{All-weaker, filter_passes}
 use Rattle.issue_queue.specs.Entry.{Entry}
 use Rattle.issue_queue.specs.IssueQueue.{awake, is_from}
+use Rattle.issue_queue.proofs.Lists.{filter-of_map}
 use Rattle.data_flow.specs.Flow.{Waiter, is_waiter_from}
 use Rattle.data_flow.specs.Wired.{waiter_of}
 
@@ -16,13 +17,11 @@ waiters_awake p (e ∷ es) = ap (λ (ws : List Waiter). waiter_of e ∷ ws) (wai
 
 -- what is dropped from a stamp on
 pub waiters_dropped : (c k : ℕ) (es : List Entry) → map waiter_of (filter (λ e. not (is_from c k e)) es) ≡ filter (λ w. not (is_waiter_from c k w)) (map waiter_of es)
-waiters_dropped c k [] = refl
-waiters_dropped c k (e ∷ es) = at_test (not (is_from c k e)) refl (waiters_dropped c k es)
-  where
-    at_test : (b : Bool) → not (is_from c k e) ≡ b → map waiter_of (filter (λ e. not (is_from c k e)) es) ≡ filter (λ w. not (is_waiter_from c k w)) (map waiter_of es)
-        → map waiter_of (filter (λ e. not (is_from c k e)) (e ∷ es)) ≡ filter (λ w. not (is_waiter_from c k w)) (map waiter_of (e ∷ es))
-    at_test true is rest = rw is (ap (λ (ws : List Waiter). waiter_of e ∷ ws) rest)
-    at_test false is rest = rw is rest
+waiters_dropped c k es = sym (filter-of_map waiter_of (λ w. not (is_waiter_from c k w)) es)
+
+-- what is dropped because it is held
+pub waiters_unheld : (es : List Entry) → map waiter_of (filter (λ e. not e.held) es) ≡ filter (λ w. not w.held) (map waiter_of es)
+waiters_unheld es = sym (filter-of_map waiter_of (λ w. not w.held) es)
 
 -- nothing from the stamp on is left
 pub none_from : (c k : ℕ) (ws : List Waiter) → All (λ w. is_waiter_from c k w ≡ false) (filter (λ w. not (is_waiter_from c k w)) ws)

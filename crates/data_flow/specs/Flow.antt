@@ -1,8 +1,9 @@
 -- What the instructions in flight compute with. No physical register is named.
-use Rattle.std.specs.Prelude.{ℕ, ◌-◌, Bool, false, not, ◌&&◌, ◌==◌, nat_lt, nat_le, if◌then◌else◌, List, [], ◌∷◌, ◌++◌, length, map, filter, take, drop, get_or, slice_set, replicate, Option, Some, None, is_some, unwrap_or, sum_by, count_by}
+use Rattle.std.specs.Prelude.{ℕ, ◌-◌, Bool, true, false, not, ◌&&◌, ◌==◌, nat_lt, nat_le, if◌then◌else◌, List, [], ◌∷◌, ◌++◌, length, map, filter, take, drop, get_or, slice_set, replicate, Option, Some, None, is_some, unwrap_or, sum_by, count_by}
 use Rattle.std.specs.List.{list_any}
 use Rattle.hart_step.specs.State.{written}
 use Rattle.core_view.specs.Flight.{known, produced, source_value}
+use Rattle.core_view.specs.declared.note.EntryId.{EntryId}
 use Rattle.issue_queue.specs.Entry.{Entry}
 use Rattle.data_flow.specs.declared.operands.Operands.{Operands}
 
@@ -160,6 +161,10 @@ with_speculative c k flag w = if is_waiter c k w then record w { speculative = f
 
 abbrev pub with_held : ℕ → ℕ → Bool → Waiter → Waiter
 with_held c k flag w = if is_waiter c k w then record w { held = flag } else w
+
+-- held where it is one of these
+abbrev pub hold_among : List EntryId → Waiter → Waiter
+hold_among names w = if list_any (λ n. (n.context == w.context) && (n.stamp == w.stamp)) names then record w { held = true } else w
 
 abbrev pub released : Waiter → Waiter
 released w = record w { held = false }

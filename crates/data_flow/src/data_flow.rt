@@ -1,16 +1,16 @@
 //! The data flow of eight contexts: registers, renaming, and the queue of what waits for its sources.
 
-ghost use Rattle.std.specs.Prelude.{◌≡◌, ℕ, ◌+◌, ◌-◌, ◌<◌, ◌≤◌, ◌↔◌, [], ◌∷◌, ◌++◌, true, false, None, length, map, All, IfOk, OnErr, IsOk, IsSome, IsTrue, Err, not, is_some, slice_set, count_by, ◌==◌, ◌&&◌};
+ghost use Rattle.std.specs.Prelude.{◌≡◌, ℕ, ◌+◌, ◌-◌, ◌<◌, ◌≤◌, ◌↔◌, [], ◌∷◌, ◌++◌, true, false, None, length, map, filter, All, IfOk, OnErr, IsOk, IsSome, IsTrue, Err, not, is_some, slice_set, count_by, ◌==◌, ◌&&◌};
 ghost use Rattle.std.specs.List.{list_any};
 ghost use Rattle.word_mask.specs.Mask.{has};
 ghost use Rattle.issue_queue.specs.Entry.{is_named, is_ready_load};
 ghost use Rattle.issue_queue.specs.Views.{view_of};
-ghost use Rattle.issue_queue.specs.IsSelected.{IsSelected};
+ghost use Rattle.issue_queue.specs.IsSelected.{IsSelected, is_among};
 ghost use Rattle.issue_queue.specs.Stamps.{place_of_oldest};
 ghost use Rattle.rename_file.specs.File.{IsFile, bank};
 ghost use Rattle.data_flow.specs.Banks.{bank_with, CellsWith, IsNamed};
 ghost use Rattle.data_flow.specs.Wired.{cell_of, waiting_entry};
-ghost use Rattle.data_flow.specs.Flow.{lane, node_at, sources_at, with_lane, with_register, with_node, with_result, without_oldest, without_newest, kept, cut_flow, left_in, takes, taken, waits_in, waits_to_load, with_speculative, with_held, released, queued, first_flow};
+ghost use Rattle.data_flow.specs.Flow.{lane, node_at, sources_at, with_lane, with_register, with_node, with_result, without_oldest, without_newest, kept, cut_flow, left_in, takes, taken, waits_in, waits_to_load, with_speculative, with_held, hold_among, released, queued, first_flow};
 
 use crate::active_list::{ActiveList, first_lists};
 use crate::operands::{Operands, Renamed};
@@ -224,6 +224,31 @@ impl<A: Allocator> DataFlow<A> {
         ensures selected { IsSelected (λ e. O.key_of order.now (view_of e)) width (queued self.old) (queued self.new) names.new.items }
     {
         self.queue.select_into(order, width, names);
+    }
+
+    /// Lists the first instructions by an order that have the values of their sources, at most so many, in that order,
+    /// and holds them. All of them still wait.
+    #[inline(always)]
+    pub fn hold_first<O: Order>(
+        &mut self,
+        order: &O,
+        width: usize,
+        names: &mut ArrayVec<EntryId, 8>,
+    )
+        requires width { width ≤ 8 }
+        requires empty { names.old.items ≡ [] }
+        ensures flow { self.new ≡ record self.old { waiters = map (hold_among names.new.items) self.old.waiters } }
+        ensures selected { IsSelected (λ e. O.key_of order.now (view_of e)) width (queued self.old) (filter (λ e. not (is_among names.new.items e)) (queued self.old)) names.new.items }
+    {
+        self.queue.hold_first(order, width, names);
+    }
+
+    /// What is held no longer waits.
+    #[inline(always)]
+    pub fn drop_held(&mut self)
+        ensures { self.new ≡ record self.old { waiters = filter (λ w. not w.held) self.old.waiters } }
+    {
+        self.queue.drop_held();
     }
 
     /// Tells whether an older guessed instruction of its context has not completed, of one that waits.

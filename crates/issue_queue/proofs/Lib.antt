@@ -4,6 +4,7 @@ pub mod Walks
 pub mod Entered
 pub mod Masks
 pub mod Kept
+pub mod Held
 pub mod Ordered
 pub mod Arrived
 pub mod Best

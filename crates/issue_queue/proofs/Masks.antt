@@ -1,5 +1,5 @@
 -- Masks in step with the places.
-use Rattle.std.proofs.Common.{◌≡◌, ℕ, zero, suc, max, ◌++◌, ◌+◌, ◌<◌, ◌≤◌, ◌⊎◌, inl, inr, Bool, true, false, cond, not, ◌&&◌, ◌||◌, eqb, List, [], ◌∷◌, length, get_or, set, replicate, refl, ap, ap₂, sym, subst, ◌∙◌, arith, take_all}
+use Rattle.std.proofs.Common.{◌≡◌, ℕ, zero, suc, max, ◌++◌, ◌+◌, ◌<◌, ◌≤◌, ◌⊎◌, inl, inr, Bool, true, false, cond, not, ◌&&◌, ◌||◌, eqb, List, [], ◌∷◌, length, take, get_or, set, replicate, refl, ap, ap₂, sym, subst, ◌∙◌, arith, take_all}
 use Rattle.std.specs.Prelude.{slice_index, nat_le}
 use Rattle.std.specs.List.{All, filter, list_any}
 use Rattle.std.specs.Int.{bit_at}
@@ -19,7 +19,7 @@ use Rattle.issue_queue.specs.declared.entry.Source.{Source}
 use Rattle.issue_queue.specs.declared.places.Places.{Places}
 use Rattle.issue_queue.specs.declared.slots.Slots.{Slots}
 use Rattle.issue_queue.specs.declared.selecting.Candidate.{Candidate}
-use Rattle.issue_queue.specs.Candidates.{is_at}
+use Rattle.issue_queue.specs.Candidates.{is_at, names_of}
 use Rattle.word_mask.specs.Mask.{has}
 use Rattle.issue_queue.specs.Board.{slot, narrowed, is_waiter, unflagged, InStep, IsMask, IsOffWhereFree, waits_for, is_of}
 use Rattle.issue_queue.specs.Entries.{AreWide, entry_at}
@@ -27,7 +27,7 @@ use Rattle.issue_queue.specs.Entry.{Entry, is_ready, is_supplied, is_named, wait
 use Rattle.issue_queue.specs.IssueQueue.{awake, is_from}
 use Rattle.issue_queue.specs.Views.{AreAlike, as_entry, awaited_of, entered, name_of, queued_of, reads_of}
 use Rattle.word_mask.proofs.Laws.{has_zero, eqb_swap}
-use Rattle.issue_queue.proofs.Walks.{IsSought, IsCut, IsTaken}
+use Rattle.issue_queue.proofs.Walks.{IsSought, IsCut, AreNamed}
 
 -- ---- what stands at the places
 
@@ -226,12 +226,23 @@ cut_at true false l = refl
 cut_at false o l = refl
 
 -- the walk has freed all that it was to free
-pub cut_all : (a b : Places) (context stamp left : ℕ) → context < 8 → left ≡ 0 → InStep a → IsCut a b context stamp left
-    → (p : ℕ) → has b.valid p ≡ (has a.valid p && not (is_from context stamp (slot a.slots p)))
-cut_all a b context stamp left below none h s p =
+cut_all : (a b : Places) (word : ℕ) (test : Entry → Bool) (left : ℕ) → left ≡ 0 → IsCut a b word test left → (p : ℕ) → has b.valid p ≡ (has a.valid p && not ((has word p && true) && test (slot a.slots p)))
+cut_all a b word test left none s p =
     let empty : has left p ≡ false = ap (λ k. has k p) none ∙ has_zero p in
-    let valid = s.valid p in
-    rw (empty, h.contexts context below p) at valid ∙ cut_at (has a.valid p) (is_of context (slot a.slots p)) (nat_le stamp (slot a.slots p).stamp)
+    s.valid p ∙ ap (λ l. has a.valid p && not ((has word p && not l) && test (slot a.slots p))) empty
+
+-- all of a context that pass the test
+pub cut_context : (a b : Places) (context stamp left : ℕ) → context < 8 → left ≡ 0 → InStep a → IsCut a b (slice_index a.contexts context) (is_from context stamp) left
+    → (p : ℕ) → has b.valid p ≡ (has a.valid p && not (is_from context stamp (slot a.slots p)))
+cut_context a b context stamp left below none h s p =
+    cut_all a b (slice_index a.contexts context) (is_from context stamp) left none s p
+    ∙ ap (λ w. has a.valid p && not ((w && true) && is_from context stamp (slot a.slots p))) (h.contexts context below p)
+    ∙ cut_at (has a.valid p) (is_of context (slot a.slots p)) (nat_le stamp (slot a.slots p).stamp)
+
+-- all of the word
+pub cut_word : (a b : Places) (word left : ℕ) → left ≡ 0 → IsCut a b word (λ e. true) left → (p : ℕ) → has b.valid p ≡ (has a.valid p && not (has word p))
+cut_word a b word left none s p =
+    cut_all a b word (λ e. true) left none s p ∙ ap (λ w. has a.valid p && not w) (and-true (has word p && true) ∙ and-true (has word p))
 
 cut_next_at : (v w l f : Bool) → w ≡ true → l ≡ false → f ≡ true → (v && not ((w && not l) && f)) ≡ false
 cut_next_at true true false true w l f = refl
@@ -240,15 +251,17 @@ cut_next_at true false l f a b c = absurd (true≢false (sym a))
 cut_next_at true true true f a b c = absurd (true≢false b)
 cut_next_at true true false false a b c = absurd (true≢false (sym c))
 
+-- a place that is left is taken
+pub cut_taken : (a b : Places) (word : ℕ) (test : Entry → Bool) (left place : ℕ) → ((p : ℕ) → has word p ≡ true → has a.valid p ≡ true) → has left place ≡ true → IsCut a b word test left → has b.valid place ≡ true
+cut_taken a b word test left place inside here s = s.valid place ∙ rw (inside place (s.within place here), here, s.within place here) refl
+
 -- a place that is left is freed
-pub cut_next : (a b d : Places) (context stamp left less place : ℕ) → context < 8 → InStep a → IsCut a b context stamp left → InStep d
+pub cut_next : (a b d : Places) (word : ℕ) (test : Entry → Bool) (left less place : ℕ) → ((p : ℕ) → has word p ≡ true → has a.valid p ≡ true) → IsCut a b word test left → InStep d
     → ((p : ℕ) → has d.valid p ≡ (has b.valid p && not (eqb p place))) → ((p : ℕ) → eqb p place ≡ false → slot d.slots p ≡ slot b.slots p)
-    → has left place ≡ true → ((p : ℕ) → has less p ≡ (has left p && not (eqb p place))) → is_from context stamp (slot b.slots place) ≡ true → IsCut a d context stamp less
-cut_next a b d context stamp left less place below h s step valid slots here bits from =
-    let word : has (slice_index a.contexts context) place ≡ true = s.within place here in
-    let was : has a.valid place ≡ true = (and_parts (has a.valid place) (is_of context (slot a.slots place)) (sym (h.contexts context below place) ∙ word)).0 in
-    let taken : has b.valid place ≡ true = s.valid place ∙ rw (was, here, word) refl in
-    let old : is_from context stamp (slot a.slots place) ≡ true = ap (is_from context stamp) (sym (s.slots place taken)) ∙ from in
+    → has left place ≡ true → ((p : ℕ) → has less p ≡ (has left p && not (eqb p place))) → test (slot b.slots place) ≡ true → IsCut a d word test less
+cut_next a b d word test left less place inside s step valid slots here bits passes =
+    let taken : has b.valid place ≡ true = cut_taken a b word test left place inside here s in
+    let old : test (slot a.slots place) ≡ true = ap test (sym (s.slots place taken)) ∙ passes in
     record {
       step = step;
       slots = λ p t.
@@ -257,13 +270,17 @@ cut_next a b d context stamp left less place below h s step valid slots here bit
       valid = λ p. elim (eqb_tells p place) [
         | inl t ↦
             let gone : has less place ≡ false = bits place ∙ rw (eq-eqb place place refl) (and_right (has left place) false refl) in
-            rw (valid p, t.0, t.1) (and_right (has b.valid place) false refl ∙ sym (cut_next_at (has a.valid place) (has (slice_index a.contexts context) place) (has less place) (is_from context stamp (slot a.slots place)) word gone old))
+            rw (valid p, t.0, t.1) (and_right (has b.valid place) false refl ∙ sym (cut_next_at (has a.valid place) (has word place) (has less place) (test (slot a.slots place)) (s.within place here) gone old))
         | inr t ↦
             let stays : has less p ≡ has left p = bits p ∙ rw t.0 (and-true (has left p)) in
             rw (valid p, t.0, stays) (and-true (has b.valid p) ∙ s.valid p)
       ];
       within = λ p t. s.within p (and_parts (has left p) (not (eqb p place)) (sym (bits p) ∙ t)).0;
     }
+
+-- the places of a context are taken
+pub context_taken : (b : Places) (context : ℕ) → context < 8 → InStep b → (p : ℕ) → has (slice_index b.contexts context) p ≡ true → has b.valid p ≡ true
+context_taken b context below h p t = (and_parts (has b.valid p) (is_of context (slot b.slots p)) (sym (h.contexts context below p) ∙ t)).0
 
 pub zeros : (n k : ℕ) → k < n → slice_index (replicate n 0) k ≡ 0
 zeros n k lt = get_or-replicate n k 0 0 lt
@@ -583,9 +600,9 @@ pub has_either : (v w p : ℕ) → has (bit_or v w) p ≡ (has v p || has w p)
 unfolding has
 has_either v w p = ap (λ b. eqb b 1) (bit_at_or v w p) ∙ bit_of_either (bit_at v p) (bit_at w p) (bit_at-lt v p) (bit_at-lt w p)
 
-pub none_taken : (slots : Slots) (best : List Candidate) (names : List EntryId) → names ≡ [] → IsTaken slots best 0 0 names
-none_taken slots best names none = record {
-  bits = λ p. has_zero p;
+pub none_named : (slots : Slots) (best : List Candidate) (names : List EntryId) → names ≡ [] → AreNamed slots best 0 0 names
+none_named slots best names none = record {
+  places = λ p. has_zero p;
   names_are = none;
   count = ap length none;
 }
@@ -596,22 +613,21 @@ cond_or true false = refl
 cond_or false true = refl
 cond_or false false = refl
 
--- one more candidate is taken
-pub one_taken : (slots : Slots) (best : List Candidate) (i chosen next : ℕ) (d : Candidate) (names more : List EntryId) (name : EntryId) → i < length best
-    → name ≡ name_of (slot slots (get_or best i d).place) → more ≡ names ++ name ∷ [] → ((p : ℕ) → has next p ≡ cond (eqb p (get_or best i d).place) true (has chosen p))
-    → IsTaken slots best i chosen names → IsTaken slots best (i + 1) next more
-one_taken slots best i chosen next d names more name lt named pushed marks h = record {
-  bits = λ p. marks p ∙ ap (λ b. cond b true (has chosen p)) (eqb_swap p (get_or best i d).place) ∙ cond_or (eqb (get_or best i d).place p) (has chosen p) ∙ ap (λ b. b || eqb (get_or best i d).place p) (h.bits p) ∙ sym (list_any_more (λ c. eqb c.place p) best i d lt);
+-- one more candidate is named
+pub one_named : (slots : Slots) (best : List Candidate) (i word next : ℕ) (d : Candidate) (names more : List EntryId) (name : EntryId) → i < length best
+    → name ≡ name_of (slot slots (get_or best i d).place) → more ≡ names ++ name ∷ [] → ((p : ℕ) → has next p ≡ cond (eqb p (get_or best i d).place) true (has word p))
+    → AreNamed slots best i word names → AreNamed slots best (i + 1) next more
+one_named slots best i word next d names more name lt named pushed marks h = record {
+  places = λ p. marks p ∙ ap (λ b. cond b true (has word p)) (eqb_swap p (get_or best i d).place) ∙ cond_or (eqb (get_or best i d).place p) (has word p) ∙ ap (λ b. b || eqb (get_or best i d).place p) (h.places p) ∙ sym (list_any_more (λ c. eqb c.place p) best i d lt);
   names_are = pushed ∙ ap₂ (λ ns n. ns ++ n ∷ []) h.names_are named ∙ sym (map_more (λ c. name_of (slot slots c.place)) best i d lt);
   count = ap length pushed ∙ length_push names name ∙ ap (λ k. k + 1) h.count;
 }
 
--- all candidates are taken
-pub ready_all : (slots : Slots) (best : List Candidate) (i chosen : ℕ) (names : List EntryId) → length best ≤ i → All (λ c. (c.place < 64) × (is_ready (slot slots c.place) ≡ true)) best → IsTaken slots best i chosen names
-    → (p : ℕ) → has chosen p ≡ true → is_ready (slot slots p) ≡ true
-ready_all slots best i chosen names whole ready h p t =
-    at_candidates (λ q. is_ready (slot slots q) ≡ true) best p (λ k d lt. (ready k d lt).1)
-    (ap (λ cs. is_at cs p) (sym (take_all i best whole)) ∙ sym (h.bits p) ∙ t)
+-- all candidates are named
+pub all_named : (slots : Slots) (best : List Candidate) (i word : ℕ) (names : List EntryId) → length best ≤ i → AreNamed slots best i word names → ((p : ℕ) → has word p ≡ is_at best p) × (names ≡ names_of slots best)
+all_named slots best i word names whole h =
+    let all : take i best ≡ best = take_all i best whole in
+    (λ p. h.places p ∙ ap (λ cs. is_at cs p) all, h.names_are ∙ ap (names_of slots) all)
 
 one_awaited : (a : Bool) (r i : ℕ) → i ≡ r → list_any (λ w. eqb w i) (cond a (r ∷ []) []) ≡ a
 one_awaited true r i same = rw (eq-eqb r i (sym same)) refl

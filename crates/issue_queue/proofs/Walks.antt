@@ -1,5 +1,5 @@
 -- What walks over the places of a word keep.
-use Rattle.std.proofs.Common.{◌≡◌, ℕ, ◌<◌, ◌≤◌, true, false, not, ◌&&◌, List, map, take, length, ◌⊎◌}
+use Rattle.std.proofs.Common.{◌≡◌, ℕ, ◌<◌, ◌≤◌, Bool, true, false, not, ◌&&◌, List, take, length, ◌⊎◌}
 use Rattle.std.specs.Prelude.{nat_lt, slice_index}
 use Rattle.core_view.specs.declared.note.EntryId.{EntryId}
 use Rattle.issue_queue.specs.declared.places.Places.{Places}
@@ -7,28 +7,26 @@ use Rattle.issue_queue.specs.declared.slots.Slots.{Slots}
 use Rattle.issue_queue.specs.declared.selecting.Candidate.{Candidate}
 use Rattle.word_mask.specs.Mask.{has}
 use Rattle.issue_queue.specs.Board.{slot, InStep}
-use Rattle.issue_queue.specs.Candidates.{is_at}
-use Rattle.issue_queue.specs.Entry.{is_named}
-use Rattle.issue_queue.specs.IssueQueue.{is_from}
+use Rattle.issue_queue.specs.Candidates.{is_at, names_of}
+use Rattle.issue_queue.specs.Entry.{Entry, is_named}
 use Rattle.issue_queue.specs.Stamps.{stamp_at}
-use Rattle.issue_queue.specs.Views.{name_of}
 
 -- the places of the word that are not left have another name
 pub record IsSought (b : Places) (context stamp left : ℕ) : Type 0 where
   pub taken : (p : ℕ) → has left p ≡ true → has b.valid p ≡ true
   pub others : (p : ℕ) → has (slice_index b.contexts context) p ≡ true → (has left p ≡ true) ⊎ (is_named context stamp (slot b.slots p) ≡ false)
 
--- those of the word that are not left are free, where they have at least this stamp
-pub record IsCut (a b : Places) (context stamp left : ℕ) : Type 0 where
+-- those of the word that are not left are free, where they pass the test
+pub record IsCut (a b : Places) (word : ℕ) (test : Entry → Bool) (left : ℕ) : Type 0 where
   pub step : InStep b
   pub slots : (p : ℕ) → has b.valid p ≡ true → slot b.slots p ≡ slot a.slots p
-  pub valid : (p : ℕ) → has b.valid p ≡ (has a.valid p && not ((has (slice_index a.contexts context) p && not (has left p)) && is_from context stamp (slot a.slots p)))
-  pub within : (p : ℕ) → has left p ≡ true → has (slice_index a.contexts context) p ≡ true
+  pub valid : (p : ℕ) → has b.valid p ≡ (has a.valid p && not ((has word p && not (has left p)) && test (slot a.slots p)))
+  pub within : (p : ℕ) → has left p ≡ true → has word p ≡ true
 
 -- the word has the places of the first i candidates, whose names are listed
-pub record IsTaken (slots : Slots) (best : List Candidate) (i chosen : ℕ) (names : List EntryId) : Type 0 where
-  pub bits : (p : ℕ) → has chosen p ≡ is_at (take i best) p
-  pub names_are : names ≡ map (λ c. name_of (slot slots c.place)) (take i best)
+pub record AreNamed (slots : Slots) (best : List Candidate) (i word : ℕ) (names : List EntryId) : Type 0 where
+  pub places : (p : ℕ) → has word p ≡ is_at (take i best) p
+  pub names_are : names ≡ names_of slots (take i best)
   pub count : length names ≡ i
 
 -- the least stamp of the places of the word that are not left

@@ -1,19 +1,15 @@
 //! The 64 places of the queue, and words with a bit for each.
 
-ghost use Rattle.std.specs.Prelude.{◌≡◌, ℕ, ◌<◌, ◌≤◌, true, false, [], not, ◌&&◌, ◌||◌, ◌==◌, ◌^◌, slice_index, length, map, All, count_ones, if◌then◌else◌, IfSome, IfNone};
+ghost use Rattle.std.specs.Prelude.{◌≡◌, ℕ, ◌<◌, true, false, not, ◌&&◌, ◌||◌, ◌==◌, ◌^◌, slice_index, count_ones, if◌then◌else◌, IfSome, IfNone};
 ghost use Rattle.word_mask.specs.Mask.{has};
 ghost use Rattle.issue_queue.specs.Board.{InStep, IsMask, is_of, slot};
-ghost use Rattle.issue_queue.specs.Candidates.{is_at};
 ghost use Rattle.issue_queue.specs.Entry.{is_named, is_ready, is_supplied, waits_for_two};
 ghost use Rattle.issue_queue.specs.IssueQueue.{awake, is_from, released};
 ghost use Rattle.issue_queue.specs.Stamps.{IsPlaceOfOldest};
-ghost use Rattle.issue_queue.specs.Views.{AreAlike, entered, name_of};
+ghost use Rattle.issue_queue.specs.Views.{AreAlike, entered};
 
-use crate::selecting::Candidate;
-use crate::slots::{Slots, mark};
+use crate::slots::{Slots, either, mark};
 use crate::{Reading, stamps};
-use arrayvec::ArrayVec;
-use core_view::EntryId;
 use join_law::Ctx;
 use rename_file::PhysicalRegister;
 
@@ -68,13 +64,6 @@ fn two_bit(place: usize, reading: &Reading) -> u64
     } else {
         word_mask::both(first, second)
     }
-}
-
-/// The bits that one of two words has.
-fn either(left: u64, right: u64) -> u64
-    ensures { (p : ℕ) → has result p ≡ (has left p || has right p) }
-{
-    left | right
 }
 
 impl Places {
@@ -160,6 +149,17 @@ impl Places {
         ensures slots { (p : ℕ) → slot self.new.slots p ≡ (if p == place then record (slot self.old.slots p) { held = held } else slot self.old.slots p) }
     {
         self.slots.set_held(place, held);
+    }
+
+    /// Holds the entries of the places of a word, beside those that are held.
+    pub(crate) fn hold_all(&mut self, word: u64)
+        requires step { InStep self.old }
+        requires taken { (p : ℕ) → has word p ≡ true → has self.old.valid p ≡ true }
+        ensures step { InStep self.new }
+        ensures valid { self.new.valid ≡ self.old.valid }
+        ensures slots { (p : ℕ) → slot self.new.slots p ≡ (if has word p then record (slot self.old.slots p) { held = true } else slot self.old.slots p) }
+    {
+        self.slots.hold_all(word);
     }
 
     /// Lets all entries go.
@@ -266,25 +266,6 @@ impl Places {
         Some(older.count_ones() as usize)
     }
 
-    /// Frees the places of candidates that are ready, and puts the names of what stood there into a list.
-    pub(crate) fn take(&mut self, best: &[Candidate], names: &mut ArrayVec<EntryId, 8>)
-        requires step { InStep self.old }
-        requires empty { names.old.items ≡ [] }
-        requires short { length best.now ≤ 8 }
-        requires ready { All (λ c. (c.place < 64) × (is_ready (slot self.old.slots c.place) ≡ true)) best.now }
-        ensures step { InStep self.new }
-        ensures valid { (p : ℕ) → has self.new.valid p ≡ (has self.old.valid p && not (is_at best.now p)) }
-        ensures slots { (p : ℕ) → has self.new.valid p ≡ true → slot self.new.slots p ≡ slot self.old.slots p }
-        ensures names { names.new.items ≡ map (λ c. name_of (slot self.old.slots c.place)) best.now }
-    {
-        let mut chosen = 0u64;
-        for candidate in best {
-            names.push(self.slots.at(candidate.place).name());
-            chosen = word_mask::assigned(chosen, candidate.place, true);
-        }
-        self.free_ready(chosen);
-    }
-
     /// Frees the places of a word, whose entries are ready.
     pub(crate) fn free_ready(&mut self, word: u64)
         requires step { InStep self.old }
@@ -298,5 +279,41 @@ impl Places {
         self.two = word_mask::without(self.two, word);
         word_mask::without_each(&mut self.contexts, word);
         self.slots.forget_flags(word);
+    }
+
+    /// Frees the places of a word one by one, whatever their entries wait for.
+    #[cold]
+    #[inline(never)]
+    fn free_each(&mut self, word: u64)
+        requires step { InStep self.old }
+        requires taken { (p : ℕ) → has word p ≡ true → has self.old.valid p ≡ true }
+        ensures step { InStep self.new }
+        ensures valid { (p : ℕ) → has self.new.valid p ≡ (has self.old.valid p && not (has word p)) }
+        ensures slots { (p : ℕ) → has self.new.valid p ≡ true → slot self.new.slots p ≡ slot self.old.slots p }
+    {
+        let mut left = word;
+        while left != 0 {
+            let place = word_mask::lowest(left);
+            left = word_mask::cleared(left, place);
+            self.free(place);
+        }
+    }
+
+    /// Frees the places whose entries are held. What waits for nothing, as nearly all of it does, leaves by words alone.
+    #[inline(always)]
+    pub(crate) fn free_held(&mut self)
+        requires { InStep self.old }
+        ensures step { InStep self.new }
+        ensures valid { (p : ℕ) → has self.new.valid p ≡ (has self.old.valid p && not (slot self.old.slots p).held) }
+        ensures slots { (p : ℕ) → has self.new.valid p ≡ true → slot self.new.slots p ≡ slot self.old.slots p }
+    {
+        let held = self.slots.held();
+        let supplied = word_mask::both(held, self.supplied);
+        let waiting = word_mask::without(held, self.supplied);
+        self.release();
+        self.free_ready(supplied);
+        if waiting != 0 {
+            self.free_each(waiting);
+        }
     }
 }

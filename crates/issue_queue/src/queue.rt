@@ -5,8 +5,8 @@ ghost use Rattle.std.specs.List.{list_any};
 ghost use Rattle.word_mask.specs.Mask.{has};
 ghost use Rattle.issue_queue.specs.Entry.{is_named, is_ready_load};
 ghost use Rattle.issue_queue.specs.Board.{waits_for};
-ghost use Rattle.issue_queue.specs.IssueQueue.{awake, with_speculative, with_held, released, is_from};
-ghost use Rattle.issue_queue.specs.IsSelected.{IsSelected};
+ghost use Rattle.issue_queue.specs.IssueQueue.{awake, with_speculative, with_held, hold_among, released, is_from};
+ghost use Rattle.issue_queue.specs.IsSelected.{IsSelected, is_among};
 ghost use Rattle.issue_queue.specs.Stamps.{place_of_oldest};
 ghost use Rattle.issue_queue.specs.Views.{AreAlike, entered, entry_of, view_of};
 
@@ -189,14 +189,37 @@ impl Queue {
     {
         let ready = self.places.ready();
         let above = self.arrivals.above;
-        if order.is_by_stamp() && ready.count_ones() as usize <= width {
-            selecting::list_all(names, &self.places.slots, ready, above);
-            self.places.free_ready(ready);
-            return;
-        }
-        let mut best = ArrayVec::new();
-        selecting::choose(&mut best, &self.places.slots, ready, order, width, above);
-        self.places.take(best.as_slice(), names);
+        let first = selecting::list_first(names, &self.places.slots, ready, order, width, above);
+        self.places.free_ready(first);
+    }
+
+    /// Lists the first ready entries by (key, stamp), at most `width` of them, in that order, and holds them. No entry
+    /// leaves.
+    #[inline(always)]
+    pub fn hold_first<O: Order>(
+        &mut self,
+        order: &O,
+        width: usize,
+        names: &mut ArrayVec<EntryId, 8>,
+    )
+        requires width { width ≤ 8 }
+        requires empty { names.old.items ≡ [] }
+        ensures capacity { self.new.capacity ≡ self.old.capacity }
+        ensures held { self.new.entries ≡ map (hold_among names.new.items) self.old.entries }
+        ensures selected { IsSelected (λ e. O.key_of order.now (view_of e)) width self.old.entries (filter (λ e. not (is_among names.new.items e)) self.old.entries) names.new.items }
+    {
+        let ready = self.places.ready();
+        let above = self.arrivals.above;
+        let first = selecting::list_first(names, &self.places.slots, ready, order, width, above);
+        self.places.hold_all(first);
+    }
+
+    /// Drops what is held.
+    #[inline(always)]
+    pub fn drop_held(&mut self)
+        ensures { self.new ≡ record self.old { entries = filter (λ e. not e.held) self.old.entries } }
+    {
+        self.places.free_held();
     }
 
     /// Drops the entries of a context that have at least this stamp.

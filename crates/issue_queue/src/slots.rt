@@ -1,6 +1,6 @@
 //! What stands at each of the 64 places of the queue.
 
-ghost use Rattle.std.specs.Prelude.{◌≡◌, ℕ, ◌<◌, ◌==◌, ◌&&◌, not, true, false, length, slice_index, slice_set, if◌then◌else◌};
+ghost use Rattle.std.specs.Prelude.{◌≡◌, ℕ, ◌<◌, ◌==◌, ◌&&◌, ◌||◌, not, true, false, length, slice_index, slice_set, if◌then◌else◌};
 ghost use Rattle.std.specs.List.{list_any};
 ghost use Rattle.word_mask.specs.Mask.{has};
 ghost use Rattle.issue_queue.specs.Board.{slot, unflagged, waits_for};
@@ -65,6 +65,13 @@ fn add_sources(words: &mut [u64; 480], reading: &Reading, place: usize)
 {
     add_source(words, &reading.first, place);
     add_source(words, &reading.second, place);
+}
+
+/// The bits that one of two words has.
+pub(crate) fn either(left: u64, right: u64) -> u64
+    ensures { (p : ℕ) → has result p ≡ (has left p || has right p) }
+{
+    left | right
 }
 
 impl Slots {
@@ -197,6 +204,14 @@ impl Slots {
         ensures waiters { self.new.waiters ≡ self.old.waiters }
     {
         self.held = word_mask::assigned(self.held, place, held);
+    }
+
+    /// Holds the entries at the places of a word, beside those that are held.
+    pub(crate) fn hold_all(&mut self, word: u64)
+        ensures slots { (p : ℕ) → slot self.new p ≡ (if has word p then record (slot self.old p) { held = true } else slot self.old p) }
+        ensures waiters { self.new.waiters ≡ self.old.waiters }
+    {
+        self.held = either(self.held, word);
     }
 
     /// Lets all entries go.

@@ -188,6 +188,21 @@ fn leaves_a_held_one(rt: HostRuntime) {
 }
 
 #[test]
+fn holds_what_it_lists(rt: HostRuntime) {
+    let mut flow = of_three(&rt, rt.alloc());
+    let [first, second, ..] = Ctx::all();
+    let mut held = ArrayVec::new();
+    flow.hold_first(&OldestFirst, 8, &mut held);
+    assert!(&rt; has_stamps(held.as_slice(), &[1, 3]));
+    let all = [flow.waiting_count(first), flow.waiting_count(second)];
+    flow.hold(second, 3, false);
+    flow.drop_held();
+    let left = [flow.waiting_count(first), flow.waiting_count(second)];
+    assert_equal(&rt, [all, left], [[2, 1], [1, 1]]);
+    assert_selected(&rt, &mut flow, &OldestFirst, &[3]);
+}
+
+#[test]
 fn takes_a_speculative_one_last(rt: HostRuntime) {
     let mut flow = of_three(&rt, rt.alloc());
     let [first, ..] = Ctx::all();

@@ -2,6 +2,7 @@
 
 use crate::equal::assert_equal;
 use crate::selected::has_stamps;
+use arrayvec::ArrayVec;
 use core_profile::IssuePolicy;
 use issue_queue::{
     BranchFirst, NamedOrder, OldestFirst, Order, Queue, QueueFault, SpecLast, Waiting,
@@ -65,6 +66,13 @@ fn assert_selected<O: Order>(rt: &impl Abort, queue: &mut Queue, order: &O, stam
     assert!(rt; has_stamps(selected.as_slice(), stamps));
 }
 
+// So many of the oldest are held, at most eight: these, first to last.
+fn assert_held(rt: &impl Abort, queue: &mut Queue, width: usize, stamps: &[u64]) {
+    let mut held = ArrayVec::new();
+    queue.hold_first(&OldestFirst, width.min(8), &mut held);
+    assert!(rt; has_stamps(held.as_slice(), stamps));
+}
+
 // Ready entries 10 (context 0), 11 (context 1, guessed), 12 (context 1, speculative), 13 (context 0).
 fn four_ready(rt: &impl Abort) -> Queue {
     let mut queue = Queue::new(8);
@@ -113,6 +121,10 @@ enum Step {
     Selects(&'static [u64]),
     /// A load is held, or let go.
     Holds(usize, u64, bool),
+    /// So many of the oldest that are ready are held where they stand: these.
+    HoldsFirst(usize, &'static [u64]),
+    /// What is held is dropped.
+    DropsHeld,
     /// The entries of a context from a stamp on are dropped.
     DropsFrom(usize, u64),
     /// There are so many entries.
@@ -126,8 +138,8 @@ enum Step {
 }
 
 use Step::{
-    Counts, DropsFrom, Has, HasReadyLoads, Holds, OldestIsAt, Puts, PutsBelow, PutsBranch,
-    PutsLoad, Refuses, Selects, Wakes,
+    Counts, DropsFrom, DropsHeld, Has, HasReadyLoads, Holds, HoldsFirst, OldestIsAt, Puts,
+    PutsBelow, PutsBranch, PutsLoad, Refuses, Selects, Wakes,
 };
 
 const READY: [Option<usize>; 2] = [None, None];
@@ -185,6 +197,22 @@ const LEAVES_A_HELD_ENTRY: &[Step] = &[
     Selects(&[2]),
     Holds(0, 1, false),
     Selects(&[1]),
+];
+
+/// Of two that are held one is let go again.
+const HOLDS_WHAT_IT_LISTS: &[Step] = &[
+    Puts(0, 3, READY),
+    Puts(1, 2, READY),
+    Puts(0, 1, READY),
+    Puts(2, 0, [Some(7), None]),
+    HoldsFirst(2, &[1, 2]),
+    Has(4),
+    Selects(&[3]),
+    Holds(1, 2, false),
+    DropsHeld,
+    Has(2),
+    Selects(&[2]),
+    Has(1),
 ];
 
 const TELLS_WHICH_CONTEXTS_HAVE_A_READY_LOAD: &[Step] = &[
@@ -245,6 +273,8 @@ fn assert_step(rt: &impl Abort, queue: &mut Queue, step: &Step) {
         Wakes(number, count) => assert_equal(rt, queue.wake(register(rt, number)), count),
         Selects(stamps) => assert_selected(rt, queue, &OldestFirst, stamps),
         Holds(number, stamp, held) => queue.hold(context(rt, number), stamp, held),
+        HoldsFirst(width, stamps) => assert_held(rt, queue, width, stamps),
+        DropsHeld => queue.drop_held(),
         DropsFrom(number, stamp) => queue.drop_from(context(rt, number), stamp),
         Has(len) => assert_len(rt, queue, len),
         HasReadyLoads(contexts) => assert_equal(rt, queue.contexts_with_ready_load(), contexts),
@@ -304,6 +334,7 @@ fn wakes_refuses_holds_and_counts(rt: HostRuntime) {
         WAITS_FOR_BOTH_SOURCES,
         REFUSES_WHERE_FULL,
         LEAVES_A_HELD_ENTRY,
+        HOLDS_WHAT_IT_LISTS,
         TELLS_WHICH_CONTEXTS_HAVE_A_READY_LOAD,
         COUNTS_THE_ENTRIES_OF_A_CONTEXT,
     ] {

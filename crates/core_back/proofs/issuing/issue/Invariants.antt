@@ -1,18 +1,19 @@
 use Rattle.std.proofs.Common.{◌≡◌, ◌+◌, ◌≤◌, length}
+use Rattle.core_back.specs.Issuing.{IsIssuingAsked}
 use Rattle.core_back.specs.Machine.{IsAlike, in_flight}
-use Rattle.core_back.proofs.IssueViews.{IsIssuing}
 use Rattle.core_back.proofs.issuing.issue.Given as goal
 
-abbrev pub invariant-loop-place : goal.invariant-loop-place
-invariant-loop-place g l = record {
+abbrev pub invariant-loop-machine : goal.invariant-loop-machine
+invariant-loop-machine g l = record {
   alike : IsAlike l.fn.machine l.machine;
-  issuing : IsIssuing (g.O.Order.key_of l.order) (g.D.Delay.may_answer l.fn.delay) l.width l.fn.machine l.machine (g.L.Listing.items l.issued);
+  issuing : IsIssuingAsked (g.O.Order.key_of l.order) (g.D.Delay.may_answer l.fn.delay) l.width l.fn.machine l.machine (g.L.Listing.items l.issued);
   profile : l.width ≡ l.fn.machine.view.profile.issue_width;
-  left : length l.machine.names + l._place ≡ l._place-end;
-  most : l._place-end ≤ l.width;
   width : l.width ≤ 8;
   flights : in_flight l.machine ≡ in_flight l.fn.machine;
-  room : length (g.L.Listing.items l.issued) ≤ l._place;
+  room : length (g.L.Listing.items l.issued) + length l.machine.names ≤ l.width;
   keeps : g.D.Delay.may_answer l.delay ≡ g.D.Delay.may_answer l.fn.delay;
   greatest : g.D.Delay.greatest_lag l.delay ≡ g.D.Delay.greatest_lag l.fn.delay;
 }
+
+abbrev pub decreases-loop-machine : goal.decreases-loop-machine
+decreases-loop-machine g l = length l.machine.names

@@ -1,11 +1,13 @@
 use Rattle.std.proofs.Common.{refl, sym}
+use Rattle.core_context.proofs.Issues.{issued_if_some}
 use Rattle.core_context.proofs.events.issue_at.Goals as goal
-
-pub perform-requires-clause-clear : goal.perform-requires-clause-clear
-perform-requires-clause-clear g c = c.requires.issuable.clear c.read_sources-values.result.0 c.read_sources-values.result.1 (sym c.read_sources-values.ensures)
 
 pub returns-clause-issued : goal.returns-clause-issued
 returns-clause-issued g c =
+    issued_if_some _ c.args.flow.now c.args.context c.args.cycle c.args.place c.read_sources-values.result.0 c.read_sources-values.result.1 c.args.track.now c.perform.new.track c.perform.result c.requires.place c.read_sources-values.ensures c.perform.ensures.clear c.perform.ensures.issued
+
+pub returns-clause-waits : goal.returns-clause-waits
+returns-clause-waits g c = λ none.
     record {
       place = c.args.place;
       first = c.read_sources-values.result.0;
@@ -13,6 +15,5 @@ returns-clause-issued g c =
       within = c.requires.place;
       stamp = refl;
       sources = sym c.read_sources-values.ensures;
-      stated = c.perform.ensures.issued.stated;
-      after = c.perform.ensures.issued.after;
+      waits = c.perform.ensures.waits none;
     }

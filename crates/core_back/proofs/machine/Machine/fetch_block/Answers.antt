@@ -48,7 +48,7 @@ invariant_of-self g c =
     machine_fetched c.self.inside _ c.args.self.now c.args.context c.index.result c.fetch_block-number.result c.fetch_block-number.new.track c.self.view_is c.self.invariant c.requires.idle (omega (arith, c.index.ensures))
     (e.kept (start (arc_value c.self.inside.origins.c0) c.args.context) c.self.inside.profile.reorder_buffer c.self.inside.flow core)
     (e.loads ∙ ap (λ (t : Track). t.load_places) h.track) (e.stores ∙ ap (λ (t : Track). t.store_places) h.track) c.index.ensures.value refl refl refl refl refl refl
-    (omega (arith, c.fetch_block-number.ensures.most, c.most_in_turn-most.ensures)) refl refl
+    (omega (arith, c.fetch_block-number.ensures.most, c.most_in_turn-most.ensures)) refl
 
 pub returns-clause-turn : goal.returns-clause-turn
 returns-clause-turn g c =

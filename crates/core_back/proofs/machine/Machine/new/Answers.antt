@@ -1,13 +1,13 @@
-use Rattle.std.proofs.Common.{rules, arith, refl, sym, ap, subst, ◌≡◌, [], List, get_or, slice_index, ◌∙◌, All, false}
+use Rattle.std.proofs.Common.{rules, arith, refl, sym, ap, subst, ◌≡◌, [], List, get_or, slice_index, ◌∙◌, All, true}
 use Rattle.std.specs.Prelude.{AllPairs}
 use Rattle.std.specs.Arc.{arc_value}
 use Rattle.join_law.specs.Eight.{place_of}
 use Rattle.core_view.specs.declared.note.EntryId.{EntryId}
 use Rattle.data_flow.specs.Flow.{waits_in}
-use Rattle.core_context.specs.Issuable.{IsClear}
+use Rattle.core_context.specs.Issuable.{IsMarked}
 use Rattle.core_context.specs.Track.{Track}
 use Rattle.core_back.specs.Machine.{no_track}
-use Rattle.core_back.specs.Shown.{AreApart, IsSuppliedIn}
+use Rattle.core_back.specs.Shown.{AreApart, IsSuppliedIn, waiting_in, waiting_flow}
 use Rattle.core_back.proofs.FirstMachine.{first_core, mark_of_first, origin_of_first, first_context_at, count_of_tracks}
 use Rattle.core_back.proofs.machine.Machine.new.Goals as goal
 
@@ -16,17 +16,17 @@ invariant_of-result g c =
     let empty : c.new.result ≡ [] = c.new.ensures in
     let origin : arc_value c.in_ok-origins.origins.c0 ≡ c.args.marks.now.c0.origin = c.in_ok-origins.ensures 0 (omega arith) in
     record {
-      cores = λ d lt. first_core c.args.profile.now (arc_value c.in_ok-origins.origins.c0) d (slice_index c.args.targets.now d) (place_of c.args.marks.now d) c.in_ok-flow.flow c.new.result (get_or c.in_ok-tracks.tracks.items d no_track)
-          (mark_of_first (arc_value c.in_ok-origins.origins.c0) c.args.marks.now d c.requires.aligned origin lt) (c.requires.targets d lt) c.in_ok-flow.ensures.waiters empty (c.in_ok-flow.ensures.set d lt) (c.in_ok-tracks.ensures.each d lt);
+      cores = λ d lt. first_core c.args.profile.now (arc_value c.in_ok-origins.origins.c0) d (slice_index c.args.targets.now d) (place_of c.args.marks.now d) (waiting_flow c.new.result c.in_ok-flow.flow) [] (get_or c.in_ok-tracks.tracks.items d no_track)
+          (mark_of_first (arc_value c.in_ok-origins.origins.c0) c.args.marks.now d c.requires.aligned origin lt) (c.requires.targets d lt) (subst (λ (ns : List EntryId). waiting_in ns c.in_ok-flow.flow.waiters ≡ []) (sym empty) c.in_ok-flow.ensures.waiters) refl (c.in_ok-flow.ensures.set d lt) (c.in_ok-tracks.ensures.each d lt);
       origins = λ d lt. origin_of_first (arc_value c.in_ok-origins.origins.c0) (arc_value (place_of c.in_ok-origins.origins d)) c.args.marks.now d c.requires.aligned origin lt (c.in_ok-origins.ensures d lt);
       tracks = c.in_ok-tracks.ensures.count;
       lanes = c.in_ok-flow.ensures.count;
       contexts = rw c.in_ok-flow.ensures.waiters (λ i d lt. absurd (omega arith));
-      let_go = λ unheld. rw c.in_ok-flow.ensures.waiters (λ i d lt. absurd (omega arith));
+      let_go = λ none. rw c.in_ok-flow.ensures.waiters (λ i d lt. absurd (omega arith));
       apart = subst (λ (ns : List EntryId). AllPairs AreApart ns) (sym empty) (λ i j d lt below. absurd (omega arith));
       supplied = subst (λ (ns : List EntryId). All (IsSuppliedIn c.in_ok-flow.flow) ns) (sym empty) (search rules);
-      clear = subst (λ (ns : List EntryId). All (λ n. IsClear c.in_ok-flow.flow n.context (get_or c.in_ok-tracks.tracks.items n.context no_track) n.stamp) ns) (sym empty) (λ i d lt. absurd (omega arith));
-      left = subst (λ (ns : List EntryId). All (λ n. waits_in c.in_ok-flow.flow n.context n.stamp ≡ false) ns) (sym empty) (search rules);
+      held = subst (λ (ns : List EntryId). All (λ n. IsMarked c.in_ok-flow.flow n.context n.stamp true) ns) (sym empty) (λ i d lt. absurd (omega arith));
+      waits = subst (λ (ns : List EntryId). All (λ n. waits_in (waiting_flow ns c.in_ok-flow.flow) n.context n.stamp ≡ true) ns) (sym empty) (λ i d lt. absurd (omega arith));
       stamps = omega arith;
       room = record {
         registers = c.in_ok-flow.ensures.extra;

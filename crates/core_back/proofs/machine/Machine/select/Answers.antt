@@ -1,70 +1,26 @@
-use Rattle.std.proofs.Common.{◌≡◌, ℕ, ◌||◌, List, length, sym, ap, subst, arith, refl, ◌∙◌}
+use Rattle.std.proofs.Common.{◌≡◌, List, length, arith, refl, ap}
 use Rattle.std.proofs.lemmas.List.{length-map}
-use Rattle.std.specs.Prelude.{◌==◌, ◌&&◌, not}
-use Rattle.word_mask.specs.Mask.{has}
 use Rattle.issue_queue.specs.Views.{name_of}
 use Rattle.core_view.specs.declared.note.EntryId.{EntryId}
-use Rattle.core_context.proofs.Laws.{core_answered}
-use Rattle.core_back.proofs.MachineIssues.{held_first, context_next, held_nodes, held_next, selected_machine, selected_shown, selected_choice}
+use Rattle.core_context.specs.Steps.{IsRemarked}
+use Rattle.core_back.proofs.Machines.{idle_names}
+use Rattle.core_back.proofs.MachineIssues.{selected_machine, supplied_choice}
 use Rattle.core_back.proofs.machine.Machine.select.Goals as goal
-use Rattle.core_back.proofs.machine.Machine.select.Goals.{then-self, else-self}
-
-pub release-requires : goal.release-requires
-release-requires g c = c.self.invariant.let_go
-
-pub loop-left-init : goal.loop-left-init
-loop-left-init g c = record {
-  machine = c.self.inside;
-  shows = c.self.view_is;
-  ok = c.self.invariant;
-  so_far = held_first c.self.inside _ c.args.self.now c.contexts_with_ready_load-left.result c.self.view_is c.self.invariant c.requires.idle c.release.ensures c.contexts_with_ready_load-left.ensures.known c.contexts_with_ready_load-left.ensures.lacking refl refl refl refl refl refl;
-}
-
-pub first_context-context-requires-clause-known : goal.first_context-context-requires-clause-known
-first_context-context-requires-clause-known g c = c.loop-left.invariant.so_far.known
-
-pub hold_loads-held-requires-clause-nodes : goal.hold_loads-held-requires-clause-nodes
-hold_loads-held-requires-clause-nodes g c =
-    let h = context_next c.loop-left.invariant.machine c.loop-left.self-inside c.args.self.now c.loop-left.left c.first_context-context.result c.index.result c.index-track.result.now c.loop-left.invariant.shows c.loop-left.invariant.ok c.loop-left.invariant.so_far c.first_context-context.ensures c.index.ensures.value c.index-track.ensures in
-    held_nodes c.loop-left.invariant.machine c.loop-left.self-inside c.args.self.now c.loop-left.left c.first_context-context.result c.index-track.result.now h c.loop-left.invariant.so_far
-
-pub hold_loads-held-requires-clause-answered : goal.hold_loads-held-requires-clause-answered
-hold_loads-held-requires-clause-answered g c i lt =
-    let h = context_next c.loop-left.invariant.machine c.loop-left.self-inside c.args.self.now c.loop-left.left c.first_context-context.result c.index.result c.index-track.result.now c.loop-left.invariant.shows c.loop-left.invariant.ok c.loop-left.invariant.so_far c.first_context-context.ensures c.index.ensures.value c.index-track.ensures in
-    core_answered h.core i (omega (arith, lt))
-
-pub hold_loads-held-requires-clause-let_go : goal.hold_loads-held-requires-clause-let_go
-hold_loads-held-requires-clause-let_go g c = c.loop-left.invariant.so_far.rest c.first_context-context.result c.first_context-context.ensures
-
-pub loop-left-preserved : goal.loop-left-preserved
-loop-left-preserved g c =
-    let h = context_next c.loop-left.invariant.machine c.loop-left.self-inside c.args.self.now c.loop-left.left c.first_context-context.result c.index.result c.index-track.result.now c.loop-left.invariant.shows c.loop-left.invariant.ok c.loop-left.invariant.so_far c.first_context-context.ensures c.index.ensures.value c.index-track.ensures in
-    let word = subst (λ i. (p : ℕ) → has c.cleared-left.result p ≡ (has c.loop-left.left p && not (p == i))) c.index-in-loop-left.ensures.value c.cleared-left.ensures.bits in
-    record {
-      machine = c.loop-left.invariant.machine;
-      shows = c.loop-left.invariant.shows;
-      ok = c.loop-left.invariant.ok;
-      so_far = held_next c.loop-left.invariant.machine c.loop-left.self-inside _ c.args.self.now c.loop-left.left c.cleared-left.result c.first_context-context.result c.index-track.result.now c.hold_loads-held.result h c.loop-left.invariant.so_far word
-          c.hold_loads-held.ensures.flow c.hold_loads-held.ensures.held c.hold_loads-held.ensures.others c.hold_loads-held.ensures.none refl refl refl refl refl refl
-          (elim c.if-self.branch [
-            | then-self w ↦ w.self-is ∙ w.if-self.true ∙ sym (ap (λ b. b || c.hold_loads-held.result) w.if-self.true)
-            | else-self w ↦ w.self-is ∙ sym (ap (λ b. b || c.hold_loads-held.result) w.if-self.false)
-          ]);
-    }
 
 pub invariant_of-self : goal.invariant_of-self
 invariant_of-self g c =
-    selected_machine c.loop-left.invariant.machine c.loop-left.self-inside _ c.args.self.now c.loop-left.left c.loop-left.invariant.shows c.loop-left.invariant.ok c.requires.idle c.loop-left.invariant.so_far c.loop-left-test.false c.select.ensures.lanes c.select.ensures.selected refl refl refl refl refl refl refl refl
+    let m = c.self.inside in
+    let same : IsRemarked m.flow m.flow = record { flow = refl; waits = refl } in
+    selected_machine m _ c.args.self.now m.flow m.flow c.self.view_is c.self.invariant c.requires.idle same c.hold_first.ensures.selected same (c.self.invariant.let_go (idle_names m c.args.self.now c.self.view_is c.requires.idle)) c.hold_first.ensures.flow
+    refl refl refl refl refl refl refl
 
 pub returns-clause-selected : goal.returns-clause-selected
-returns-clause-selected g c = selected_shown c.loop-left.invariant.machine c.loop-left.self-inside c.args.self.now c.loop-left.left c.select.new.self c.loop-left.invariant.shows c.loop-left.invariant.so_far
+returns-clause-selected g c = rw (← c.self.view_is) refl
 
 pub returns-clause-choice : goal.returns-clause-choice
-returns-clause-choice g c =
-    selected_choice c.loop-left.invariant.machine c.loop-left.self-inside c.select.new.flow c.args.self.now c.loop-left.left (g.O.Order.key_of c.args.order.now) c.args.width c.select.new.self
-    c.loop-left.invariant.shows c.loop-left.invariant.ok c.requires.idle c.loop-left.invariant.so_far c.loop-left-test.false c.select.ensures.selected
+returns-clause-choice g c = supplied_choice c.self.inside c.args.self.now (g.O.Order.key_of c.args.order.now) c.args.width _ c.hold_first.new.self c.self.view_is c.self.invariant c.requires.idle c.hold_first.ensures.selected
 
 pub returns-clause-most : goal.returns-clause-most
 returns-clause-most g c =
-    let s = c.select.ensures.selected in
+    let s = c.hold_first.ensures.selected in
     omega (arith, s.at_most, ap (λ (names : List EntryId). length names) s.names, length-map s.chosen name_of)

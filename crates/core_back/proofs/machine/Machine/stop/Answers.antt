@@ -28,7 +28,7 @@ pub invariant_of-self : goal.invariant_of-self
 invariant_of-self g c =
     let h = here g (goal.at.invariant_of-self g c).After-index_mut-track in
     machine_after_event c.self.inside _ c.args.self.now c.args.context c.index.result c.index_mut-track.result.now c.stop.new.track c.stop.new.flow c.self.view_is c.self.invariant c.requires.idle (omega (arith, c.index.ensures)) h c.stop.ensures.event
-    c.index.ensures.value refl refl refl refl refl refl refl refl refl
+    c.index.ensures.value refl refl refl refl refl refl refl refl
 
 pub returns-clause-stopped : goal.returns-clause-stopped
 returns-clause-stopped g c =

@@ -15,8 +15,8 @@ invariant_of-self g c =
       let_go = ok.let_go;
       apart = ok.apart;
       supplied = ok.supplied;
-      clear = ok.clear;
-      left = ok.left;
+      held = ok.held;
+      waits = ok.waits;
       stamps = omega (arith, ok.stamps);
       room = ok.room;
     }

@@ -1,5 +1,0 @@
-use Rattle.issue_queue.proofs.Masks.{has_either}
-use Rattle.issue_queue.proofs.places.either.Goals as goal
-
-pub returns : goal.returns
-returns c = has_either c.args.left c.args.right
