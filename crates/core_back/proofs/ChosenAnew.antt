@@ -1,14 +1,11 @@
 -- Some of what was selected unasked has issued, the next has to wait, and the rest of the width is selected anew, asked first:
 -- what issued and what is selected now are together what would have been selected, had each been asked before.
 use Rattle.std.proofs.Common.{◌≡◌, ℕ, zero, suc, ◌+◌, ◌<◌, ◌≤◌, Bool, true, false, List, [], ◌∷◌, ◌++◌, length, take, map, get_or, Some, None, refl, sym, ap, ◌∙◌, subst, arith, inl, inr}
-use Rattle.std.specs.Prelude.{◌==◌, ◌&&◌, ◌⊎◌, if◌then◌else◌, find, All, AllPairs, Contains}
-use Rattle.std.specs.Bool.{Decides}
-use Rattle.std.specs.Set.{is_member}
+use Rattle.std.specs.Prelude.{◌==◌, ◌&&◌, if◌then◌else◌, find, All, AllPairs, Contains}
 use Rattle.std.proofs.lemmas.Bool.{cases_lt, cases_Bool, eqb-true, eq-eqb, and_parts, and_from, true≢false}
 use Rattle.std.proofs.lemmas.List.{length-append, length-take-le, map-append, take-map, take_at, length-map, get_or-take, get_or_append_left, get_or_default}
 use Rattle.std.proofs.lemmas.List.Elements.{All-head, All-tail, All-append, All-take, All-from_get_or, All-weaker, Contains-append_left, Contains-append_right}
 use Rattle.std.proofs.lemmas.List.Kept.{AllPairs-cons}
-use Rattle.std.proofs.lemmas.Map.Made.{is_member-Decides}
 use Rattle.word_mask.proofs.Lists.{AllPairs-head, AllPairs-tail}
 use Rattle.issue_queue.specs.declared.entry.QueueView.{QueueView}
 use Rattle.issue_queue.proofs.Lists.{map_agree_on}
@@ -21,6 +18,7 @@ use Rattle.core_view.specs.Events.{with_flight}
 use Rattle.core_view.specs.View.{View}
 use Rattle.lawful_cycle.specs.Views.{context_in, ChangesEach, is_id}
 use Rattle.lawful_cycle.specs.Issue.{Place, entry_in, id_in, queue_view, is_ready, IsReadyIn, IsNotAfter, issue_of, issued_from, no_issue, no_place, HasLag}
+use Rattle.lawful_cycle.proofs.Laws.{among_or_not, same_or_not}
 use Rattle.core_back.specs.Issued.{IsHeadWaiting}
 use Rattle.core_back.specs.Selected.{IsSuppliedPlace, IsChosen}
 use Rattle.core_back.specs.Machine.{Machine, context_at}
@@ -53,24 +51,6 @@ pairs_taken R (suc n) (x ∷ xs) ys a b cross =
     (pairs_taken R n xs ys (AllPairs-tail R x xs a) b (All-tail (λ z. All (R z) ys) x (take n xs) cross))
 
 -- ---- places
-
-abbrev is_place : Place → Place → Bool
-is_place p q = (p.context == q.context) && (p.place == q.place)
-
-place_decides : (p q : Place) → Decides (is_place p q) (p ≡ q)
-place_decides p q = (
-  λ is. let parts = and_parts (p.context == q.context) (p.place == q.place) is in same p.context q.context p.place q.place (eqb-true p.context q.context parts.0) (eqb-true p.place q.place parts.1),
-  λ is. and_from (p.context == q.context) (p.place == q.place) (eq-eqb p.context q.context (ap (λ (r : Place). r.context) is)) (eq-eqb p.place q.place (ap (λ (r : Place). r.place) is)),
-)
-  where
-    same : (c d i j : ℕ) → c ≡ d → i ≡ j → ◌≡◌ {A = Place} (record { context = c; place = i }) (record { context = d; place = j })
-    same c d i j p q = rw (p, q) refl
-
-among_or_not : (ps : List Place) (q : Place) → Contains ps q ⊎ ¬ Contains ps q
-among_or_not ps q = elim (cases_Bool (is_member is_place ps q)) [
-  | inl is ↦ inl ((is_member-Decides place_decides ps q).0 is)
-  | inr is ↦ inr (λ among. true≢false (sym ((is_member-Decides place_decides ps q).1 among) ∙ is))
-]
 
 -- a name is its own, and of two the one is the other's where the other is its own
 own_id : (v : View) (p : Place) → is_id p.context (entry_in v p).stamp (id_in v p) ≡ true
@@ -155,7 +135,7 @@ module _ (key : QueueView → ℕ) (delays : ℕ → Kind → ℕ → Lag → Bo
 
   -- what issued comes no later than what is ready and didn't
   ahead : (q : Place) → IsReadyIn m.view q → issue_of q.context (entry_in m.view q) issues ≡ None → (j : ℕ) → j < length issues → IsNotAfter key m.view (get_or h.chosen j no_place) q
-  ahead q ready none j lt = elim (among_or_not h.chosen q) [
+  ahead q ready none j lt = elim (among_or_not same_or_not q h.chosen) [
     | inr out ↦ h.first q ready out j no_place (omega (arith, lt, count))
     | inl among ↦ behind among.0 among.1 (get_or_default h.chosen among.0 no_place q among.1 ∙ among.2)
   ]

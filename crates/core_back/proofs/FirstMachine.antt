@@ -1,7 +1,7 @@
 -- The machine at its start.
-use Rattle.std.proofs.Common.{◌≡◌, ◌≢◌, ℕ, zero, suc, ◌+◌, ◌<◌, ◌≤◌, ◌%◌, List, [], ◌∷◌, length, map, slice_index, get_or, Some, None, refl, arith, ap, sym, subst, ◌∙◌, ◌++◌, length-append, below_more}
+use Rattle.std.proofs.Common.{◌≡◌, ◌≢◌, ℕ, zero, suc, ◌+◌, ◌-◌, ◌<◌, ◌≤◌, ◌%◌, List, [], ◌∷◌, length, map, slice_index, get_or, Some, None, refl, arith, ap, sym, subst, ◌∙◌, ◌++◌, length-append, below_more}
 use Rattle.std.proofs.Math.ListN.{length-set}
-use Rattle.std.specs.Prelude.{set}
+use Rattle.std.specs.Prelude.{set, ◌&&◌, if◌then◌else◌, count_by}
 use Rattle.std.proofs.lemmas.List.{get_or-replicate, set-set, set-get_or, ext_get_or, get_or-set_same, get_or-set_other, get_or_append_left}
 use Rattle.std.proofs.lemmas.Bool.{true≢false}
 use Rattle.hart_step.specs.State.{State}
@@ -19,6 +19,9 @@ use Rattle.core_view.proofs.Stored.{apart_at_start}
 use Rattle.core_view.proofs.Live.{first_live}
 use Rattle.data_flow.specs.Flow.{Lane, Flow, no_lane, lane, with_lane, with_register, first_lane, first_flow}
 use Rattle.core_profile.specs.declared.profile.Profile.{Profile}
+use Rattle.core_view.specs.Flight.{is_open}
+use Rattle.lawful_cycle.specs.Fetch.{front_places, is_fetched, is_running}
+use Rattle.core_context.specs.FrontLists.{front_fill}
 use Rattle.core_context.specs.Track.{Track, first_track}
 use Rattle.core_back.specs.Machine.{no_track, no_context}
 use Rattle.core_context.specs.Cores.{is_selected, IsCore, front_room}
@@ -223,3 +226,11 @@ count_of_tracks (t ∷ ts) = ap suc (count_of_tracks ts)
 
 pub first_context_at : (p : Profile) (mark : MarkValue) (target : ℕ) (ts : List Track) (c : ℕ) → IsFirstTrack p mark target (get_or ts c no_track) → IsFirstContext mark target (get_or (map (λ t. t.context) ts) c no_context)
 first_context_at p mark target ts c h = subst (λ (x : Context). IsFirstContext mark target x) (sym (context_of_track ts c)) (record { reached = h.reached; first = ap (λ (t : Track). t.context) h.first })
+
+-- ---- how full front lists are
+
+pub fill_empty : (t : Track) (fill : ℕ) → t.context.flight ≡ [] → fill ≡ length t.context.flight - t.renamed + (if is_running t.context.status && is_open t.context.flight then 0 else front_places) → fill ≡ front_fill t.context
+fill_empty t fill empty is =
+    let none : length t.context.flight ≡ 0 = ap (λ es. length es) empty in
+    let counted : count_by is_fetched t.context.flight ≡ 0 = ap (λ es. count_by is_fetched es) empty in
+    omega (arith, is, none, counted)

@@ -40,6 +40,10 @@ in_flight_after m now v c x lost shows lt e fewer =
     let contexts : length (machine_of m).view.contexts ≡ length now.view.contexts = ap (λ (u : Machine). length u.view.contexts) shows in
     in_flight-with_context now v c x lost e (omega (arith, lt, contexts, length-map m.tracks.items (λ (t : Track). t.context))) fewer
 
+-- as many are in flight where the flight of the context is as long
+pub in_flight_kept : {A : Type 0} (m : Inside A) (now v : Machine) (c : ℕ) (x : Context) → machine_of m ≡ now → c < length m.tracks.items → v ≡ with_context now c x → length x.flight ≡ length (context_at now c).flight → in_flight v ≡ in_flight now
+in_flight_kept m now v c x shows lt e same = let all = in_flight_after m now v c x 0 shows lt e (omega (arith, same)) in omega (arith, all)
+
 -- ---- issue, rename, fetch
 
 pub in_flight_same : (m n : Machine) → n.view.contexts ≡ m.view.contexts → in_flight n ≡ in_flight m

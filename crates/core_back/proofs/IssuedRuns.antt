@@ -1,5 +1,5 @@
 -- Entries that issue one after another, as a list.
-use Rattle.std.proofs.Common.{◌≡◌, ℕ, Bool, ◌<◌, List, [], ◌∷◌, ◌++◌, sym, subst, refl, append-nil, append_assoc}
+use Rattle.std.proofs.Common.{ℕ, Bool, ◌<◌, List, [], ◌∷◌, ◌++◌, sym, subst, refl, append-nil, append_assoc}
 use Rattle.issue_queue.specs.declared.entry.QueueView.{QueueView}
 use Rattle.data_tags.specs.declared.delay.Kind.{Kind}
 use Rattle.data_tags.specs.declared.delay.Lag.{Lag}

@@ -16,6 +16,7 @@ use Rattle.core_view.specs.declared.entry.Execution.{Execution}
 use Rattle.core_view.specs.declared.entry.Stage.TheVariants.{Queued}
 use Rattle.core_back.specs.declared.machine.Machine.TheInside.{Inside}
 use Rattle.data_flow.specs.Flow.{Flow, lane, node_at, queued, waits_in, waits_to_load, sources_at, released}
+use Rattle.core_context.specs.FrontLists.{front_fill}
 use Rattle.core_context.specs.Track.{Track, issued}
 use Rattle.core_context.specs.Issuable.{IsSupplied, may_issue_at, must_wait, IsMarked, AreLetGo, AreHeld}
 use Rattle.data_tags.specs.declared.delay.Kind.{Kind}
@@ -27,8 +28,8 @@ use Rattle.core_context.specs.Steps.{IsRemarked}
 use Rattle.core_context.specs.Cores.{is_selected, IsCore}
 use Rattle.core_back.specs.Machine.{Machine, context_at, with_context, no_track}
 use Rattle.core_back.specs.Shown.{machine_of, IsMachine, AreApart, IsSuppliedIn, marked_among, still_waits, unissued, waiting_flow, flow_left}
-use Rattle.core_context.proofs.Laws.{remarked_twice, remarked_lane, held_kept, released_remarked, released_all, let_go_marked, core_answered, core_sources, issue_core, issue_other, eight-remarked, node_count, none_ready_held, eqb-flip}
-use Rattle.core_back.proofs.Machines.{At, at_context, idle_names, idle_core_at, room_after}
+use Rattle.core_context.proofs.Laws.{remarked_twice, remarked_lane, held_kept, released_remarked, released_all, let_go_marked, core_answered, core_sources, issue_core, issue_other, eight-remarked, fill_issued, node_count, none_ready_held, eqb-flip}
+use Rattle.core_back.proofs.Machines.{At, at_context, fills_kept, idle_names, idle_core_at, room_after}
 use Rattle.core_back.proofs.Selections.{first_apart, rest_apart, IsReadyPlace, ready_place, name_selected, remarked_core, select_apart, select_supplied, select_waited}
 use Rattle.core_back.proofs.HeldNames.{without_name, left_waiting, named_core, waits_without, held_marked, held_remarked, held_waiting, none_held, waits_remarked, given_remarked, dropped_let_go, some_waiting, are_released}
 use Rattle.core_back.proofs.Chosen.{no_wait, is_chosen_by, chosen_asked, chosen_unasked}
@@ -157,8 +158,8 @@ module _ {A : Type 0} where
   -- the machine after the entry of the first name has issued
   pub issued_machine : (m w : Inside A) (now : Machine) (n : EntryId) (k : ℕ) (rest : List EntryId) (t : Track) (i : ℕ) (x : Execution) → IsMachine m → IsFirstName m now n rest t → n.context < 8
       → IsCore (start (arc_value m.origins.c0) n.context) m.stamp m.profile.reorder_buffer (without_name n (unissued (n ∷ rest) m.flow)) [] n.context (issued t i x)
-      → k ≡ n.context → w.origins ≡ m.origins → w.flow ≡ flow_left rest m.flow → w.tracks.items ≡ set m.tracks.items k (issued t i x) → w.selected ≡ rest → w.cycle ≡ m.cycle → w.stamp ≡ m.stamp → w.fetch_room ≡ m.fetch_room → w.profile ≡ m.profile → IsMachine w
-  issued_machine m w now n k rest t i x ok h lt core same origins flow tracks_k selected cycle stamp room profile =
+      → k ≡ n.context → w.origins ≡ m.origins → w.flow ≡ flow_left rest m.flow → w.tracks.items ≡ set m.tracks.items k (issued t i x) → w.selected ≡ rest → w.cycle ≡ m.cycle → w.stamp ≡ m.stamp → w.fetch_room ≡ m.fetch_room → w.profile ≡ m.profile → w.fills ≡ m.fills → IsMachine w
+  issued_machine m w now n k rest t i x ok h lt core same origins flow tracks_k selected cycle stamp room profile fills =
       let u : Track = issued t i x in
       let tracks : w.tracks.items ≡ set m.tracks.items n.context u = tracks_k ∙ ap (λ i. set m.tracks.items i u) same in
       let waiting : waiting_flow w.selected w.flow ≡ without_name n (unissued (n ∷ rest) m.flow) = ap (λ ns. waiting_flow ns w.flow) selected ∙ ap (waiting_flow rest) flow ∙ left_waiting m.flow n rest h.other h.held in
@@ -175,6 +176,7 @@ module _ {A : Type 0} where
         waits = subst (λ f. All (λ s. waits_in f s.context s.stamp ≡ true) w.selected) (sym waiting) (subst (All (λ s. waits_in (without_name n (unissued (n ∷ rest) m.flow)) s.context s.stamp ≡ true)) (sym selected) (rest_waits m now n rest t ok h));
         stamps = rw (stamp, room, cycle) ok.stamps;
         room = rw (profile, flow, tracks) (room_after m.profile m.flow (flow_left rest m.flow) m.tracks.items n.context u ok.room h.shown.in_tracks refl refl (ap (λ (s : Track). s.load_places) h.shown.track) (ap (λ (s : Track). s.store_places) h.shown.track));
+        fills = rw (fills, tracks) (fills_kept m.fills m.tracks.items n.context u ok.fills lt ok.tracks (fill_issued (start (arc_value m.origins.c0) n.context) m.stamp m.profile.reorder_buffer (waiting_flow m.selected m.flow) (without_name n (unissued (n ∷ rest) m.flow)) n.context t u h.shown.core core i x refl ∙ ap (λ (s : Track). front_fill s.context) h.shown.track));
       }
 
   -- and what it shows
@@ -285,6 +287,7 @@ module _ {A : Type 0} where
     pub stamp : h.stamp ≡ m.stamp
     pub room : h.fetch_room ≡ m.fetch_room
     pub profile : h.profile ≡ m.profile
+    pub fills : h.fills ≡ m.fills
     pub known : (c : ℕ) → has left c ≡ true → c < 8
     pub held : (c : ℕ) → c < 8 → has left c ≡ false → AreHeld h.flow c (get_or m.tracks.items c no_track)
     pub rest : (c : ℕ) → has left c ≡ true → (k : ℕ) → IsMarked h.flow c k false
@@ -293,8 +296,8 @@ module _ {A : Type 0} where
   pub held_first : (m h : Inside A) (now : Machine) (left : ℕ) → machine_of m ≡ now → IsMachine m → now.names ≡ [] → h.flow ≡ m.flow
       → ((c : ℕ) → has left c ≡ true → c < 8)
       → ((c place : ℕ) → has left c ≡ false → place < length (lane h.flow c).nodes → waits_to_load h.flow c (node_at (lane h.flow c) place).operands.stamp ≡ true → sources_at (lane h.flow c) place ≡ None)
-      → h.origins ≡ m.origins → h.tracks ≡ m.tracks → h.cycle ≡ m.cycle → h.stamp ≡ m.stamp → h.fetch_room ≡ m.fetch_room → h.profile ≡ m.profile → IsHeldBut m h left
-  held_first m h now left shows ok idle same known lacking origins tracks cycle stamp room profile =
+      → h.origins ≡ m.origins → h.tracks ≡ m.tracks → h.cycle ≡ m.cycle → h.stamp ≡ m.stamp → h.fetch_room ≡ m.fetch_room → h.profile ≡ m.profile → h.fills ≡ m.fills → IsHeldBut m h left
+  held_first m h now left shows ok idle same known lacking origins tracks cycle stamp room profile fills =
       let free : AreLetGo m.flow = ok.let_go (idle_names m now shows idle) in
       let is : h.flow ≡ record m.flow { waiters = map released m.flow.waiters } = same ∙ are_released m.flow free in
       record {
@@ -305,6 +308,7 @@ module _ {A : Type 0} where
         stamp = stamp;
         room = room;
         profile = profile;
+        fills = fills;
         known = known;
         held = λ c lt clear.
             let core = idle_core_at m now shows ok idle c lt in
@@ -333,8 +337,8 @@ module _ {A : Type 0} where
   -- its loads are asked of
   pub held_next : (m h w : Inside A) (now : Machine) (left next n : ℕ) (t : Track) → At m now n t → IsHeldBut m h left → ((p : ℕ) → has next p ≡ (has left p && not (p == n)))
       → IsRemarked h.flow w.flow → AreHeld w.flow n t → ((d j : ℕ) (b : Bool) → d ≢ n → IsMarked h.flow d j b → IsMarked w.flow d j b)
-      → w.origins ≡ h.origins → w.tracks ≡ h.tracks → w.cycle ≡ h.cycle → w.stamp ≡ h.stamp → w.fetch_room ≡ h.fetch_room → w.profile ≡ h.profile → IsHeldBut m w next
-  held_next m h w now left next n t at_n so_far word marks here others origins tracks cycle stamp room profile = record {
+      → w.origins ≡ h.origins → w.tracks ≡ h.tracks → w.cycle ≡ h.cycle → w.stamp ≡ h.stamp → w.fetch_room ≡ h.fetch_room → w.profile ≡ h.profile → w.fills ≡ h.fills → IsHeldBut m w next
+  held_next m h w now left next n t at_n so_far word marks here others origins tracks cycle stamp room profile fills = record {
     origins = origins ∙ so_far.origins;
     flow = remarked_twice m.flow h.flow w.flow so_far.flow marks;
     tracks = ap (λ v. v.items) tracks ∙ so_far.tracks;
@@ -342,6 +346,7 @@ module _ {A : Type 0} where
     stamp = stamp ∙ so_far.stamp;
     room = room ∙ so_far.room;
     profile = profile ∙ so_far.profile;
+    fills = fills ∙ so_far.fills;
     known = λ d set. so_far.known d (left_before left next n word d set).0;
     held = λ d lt clear. elim (cases_eq d n) [
       | inl same ↦ rw (same, ← at_n.track) here
@@ -353,8 +358,8 @@ module _ {A : Type 0} where
   -- the machine once names were selected among what waits, marked in any way, and are held since, and nothing else
   pub selected_machine : (m w : Inside A) (now : Machine) (h f : Flow) {key : Waiting → ℕ} {width : ℕ} {rest : List Waiting} {names : List EntryId} → machine_of m ≡ now → IsMachine m → now.names ≡ []
       → IsRemarked m.flow h → IsSelected key width (queued h) rest names → IsRemarked m.flow f → AreLetGo f → w.flow ≡ record f { waiters = map (marked_among names true) f.waiters }
-      → w.origins ≡ m.origins → w.tracks.items ≡ m.tracks.items → w.selected ≡ names → w.cycle ≡ m.cycle → w.stamp ≡ m.stamp → w.fetch_room ≡ m.fetch_room → w.profile ≡ m.profile → IsMachine w
-  selected_machine m w now h f {names = names} shows ok idle asked s marks free is origins tracks selected cycle stamp room profile =
+      → w.origins ≡ m.origins → w.tracks.items ≡ m.tracks.items → w.selected ≡ names → w.cycle ≡ m.cycle → w.stamp ≡ m.stamp → w.fetch_room ≡ m.fetch_room → w.profile ≡ m.profile → w.fills ≡ m.fills → IsMachine w
+  selected_machine m w now h f {names = names} shows ok idle asked s marks free is origins tracks selected cycle stamp room profile fills =
       let all : IsRemarked m.flow w.flow = remarked_twice m.flow f w.flow marks (held_remarked names f w.flow is) in
       let waiting : waiting_flow w.selected w.flow ≡ w.flow = ap (λ ns. waiting_flow ns w.flow) selected ∙ held_waiting names f w.flow free is in
       record {
@@ -379,6 +384,7 @@ module _ {A : Type 0} where
           loads = ok.room.loads;
           stores = ok.room.stores;
         });
+        fills = rw (fills, tracks) ok.fills;
       }
 
   -- and what it shows
@@ -411,8 +417,8 @@ module _ {A : Type 0} where
   -- what was selected and has not issued is given back
   pub given_machine : (m w : Inside A) (now : Machine) → machine_of m ≡ now → IsMachine m → 0 < length m.selected
       → w.flow ≡ record m.flow { waiters = filter (λ v. not v.held) (map (marked_among m.selected false) m.flow.waiters) }
-      → w.origins ≡ m.origins → w.tracks ≡ m.tracks → w.selected ≡ [] → w.cycle ≡ m.cycle → w.stamp ≡ m.stamp → w.fetch_room ≡ m.fetch_room → w.profile ≡ m.profile → IsMachine w
-  given_machine m w now shows ok some is origins tracks_are selected cycle stamp room profile =
+      → w.origins ≡ m.origins → w.tracks ≡ m.tracks → w.selected ≡ [] → w.cycle ≡ m.cycle → w.stamp ≡ m.stamp → w.fetch_room ≡ m.fetch_room → w.profile ≡ m.profile → w.fills ≡ m.fills → IsMachine w
+  given_machine m w now shows ok some is origins tracks_are selected cycle stamp room profile fills =
       let tracks : w.tracks.items ≡ m.tracks.items = ap (λ v. v.items) tracks_are in
       let marks : IsRemarked (unissued m.selected m.flow) w.flow = given_remarked m.selected m.flow w.flow is in
       let before : waiting_flow m.selected m.flow ≡ unissued m.selected m.flow = some_waiting m.selected m.flow some in
@@ -435,4 +441,5 @@ module _ {A : Type 0} where
           loads = ok.room.loads;
           stores = ok.room.stores;
         });
+        fills = rw (fills, tracks) ok.fills;
       }

@@ -1,23 +1,53 @@
 -- An event of one context, in the machine.
-use Rattle.std.proofs.Common.{◌≡◌, ◌≢◌, ℕ, ◌+◌, ◌<◌, ◌≤◌, List, [], length, get_or, map, refl, sym, ap, subst, ◌∙◌, arith, inl, inr, Bool, true, false}
-use Rattle.std.specs.Prelude.{set, ◌==◌}
+use Rattle.std.proofs.Common.{◌≡◌, ◌≢◌, ℕ, ◌+◌, ◌-◌, ◌<◌, ◌≤◌, List, [], length, get_or, map, refl, sym, ap, subst, ◌∙◌, arith, inl, inr, Bool, true, false}
+use Rattle.std.specs.Prelude.{set, ◌==◌, ◌&&◌, if◌then◌else◌}
 use Rattle.std.proofs.lemmas.Bool.{cases_eq}
 use Rattle.std.proofs.lemmas.Bool.Decides.{nat_tests}
 use Rattle.std.specs.Arc.{arc_value}
 use Rattle.std.proofs.lemmas.List.{get_or-map, get_or_read, get_or_default, get_or-set_same, get_or-set_other, length-set, length-map, map-set, set-get_or}
 use Rattle.origin_set.specs.Start.{start}
 use Rattle.core_profile.specs.declared.profile.Profile.{Profile}
+use Rattle.core_view.specs.Flight.{is_open}
+use Rattle.lawful_cycle.specs.Fetch.{front_places, is_running}
 use Rattle.core_view.specs.View.{Context, IsLive, IsSoundFlight, IsSoundView}
 use Rattle.core_back.specs.declared.machine.Machine.TheInside.{Inside}
 use Rattle.data_flow.specs.Flow.{Flow}
-use Rattle.core_context.specs.Track.{Track}
+use Rattle.core_context.specs.FrontLists.{front_fill}
+use Rattle.core_context.specs.Heads.{IsGoing, first_done, step_on}
+use Rattle.core_context.specs.Track.{Track, is_last, retired}
 use Rattle.core_context.specs.Cores.{IsCore}
 use Rattle.core_back.specs.Machine.{Machine, context_at, with_context, with_contexts, no_track, no_context}
 use Rattle.core_back.specs.Fetched.{with_block}
+use Rattle.core_back.specs.Fills.{AreFills}
 use Rattle.core_back.specs.Shown.{machine_of, IsMachine, HasRoom, waiting_flow}
 use Rattle.core_context.specs.Issuable.{AreLetGo}
 use Rattle.core_context.specs.Left.{IsIdleCore, IsLeft, KeepsSizes, IsEventAt}
-use Rattle.core_context.proofs.Laws.{left_core}
+use Rattle.core_context.proofs.Laws.{fill_is, fill_retired, left_core}
+
+-- ---- how full front lists are
+
+-- one track is another, of which it is known
+pub fills_set : (fills : List ℕ) (ts : List Track) (c k fill : ℕ) (u : Track) → AreFills fills ts → c < 8 → length ts ≡ 8 → k ≡ c → fill ≡ front_fill u.context → AreFills (set fills k fill) (set ts c u)
+fills_set fills ts c k fill u all lt count same is = record {
+  eight = length-set fills k fill ∙ all.eight;
+  each = λ d below. elim (cases_eq d c) [
+    | inl here ↦ ap (λ i. get_or (set fills i fill) d 0) same ∙ ap (λ i. get_or (set fills c fill) i 0) here ∙ get_or-set_same fills c fill 0 (omega (arith, lt, all.eight)) ∙ is
+        ∙ ap (λ (t : Track). front_fill t.context) (sym (ap (λ i. get_or (set ts c u) i no_track) here ∙ get_or-set_same ts c u no_track (omega (arith, lt, count))))
+    | inr other ↦ ap (λ i. get_or (set fills i fill) d 0) same ∙ get_or-set_other fills c d fill 0 other ∙ all.each d below ∙ ap (λ (t : Track). front_fill t.context) (sym (get_or-set_other ts c d u no_track other))
+  ];
+}
+
+-- one track is another, which is as full
+pub fills_kept : (fills : List ℕ) (ts : List Track) (c : ℕ) (u : Track) → AreFills fills ts → c < 8 → length ts ≡ 8 → front_fill u.context ≡ front_fill (get_or ts c no_track).context → AreFills fills (set ts c u)
+fills_kept fills ts c u all lt count is = record {
+  eight = all.eight;
+  each = λ d below. all.each d below ∙ elim (cases_eq d c) [
+    | inl here ↦ ap (λ i. front_fill (get_or ts i no_track).context) here ∙ sym is ∙ ap (λ (t : Track). front_fill t.context) (sym (ap (λ i. get_or (set ts c u) i no_track) here ∙ get_or-set_same ts c u no_track (omega (arith, lt, count))))
+    | inr other ↦ ap (λ (t : Track). front_fill t.context) (sym (get_or-set_other ts c d u no_track other))
+  ];
+}
+
+-- ---- the machine
 
 -- the room that there is stays
 pub room_after : (p : Profile) (f g : Flow) (ts : List Track) (c : ℕ) (u : Track) → HasRoom p f ts → c < length ts → g.extra ≡ f.extra → g.places ≡ f.places
@@ -110,8 +140,8 @@ module _ {A : Type 0} where
   pub machine_after : (m n : Inside A) (now : Machine) (c k : ℕ) (u : Track) (g : Flow) → machine_of m ≡ now → IsMachine m → now.names ≡ [] → c < 8
       → IsCore (start (arc_value m.origins.c0) c) m.stamp m.profile.reorder_buffer g [] c u → ((d : ℕ) → d ≢ c → IsLeft m.flow g d) → KeepsSizes m.flow g
       → u.load_places ≡ (get_or m.tracks.items c no_track).load_places → u.store_places ≡ (get_or m.tracks.items c no_track).store_places
-      → k ≡ c → n.origins ≡ m.origins → n.flow ≡ g → n.tracks.items ≡ set m.tracks.items k u → n.selected ≡ m.selected → n.cycle ≡ m.cycle → n.stamp ≡ m.stamp → n.fetch_room ≡ m.fetch_room → n.profile ≡ m.profile → IsMachine n
-  machine_after m n now c k u g shows ok idle lt core left sizes loads stores same origins flow tracks_k names cycle stamp room profile =
+      → k ≡ c → n.origins ≡ m.origins → n.flow ≡ g → n.tracks.items ≡ set m.tracks.items k u → n.selected ≡ m.selected → n.cycle ≡ m.cycle → n.stamp ≡ m.stamp → n.fetch_room ≡ m.fetch_room → n.profile ≡ m.profile → AreFills n.fills (set m.tracks.items c u) → IsMachine n
+  machine_after m n now c k u g shows ok idle lt core left sizes loads stores same origins flow tracks_k names cycle stamp room profile fills =
       let tracks : n.tracks.items ≡ set m.tracks.items c u = tracks_k ∙ ap (λ i. set m.tracks.items i u) same in
       let none = idle_names m now shows idle in
       record {
@@ -127,13 +157,40 @@ module _ {A : Type 0} where
         waits = rw (names, none) (λ k d over. absurd (omega (arith, over)));
         stamps = rw (stamp, room, cycle) ok.stamps;
         room = rw (profile, flow, tracks) (room_after m.profile m.flow g m.tracks.items c u ok.room (omega (arith, lt, ok.tracks)) sizes.extra sizes.places loads stores);
+        fills = rw tracks fills;
       }
 
   pub machine_after_event : (m n : Inside A) (now : Machine) (c k : ℕ) (t u : Track) (g : Flow) → machine_of m ≡ now → IsMachine m → now.names ≡ [] → c < 8 → At m now c t → IsEventAt c m.flow g t u
-      → k ≡ c → n.origins ≡ m.origins → n.flow ≡ g → n.tracks.items ≡ set m.tracks.items k u → n.selected ≡ m.selected → n.cycle ≡ m.cycle → n.stamp ≡ m.stamp → n.fetch_room ≡ m.fetch_room → n.profile ≡ m.profile → IsMachine n
+      → k ≡ c → n.origins ≡ m.origins → n.flow ≡ g → n.tracks.items ≡ set m.tracks.items k u → n.selected ≡ m.selected → n.cycle ≡ m.cycle → n.stamp ≡ m.stamp → n.fetch_room ≡ m.fetch_room → n.profile ≡ m.profile → AreFills n.fills (set m.tracks.items c u) → IsMachine n
   machine_after_event m n now c k t u g shows ok idle lt h event =
       machine_after m n now c k u g shows ok idle lt (event.kept (start (arc_value m.origins.c0) c) m.stamp m.profile.reorder_buffer (idle_core m now c t shows idle h)) event.others event.sizes
       (event.loads ∙ ap (λ (v : Track). v.load_places) h.track) (event.stores ∙ ap (λ (v : Track). v.store_places) h.track)
+
+  -- the context's track stands for it still
+  pub core_after : (m : Inside A) (now : Machine) (c : ℕ) (t u : Track) (g : Flow) → machine_of m ≡ now → now.names ≡ [] → At m now c t → IsEventAt c m.flow g t u → IsCore (start (arc_value m.origins.c0) c) m.stamp m.profile.reorder_buffer g [] c u
+  core_after m now c t u g shows idle h event = event.kept (start (arc_value m.origins.c0) c) m.stamp m.profile.reorder_buffer (idle_core m now c t shows idle h)
+
+  -- its front list is as full as its track says
+  pub fills_read : (m : Inside A) (now : Machine) (c k fill : ℕ) (t u : Track) (g : Flow) → machine_of m ≡ now → IsMachine m → now.names ≡ [] → c < 8 → At m now c t → IsEventAt c m.flow g t u → k ≡ c
+      → fill ≡ length u.context.flight - u.renamed + (if is_running u.context.status && is_open u.context.flight then 0 else front_places) → AreFills (set m.fills k fill) (set m.tracks.items c u)
+  fills_read m now c k fill t u g shows ok idle lt h event same is =
+      fills_set m.fills m.tracks.items c k fill u ok.fills lt ok.tracks same (is ∙ sym (fill_is (start (arc_value m.origins.c0) c) m.stamp m.profile.reorder_buffer g c u (core_after m now c t u g shows idle h event)))
+
+  -- or as full as it was
+  pub fills_still : (m : Inside A) (now : Machine) (c : ℕ) (t u : Track) → IsMachine m → c < 8 → At m now c t → front_fill u.context ≡ front_fill t.context → AreFills m.fills (set m.tracks.items c u)
+  fills_still m now c t u ok lt h is = fills_kept m.fills m.tracks.items c u ok.fills lt ok.tracks (is ∙ ap (λ (s : Track). front_fill s.context) h.track)
+
+  -- the oldest entry retires: where the context is parked, its front list has no room
+  pub fills_retired : (m : Inside A) (now : Machine) (c : ℕ) (t u : Track) (g : Flow) → machine_of m ≡ now → IsMachine m → now.names ≡ [] → c < 8 → At m now c t → IsEventAt c m.flow g t u → IsGoing (first_done t.context.flight) → u ≡ retired t (step_on (first_done t.context.flight))
+      → AreFills (if is_last t.context then set m.fills c front_places else m.fills) (set m.tracks.items c u)
+  fills_retired m now c t u g shows ok idle lt h event going is = by_end (is_last t.context) refl
+    where
+      parks : is_last t.context ≡ true → front_fill u.context ≡ front_places
+      parks last = rw (is, last) refl
+
+      by_end : (b : Bool) → is_last t.context ≡ b → AreFills (if b then set m.fills c front_places else m.fills) (set m.tracks.items c u)
+      by_end true last = fills_set m.fills m.tracks.items c c front_places u ok.fills lt ok.tracks refl (sym (parks last))
+      by_end false goes = fills_still m now c t u ok lt h (fill_retired (start (arc_value m.origins.c0) c) m.stamp m.profile.reorder_buffer m.flow g c t u (idle_core m now c t shows idle h) (core_after m now c t u g shows idle h event) goes going is)
 
   -- and what it shows
   pub shown_after : (m : Inside A) (now : Machine) (c k : ℕ) (u : Track) (x : Context) → machine_of m ≡ now → k ≡ c → u.context ≡ x
@@ -168,8 +225,8 @@ module _ {A : Type 0} where
 
   -- the machine after a track was passed to a call that leaves it as it was
   pub machine_same : (m n : Inside A) (c k : ℕ) (u : Track) → IsMachine m → u ≡ get_or m.tracks.items c no_track → k ≡ c
-      → n.origins ≡ m.origins → n.flow ≡ m.flow → n.tracks.items ≡ set m.tracks.items k u → n.selected ≡ m.selected → n.cycle ≡ m.cycle → n.stamp ≡ m.stamp → n.fetch_room ≡ m.fetch_room → n.profile ≡ m.profile → IsMachine n
-  machine_same m n c k u ok read same origins flow tracks_k names cycle stamp room profile =
+      → n.origins ≡ m.origins → n.flow ≡ m.flow → n.tracks.items ≡ set m.tracks.items k u → n.selected ≡ m.selected → n.cycle ≡ m.cycle → n.stamp ≡ m.stamp → n.fetch_room ≡ m.fetch_room → n.profile ≡ m.profile → n.fills ≡ m.fills → IsMachine n
+  machine_same m n c k u ok read same origins flow tracks_k names cycle stamp room profile fills =
       let tracks : n.tracks.items ≡ m.tracks.items = tracks_k ∙ ap (λ i. set m.tracks.items i u) same ∙ ap (set m.tracks.items c) read ∙ set-get_or m.tracks.items c no_track in
       record {
         cores = rw (origins, flow, tracks, names, stamp, profile) ok.cores;
@@ -184,14 +241,15 @@ module _ {A : Type 0} where
         waits = rw (names, flow) ok.waits;
         stamps = rw (stamp, room, cycle) ok.stamps;
         room = rw (profile, flow, tracks) ok.room;
+        fills = rw (fills, tracks) ok.fills;
       }
 
   -- the machine after so many entries of the context c were fetched: as many stamps were taken
   pub machine_fetched : (m n : Inside A) (now : Machine) (c k number : ℕ) (u : Track) → machine_of m ≡ now → IsMachine m → now.names ≡ [] → c < 8
       → IsCore (start (arc_value m.origins.c0) c) (m.stamp + number) m.profile.reorder_buffer m.flow [] c u
       → u.load_places ≡ (get_or m.tracks.items c no_track).load_places → u.store_places ≡ (get_or m.tracks.items c no_track).store_places → k ≡ c
-      → n.origins ≡ m.origins → n.flow ≡ m.flow → n.tracks.items ≡ set m.tracks.items k u → n.selected ≡ m.selected → n.cycle ≡ m.cycle → n.stamp ≡ m.stamp + number → n.fetch_room + number ≡ m.fetch_room → n.profile ≡ m.profile → IsMachine n
-  machine_fetched m n now c k number u shows ok idle lt core loads stores same origins flow tracks_k names cycle stamp room profile =
+      → n.origins ≡ m.origins → n.flow ≡ m.flow → n.tracks.items ≡ set m.tracks.items k u → n.selected ≡ m.selected → n.cycle ≡ m.cycle → n.stamp ≡ m.stamp + number → n.fetch_room + number ≡ m.fetch_room → n.profile ≡ m.profile → AreFills n.fills (set m.tracks.items c u) → IsMachine n
+  machine_fetched m n now c k number u shows ok idle lt core loads stores same origins flow tracks_k names cycle stamp room profile fills =
       let tracks : n.tracks.items ≡ set m.tracks.items c u = tracks_k ∙ ap (λ i. set m.tracks.items i u) same in
       let none = idle_names m now shows idle in
       let stamps = ok.stamps in
@@ -208,6 +266,7 @@ module _ {A : Type 0} where
         waits = rw (names, none) (λ k d over. absurd (omega (arith, over)));
         stamps = rw cycle (omega (arith, stamps, stamp, room));
         room = rw (profile, flow, tracks) (room_after m.profile m.flow m.flow m.tracks.items c u ok.room here refl refl loads stores);
+        fills = rw tracks fills;
       }
     where
       here : c < length m.tracks.items

@@ -3,6 +3,7 @@ use Rattle.std.specs.Prelude.{◌≡◌, ℕ, ◌+◌, ◌<◌, ◌≤◌, Bool,
 use Rattle.std.specs.List.{range_with_len}
 use Rattle.rv64_decode.specs.declared.insn.Insn.{Insn}
 use Rattle.hart_step.specs.State.{State}
+use Rattle.core_profile.specs.declared.profile.Profile.{Profile}
 use Rattle.core_view.specs.declared.entry.Stage.TheVariants.{Fetched}
 use Rattle.core_view.specs.declared.note.EntryId.{EntryId}
 use Rattle.core_view.specs.View.{Context, entry_at}
@@ -10,7 +11,9 @@ use Rattle.core_view.specs.Events.{rename_event}
 use Rattle.lawful_cycle.specs.Rename.{CanRename}
 use Rattle.lawful_cycle.specs.Fetch.{IsBlock, TakesInTurn}
 use Rattle.data_flow.specs.Flow.{Flow}
-use Rattle.core_context.specs.Track.{Track}
+use Rattle.core_context.specs.Track.{Track, renamed_one}
+use Rattle.core_context.specs.Left.{IsEventAt}
+use Rattle.core_context.specs.Renamable.{IsRenamable}
 use Rattle.core_context.specs.Cores.{IsCore}
 use Rattle.core_back.specs.Machine.{Machine, context_at, with_context}
 
@@ -38,6 +41,26 @@ AreRenamed c limit m (stamp ∷ stamps) n = (u : Machine) × (stamp ≤ limit) �
 pub record IsRenamedRun (c limit width : ℕ) (old new : Machine) (before after : List EntryId) : Type 0 where
   pub stamps : List ℕ
   pub renamed : AreRenamed c limit old stamps new
+  pub listed : after ≡ before ++ ids_of c stamps
+  pub most : length after ≤ width
+
+-- the oldest fetched entry of a track, which can be, is renamed in a cycle
+pub record IsRenamedOf (p : Profile) (cycle c limit stamp : ℕ) (f : Flow) (t : Track) (g : Flow) (u : Track) : Type 0 where
+  pub can : IsRenamable f t p cycle stamp
+  pub within : stamp ≤ limit
+  pub fetched : (entry_at t.context t.renamed).stage ≡ Fetched
+  pub after : u ≡ renamed_one cycle t
+  pub event : IsEventAt c f g t u
+
+-- oldest fetched entries of a track, with these stamps, are renamed in a cycle one by one
+abbrev pub AreRenamedOf : (p : Profile) (cycle c limit : ℕ) → Flow → Track → List ℕ → Flow → Track → Type 0
+AreRenamedOf p cycle c limit f t [] g u = (g ≡ f) × (u ≡ t)
+AreRenamedOf p cycle c limit f t (stamp ∷ stamps) g u = (h : Flow) × (v : Track) × IsRenamedOf p cycle c limit stamp f t h v × AreRenamedOf p cycle c limit h v stamps g u
+
+-- they are no more than a width lists with those before them, and are listed after these
+pub record IsRunOf (p : Profile) (cycle c limit width : ℕ) (f : Flow) (t : Track) (g : Flow) (u : Track) (before after : List EntryId) : Type 0 where
+  pub stamps : List ℕ
+  pub renamed : AreRenamedOf p cycle c limit f t stamps g u
   pub listed : after ≡ before ++ ids_of c stamps
   pub most : length after ≤ width
 

@@ -1,4 +1,5 @@
 pub mod Machine
+pub mod Fills
 pub mod Shown
 pub mod Issued
 pub mod Issuing
@@ -9,3 +10,5 @@ pub mod First
 pub mod Turn
 pub mod Coming
 pub mod Completing
+-- of the crate below, what a contract here speaks of
+pub use Rattle.core_context.specs.FrontLists

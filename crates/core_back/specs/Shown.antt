@@ -11,6 +11,7 @@ use Rattle.core_profile.specs.declared.profile.Profile.{Profile}
 use Rattle.core_context.specs.Track.{Track}
 use Rattle.core_context.specs.Cores.{is_selected, IsCore}
 use Rattle.core_context.specs.Issuable.{AreLetGo, IsMarked}
+use Rattle.core_back.specs.Fills.{AreFills}
 use Rattle.core_back.specs.Machine.{Machine, no_track}
 
 abbrev pub machine_of : {A : Type 0} → Inside A → Machine
@@ -78,3 +79,4 @@ pub record IsMachine {A : Type 0} (m : Inside A) : Type 0 where
   pub waits : All (λ n. waits_in (waiting_flow m.selected m.flow) n.context n.stamp ≡ true) m.selected
   pub stamps : m.stamp + m.fetch_room ≤ 8 * (m.cycle + 1)
   pub room : HasRoom m.profile m.flow m.tracks.items
+  pub fills : AreFills m.fills m.tracks.items

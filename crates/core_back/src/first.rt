@@ -1,11 +1,12 @@
 //! What the parts of a machine are made of, and what is left of them.
 
-ghost use Rattle.std.specs.Prelude.{◌≡◌, ℕ, ◌+◌, ◌<◌, ◌≤◌, ◌^◌, length, take, get_or, slice_index, IfOk};
+ghost use Rattle.std.specs.Prelude.{◌≡◌, ℕ, [], ◌+◌, ◌<◌, ◌≤◌, ◌^◌, length, take, get_or, slice_index, IfOk};
 ghost use Rattle.std.specs.Arc.{arc_value};
 ghost use Rattle.join_law.specs.Eight.{place_of};
 ghost use Rattle.origin_set.specs.Start.{start};
 ghost use Rattle.data_flow.specs.Flow.{lane, with_lane};
 ghost use Rattle.core_back.specs.Machine.{no_track};
+ghost use Rattle.core_back.specs.Fills.{AreFills};
 ghost use Rattle.core_back.specs.First.{IsTarget, IsFirstTrack, AreFirstTracks, AreFirstLanes, IsReached};
 
 use checkpoint::Mark;
@@ -75,6 +76,20 @@ pub(crate) fn first_tracks<A: Allocator + Copy>(
         tracks.push(track).map_err(AllocError::from)?;
     }
     Ok(tracks)
+}
+
+/// How full the front lists of eight tracks are of which nothing is in flight.
+pub(crate) fn first_fills<A: Allocator>(tracks: &[Track<A>]) -> [u16; 8]
+    requires eight { length tracks.now ≡ 8 }
+    requires few { (c : ℕ) → c < 8 → (get_or tracks.now c no_track).capacity ≤ 80 }
+    requires empty { (c : ℕ) → c < 8 → (get_or tracks.now c no_track).context.flight ≡ [] }
+    ensures { AreFills result tracks.now }
+{
+    let mut fills = [0; 8];
+    for place in 0..8usize {
+        fills[place] = tracks[place].front_fill();
+    }
+    fills
 }
 
 /// Sets the registers of a context.

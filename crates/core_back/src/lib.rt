@@ -6,6 +6,7 @@ mod fetching;
 mod first;
 mod issuing;
 mod machine;
+mod renaming;
 mod retiring;
 mod selection;
 

@@ -1,22 +1,23 @@
 //! Eight contexts, and the data flow that they share.
 
-ghost use Rattle.std.specs.Prelude.{◌≡◌, ℕ, ◌+◌, ◌-◌, ◌<◌, ◌≤◌, ◌^◌, ◌&&◌, ◌==◌, false, not, length, drop, count_by, slice_get, slice_index, [], IfOk, IfSome, IsSome, MatchOption, Some, None, true, is_some, option_map, min, IsTrue, ◌↔◌};
+ghost use Rattle.std.specs.Prelude.{◌≡◌, ℕ, get_or, slice_set, if◌then◌else◌, ◌+◌, ◌-◌, ◌<◌, ◌≤◌, ◌^◌, ◌&&◌, ◌==◌, false, not, length, drop, count_by, slice_get, slice_index, [], IfOk, IfSome, IsSome, MatchOption, Some, None, true, is_some, option_map, min, IsTrue, ◌↔◌};
 ghost use Rattle.core_view.specs.declared.outcome.Outcome.TheVariants.{Stops};
 ghost use Rattle.core_view.specs.Events.{retire_event, stop_event, complete_event};
 ghost use Rattle.core_view.specs.Operations.{is_guessed};
 ghost use Rattle.core_view.specs.View.{entry_at, IsLive, IsSoundView};
 ghost use Rattle.lawful_cycle.specs.Rename.{CanRename, of_all, oldest_fetched};
 ghost use Rattle.core_view.specs.Flight.{is_queued, is_missed_load, is_open};
-ghost use Rattle.lawful_cycle.specs.Fetch.{is_fetched, is_eligible, oldest_place};
+ghost use Rattle.lawful_cycle.specs.Fetch.{front_places, is_fetched, is_eligible, oldest_place};
 ghost use Rattle.origin_set.specs.Start.{start};
 ghost use Rattle.core_back.specs.Machine.{IsAlike, context_at, in_flight, with_context, with_cycle, IsNextOf};
 ghost use Rattle.core_view.specs.Stages.{execution_of, IsIssued as IsIssuedStage};
 ghost use Rattle.flight.specs.Flights.{is_due, NoneFrom, IsNext};
+ghost use Rattle.core_context.specs.FrontLists.{front_fill};
 ghost use Rattle.core_context.specs.Heads.{IsGoing, first_done, step_on};
 ghost use Rattle.core_back.specs.Selected.{IsChosen, IsChosenOf, IsSuppliedPlace};
 ghost use Rattle.core_back.specs.Shown.{flow_left};
 ghost use Rattle.core_back.specs.Issued.{IsIssued, IsHeadWaiting};
-ghost use Rattle.core_back.specs.Fetched.{IsRenamed, IsRenamedRun, IsPickTurn};
+ghost use Rattle.core_back.specs.Fetched.{IsRenamedRun, IsPickTurn};
 ghost use Rattle.core_back.specs.Renamable.{front_stops};
 ghost use Rattle.core_back.specs.First.{IsFirst, IsTarget, AreMarksAt};
 ghost use Rattle.checkpoint.specs.Aligned.{IsAligned};
@@ -24,7 +25,8 @@ ghost use Rattle.join_law.specs.Eight.{place_of};
 ghost use Rattle.word_mask.specs.Mask.{has};
 
 use crate::fetching::fetch_block;
-use crate::first::{first_flow, first_tracks, marks_of, origins_of};
+use crate::first::{first_fills, first_flow, first_tracks, marks_of, origins_of};
+use crate::renaming::rename_entries;
 use crate::selection::Selection;
 use branch_predict::Guess;
 use checkpoint::Mark;
@@ -34,6 +36,7 @@ use core_profile::Profile;
 use core_view::{Entry, EntryId, Issue, Outcome, Status};
 use data_flow::DataFlow;
 use data_tags::{Delay, Lag};
+use fetch_policy::FRONT_ROOM;
 use hart_step::Stop;
 use hint::assert_unchecked;
 use issue_queue::Order;
@@ -56,6 +59,8 @@ pub struct Machine<A: Allocator = Global> {
     flow: DataFlow<A>,
     selected: Selection,
     origins: Eight<Arc<Origin<A>, A>>,
+    // How full each front list is: fetch reads all eight at once, which are in eight tracks.
+    fills: [u16; 8],
 }
 
 impl<A: Allocator> Model for Machine<A> {
@@ -88,10 +93,12 @@ impl<A: Allocator + Copy> Machine<A> {
         let origins = origins_of(marks)?;
         let flow = first_flow(alloc, marks, profile)?;
         let tracks = first_tracks(alloc, marks, targets, profile)?;
+        let fills = first_fills(tracks.as_slice());
         Ok(Machine {
             origins,
             flow,
             tracks,
+            fills,
             selected: Selection::new(),
             cycle: 0,
             stamp: 0,
@@ -241,7 +248,9 @@ impl<A: Allocator> Machine<A> {
         let track = &mut self.tracks[context.index()];
         // How many there are bounds how many are dropped.
         let _len = track.len();
-        events::retire(&mut self.flow, track, guess, context)
+        let retired = events::retire(&mut self.flow, track, guess, context);
+        close_parked(&mut self.fills, context, retired.parked);
+        retired
     }
 
     /// The oldest entry of a context, which is done with a stop, stops it. Returns how many entries are dropped: all.
@@ -255,6 +264,7 @@ impl<A: Allocator> Machine<A> {
         let track = &mut self.tracks[context.index()];
         let dropped = track.len();
         events::stop(&mut self.flow, track, context, why);
+        self.fills[context.index()] = FRONT_ROOM;
         dropped
     }
 
@@ -314,7 +324,9 @@ impl<A: Allocator> Machine<A> {
         ensures cut { result + length (context_at self.new context).flight ≡ length (context_at self.old context).flight }
     {
         let track = &mut self.tracks[context.index()];
-        events::complete(&mut self.flow, track, context, place)
+        let cut = events::complete(&mut self.flow, track, context, place);
+        self.fills[context.index()] = track.front_fill();
+        cut
     }
 
     /// Selects the first entries by an order that are queued and have the values of their sources, at most so many. A load
@@ -369,7 +381,7 @@ impl<A: Allocator> Machine<A> {
         while left != 0 {
             let context = first_context(left);
             let track = &self.tracks[context.index()];
-            let _held = events::hold_loads(&mut self.flow, track, context);
+            events::hold_loads(&mut self.flow, track, context);
             left = word_mask::cleared(left, context.index());
         }
         self.selected.hold_first(&mut self.flow, order, width);
@@ -395,6 +407,7 @@ impl<A: Allocator> Machine<A> {
         ensures issued { IfSome result (IsIssued (D.may_answer delay.old) self.old self.new) }
         ensures waits { result ≡ None → IsHeadWaiting self.old }
         ensures same { result ≡ None → self.new ≡ self.old }
+        ensures unasked { result ≡ None → delay.new ≡ delay.old }
         ensures keeps { D.may_answer delay.new ≡ D.may_answer delay.old }
         ensures keeps_greatest { D.greatest_lag delay.new ≡ D.greatest_lag delay.old }
     {
@@ -468,47 +481,6 @@ impl<A: Allocator> Machine<A> {
         self.flow.has_place()
     }
 
-    /// The oldest fetched entry of a context is renamed, if it can be and its stamp is no greater than a limit. Returns
-    /// its stamp.
-    #[inline(always)]
-    fn try_rename(&mut self, context: Ctx, limit: u64) -> Option<u64>
-        requires { self.old.names ≡ [] }
-        ensures none { result ≡ None → self.new ≡ self.old }
-        ensures cannot { result ≡ None → (e : Entry) → e.stamp ≤ limit → ¬ (CanRename self.old.view context e) }
-        ensures within { IfSome result (λ stamp. stamp ≤ limit) }
-        ensures renamed { IfSome result (IsRenamed self.old self.new context) }
-        ensures flights { in_flight self.new ≡ in_flight self.old }
-        ensures alike { IsAlike self.old self.new }
-        ensures idle { self.new.names ≡ [] }
-    {
-        let track = &mut self.tracks[context.index()];
-        events::rename(
-            &mut self.flow,
-            track,
-            context,
-            self.cycle,
-            &self.profile,
-            limit,
-        )
-    }
-
-    /// The same, and returns which entry it is.
-    #[inline(always)]
-    fn rename_next(&mut self, context: Ctx, limit: u64) -> Option<EntryId>
-        requires { self.old.names ≡ [] }
-        ensures none { result ≡ None → self.new ≡ self.old }
-        ensures cannot { result ≡ None → (e : Entry) → e.stamp ≤ limit → ¬ (CanRename self.old.view context e) }
-        ensures named { IfSome result (λ entry. entry ≡ record { context = context; stamp = entry.stamp }) }
-        ensures within { IfSome result (λ entry. entry.stamp ≤ limit) }
-        ensures renamed { IfSome result (λ entry. IsRenamed self.old self.new context entry.stamp) }
-        ensures flights { in_flight self.new ≡ in_flight self.old }
-        ensures alike { IsAlike self.old self.new }
-        ensures idle { self.new.names ≡ [] }
-    {
-        let stamp = self.try_rename(context, limit)?;
-        Some(id_of(context, stamp))
-    }
-
     /// The oldest fetched entries of a context are renamed, one by one, for as long as they can be, their stamps are no
     /// greater than a limit, and fewer than a width are listed. What is renamed is listed in order.
     // It stays out of line: in a caller's loop its conditional moves become jumps, which are guessed wrongly.
@@ -529,12 +501,30 @@ impl<A: Allocator> Machine<A> {
         ensures alike { IsAlike self.old self.new }
         ensures idle { self.new.names ≡ [] }
     {
-        for _turn in renamed.len()..width {
-            let Some(entry) = self.rename_next(context, limit) else {
-                return;
-            };
-            renamed.push(entry);
-        }
+        let before = renamed.len();
+        let track = &mut self.tracks[context.index()];
+        rename_entries(
+            &mut self.flow,
+            track,
+            context,
+            self.cycle,
+            &self.profile,
+            limit,
+            width,
+            renamed,
+        );
+        let place = context.index();
+        self.fills[place] -= (renamed.len() - before) as u16;
+    }
+
+    /// How full each context's front list is, as fetch counts it: with a whole list more where nothing can be fetched into
+    /// it, since the context doesn't run or waits.
+    #[inline(always)]
+    pub fn front_fills(&self) -> [u16; 8]
+        ensures { (c : ℕ) → c < 8 → get_or result c 0 ≡ front_fill (context_at self.now c) }
+    {
+        let Machine { fills, .. } = self;
+        *fills
     }
 
     /// How many entries of a context are fetched and not yet renamed.
@@ -623,6 +613,7 @@ impl<A: Allocator> Machine<A> {
             cycle,
             stamp,
             fetch_room,
+            fills,
             ..
         } = self;
         let track = &mut tracks[context.index()];
@@ -630,6 +621,7 @@ impl<A: Allocator> Machine<A> {
         let number = fetch_block(track, context, guess, *stamp, *cycle, most, fetched);
         *stamp += number as u64;
         *fetch_room -= number as u8;
+        fills[context.index()] = track.front_fill();
     }
 
     /// The next cycle begins.
@@ -657,12 +649,14 @@ pub(crate) fn first_context(word: u64) -> Ctx
     context
 }
 
-/// The entry of a context with a stamp.
+/// Nothing can be fetched into the front list of a context that is parked: it is as full as can be.
 #[inline(always)]
-fn id_of(context: Ctx, stamp: u64) -> EntryId
-    ensures { result ≡ record { context = context; stamp = stamp } }
+fn close_parked(fills: &mut [u16; 8], context: Ctx, parked: bool)
+    ensures { fills.new ≡ (if parked then slice_set fills.old context front_places else fills.old) }
 {
-    EntryId { context, stamp }
+    if parked {
+        fills[context.index()] = FRONT_ROOM;
+    }
 }
 
 /// What is held leaves the queue, once all that was selected has issued.

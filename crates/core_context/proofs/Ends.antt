@@ -21,7 +21,8 @@ pc_set pc [] i e same = refl
 pc_set pc (f ∷ es) zero e same = ap (λ q. pc_past q es) same
 pc_set pc (f ∷ es) (suc i) e same = pc_set f.followed es i e same
 
-open_set : (es : List Entry) (i : ℕ) (e : Entry) → e.operation ≡ (get_or es i no_entry).operation → is_open (set es i e) ≡ is_open es
+-- what entry stands at a place is nothing to fetch, but for its operation
+pub open_set : (es : List Entry) (i : ℕ) (e : Entry) → e.operation ≡ (get_or es i no_entry).operation → is_open (set es i e) ≡ is_open es
 open_set [] i e same = refl
 open_set (f ∷ []) zero e same = ap (λ o. not (stops_at_fetch o)) same
 open_set (f ∷ []) (suc i) e same = refl

@@ -1,7 +1,7 @@
 -- Loads that are held in the issue queue until they are clear.
 use Rattle.std.proofs.Common.{◌≡◌, ◌≢◌, ℕ, zero, suc, ◌+◌, ◌<◌, ◌≤◌, Bool, true, false, not, List, [], ◌∷◌, length, get_or, take, map, Option, Some, None, refl, sym, ap, subst, ◌∙◌, arith, inl, inr}
-use Rattle.std.specs.Prelude.{◌||◌, ◌&&◌, ◌==◌, set, if◌then◌else◌}
-use Rattle.std.proofs.lemmas.Bool.{and_parts, or_parts, eqb-true, cases_lt}
+use Rattle.std.specs.Prelude.{◌&&◌, ◌==◌, set, if◌then◌else◌}
+use Rattle.std.proofs.lemmas.Bool.{and_parts, eqb-true, cases_lt}
 use Rattle.std.proofs.lemmas.List.Elements.{All-map}
 use Rattle.hart_step.specs.declared.effect.Effect.{Effect}
 use Rattle.hart_step.specs.declared.effect.Effect.TheVariants as effect
@@ -168,21 +168,20 @@ none_completed_held f c t answered let_go none i lt stage =
 -- ---- the loads of a context, one after another
 
 -- the first entries of a context were asked of, and the loads of them that have to wait are held
-pub record AreHeldBelow (old f : Flow) (c : ℕ) (t : Track) (n : ℕ) (holds : Bool) : Type 0 where
+pub record AreHeldBelow (old f : Flow) (c : ℕ) (t : Track) (n : ℕ) : Type 0 where
   pub flow : IsRemarked old f
   pub held : (i : ℕ) → i < n → (entry_at t.context i).stage ≡ Queued → IsMarked f c (entry_at t.context i).stamp (must_wait t.context i (sources_at (lane old c) i))
   pub rest : (i : ℕ) → n ≤ i → i < length t.context.flight → IsMarked f c (entry_at t.context i).stamp false
   pub others : (d k : ℕ) (b : Bool) → d ≢ c → IsMarked old d k b → IsMarked f d k b
-  pub none : holds ≡ false → f ≡ old
 
-pub held_first : (f : Flow) (c : ℕ) (t : Track) → ((k : ℕ) → IsMarked f c k false) → AreHeldBelow f f c t 0 false
-held_first f c t let_go = record { flow = remark_none f; held = λ i lt. absurd (omega (arith, lt)); rest = λ i le lt. let_go (entry_at t.context i).stamp; others = λ d k b other h. h; none = λ h. refl }
+pub held_first : (f : Flow) (c : ℕ) (t : Track) → ((k : ℕ) → IsMarked f c k false) → AreHeldBelow f f c t 0
+held_first f c t let_go = record { flow = remark_none f; held = λ i lt. absurd (omega (arith, lt)); rest = λ i le lt. let_go (entry_at t.context i).stamp; others = λ d k b other h. h }
 
 -- one more
-pub held_next : (old f g : Flow) (c : ℕ) (t : Track) (n : ℕ) (holds held now : Bool) → AreHeldBelow old f c t n holds → n < length t.context.flight → IsGrowing 0 t.context.flight → IsRemarked f g
+pub held_next : (old f g : Flow) (c : ℕ) (t : Track) (n : ℕ) → AreHeldBelow old f c t n → n < length t.context.flight → IsGrowing 0 t.context.flight → IsRemarked f g
     → ((entry_at t.context n).stage ≡ Queued → IsMarked g c (entry_at t.context n).stamp (must_wait t.context n (sources_at (lane f c) n)))
-    → ((d k : ℕ) (b : Bool) → (k ≡ (entry_at t.context n).stamp → d ≢ c) → IsMarked f d k b → IsMarked g d k b) → (held ≡ false → g ≡ f) → now ≡ (holds || held) → AreHeldBelow old g c t (n + 1) now
-held_next old f g c t n holds held now h lt growing marks here others kept is = record {
+    → ((d k : ℕ) (b : Bool) → (k ≡ (entry_at t.context n).stamp → d ≢ c) → IsMarked f d k b → IsMarked g d k b) → AreHeldBelow old g c t (n + 1)
+held_next old f g c t n h lt growing marks here others = record {
   flow = remarked_twice old f g h.flow marks;
   held = λ i below stage. elim (cases_lt i n) [
     | inl before ↦ others c (entry_at t.context i).stamp (must_wait t.context i (sources_at (lane old c) i)) (λ same. apart i (queued_within t.context.flight i stage) same (omega (arith, before))) (h.held i before stage)
@@ -190,7 +189,6 @@ held_next old f g c t n holds held now h lt growing marks here others kept is = 
   ];
   rest = λ i le within. others c (entry_at t.context i).stamp false (λ same. apart i within same (omega (arith, le))) (h.rest i (omega (arith, le)) within);
   others = λ d k b other was. others d k b (λ same. other) (h.others d k b other was);
-  none = λ nothing. let parts = or_parts holds held (sym is ∙ nothing) in kept parts.1 ∙ h.none parts.0;
 }
   where
     apart : (i : ℕ) → i < length t.context.flight → (entry_at t.context i).stamp ≡ (entry_at t.context n).stamp → i ≢ n → c ≢ c
@@ -202,8 +200,8 @@ held_next old f g c t n holds held now h lt growing marks here others kept is = 
         rw last (rw lanes at here (rw last at stage))
 
 -- places where no load waits are passed over
-pub held_skip : (old f : Flow) (c : ℕ) (t : Track) (n m : ℕ) (holds : Bool) → AreHeldBelow old f c t n holds → n ≤ m → ((i : ℕ) → n ≤ i → i < m → is_waiting_load (entry_at t.context i) ≡ false) → AreHeldBelow old f c t m holds
-held_skip old f c t n m holds h le none = record {
+pub held_skip : (old f : Flow) (c : ℕ) (t : Track) (n m : ℕ) → AreHeldBelow old f c t n → n ≤ m → ((i : ℕ) → n ≤ i → i < m → is_waiting_load (entry_at t.context i) ≡ false) → AreHeldBelow old f c t m
+held_skip old f c t n m h le none = record {
   flow = h.flow;
   held = λ i lt stage. elim (cases_lt i n) [
     | inl before ↦ h.held i before stage
@@ -211,15 +209,14 @@ held_skip old f c t n m holds h le none = record {
   ];
   rest = λ i from within. h.rest i (omega (arith, le, from)) within;
   others = h.others;
-  none = h.none;
 }
   where
     other : (i : ℕ) → is_waiting_load (entry_at t.context i) ≡ false → (entry_at t.context i).stage ≡ Queued → is_load (entry_at t.context i).operation ≡ false
     other i idle stage = sym (ap (λ s. is_waiting_stage s && is_load (entry_at t.context i).operation) stage) ∙ idle
 
 -- all of them
-pub held_all : (old f : Flow) (c : ℕ) (t : Track) (n : ℕ) (holds : Bool) → AreHeldBelow old f c t n holds → t.renamed ≤ n → AreHeld f c t
-held_all old f c t n holds h le i lt stage =
+pub held_all : (old f : Flow) (c : ℕ) (t : Track) (n : ℕ) → AreHeldBelow old f c t n → t.renamed ≤ n → AreHeld f c t
+held_all old f c t n h le i lt stage =
     let lanes : lane f c ≡ lane old c = remarked_lane old f c h.flow in
     rw lanes (h.held i (omega (arith, le, lt)) stage)
 

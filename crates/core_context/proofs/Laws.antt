@@ -16,6 +16,8 @@ pub use Rattle.core_context.proofs.Retires.{is_first_done}
 
 pub use Rattle.core_context.proofs.RenamedAreOldest.{count_cons, count_split, eligible_is, fetched_count, fetched_none, guessed_count, missed_count}
 pub use Rattle.core_context.proofs.WaitingCounts.{count_waiters, oldest_waiting, sum_eight_same, waiting_guesses, waiting_number}
+-- how full its front list is, before and after an event
+pub use Rattle.core_context.proofs.FrontFills.{fill_finished, fill_is, fill_issued, fill_renamed, fill_retired}
 -- ---- what waits
 
 pub use Rattle.core_context.proofs.Queue.{behind_at, core_waiting, eight-remarked, waiting-remarked}

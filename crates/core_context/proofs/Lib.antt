@@ -28,3 +28,4 @@ pub mod PlainNext
 pub mod AnyNext
 pub mod Laws
 pub mod Ends
+pub mod FrontFills

@@ -9,6 +9,7 @@ pub mod NextEntry
 pub mod Renamable
 pub mod Left
 pub mod Ends
+pub mod FrontLists
 -- of the crate below, what contracts here speak of
 pub use Rattle.entry_stages.specs.Plain
 pub use Rattle.entry_stages.specs.Heads

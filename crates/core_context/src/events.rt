@@ -11,7 +11,7 @@ ghost use Rattle.core_view.specs.Flight.{is_open_guess as is_open_guess_entry};
 ghost use Rattle.core_view.specs.Operations.{destination_of, stops_at_fetch};
 ghost use Rattle.core_view.specs.View.{entry_at};
 ghost use Rattle.core_context.specs.Issuable.{HasIssued, HasToWait, IsAnswered, IsSupplied, IsSuppliedAt, IsIssuable, IsIssuableAt, IsMarked, must_wait, AreHeld};
-ghost use Rattle.core_context.specs.Track.{is_last, retired, parked, stopped, completed, renamed_one};
+ghost use Rattle.core_context.specs.Track.{is_last, retired, parked, stopped, completed, finished, renamed_one};
 ghost use Rattle.core_context.specs.Cores.{operands_of};
 ghost use Rattle.entry_stages.specs.Heads.{IsGoing, first_done, step_on};
 ghost use Rattle.core_view.specs.Stages.{execution_of, IsIssued};
@@ -32,12 +32,14 @@ use hart_step::Stop;
 use join_law::Ctx;
 use std::alloc::Allocator;
 
-/// What retired: the stamp of the entry, and how many younger ones were dropped with it.
+/// What retired: the stamp of the entry, whether the context is parked, and how many younger ones were dropped with it.
 #[derive(Clone, Copy)]
 pub struct Retired {
     /// Its stamp.
     pub stamp: u64,
-    /// How many entries were dropped: all that were left, where the context came to its target.
+    /// Whether the context came to its target, and is parked.
+    pub parked: bool,
+    /// How many entries were dropped: all that were left, where it is parked.
     pub dropped: usize,
 }
 
@@ -55,6 +57,7 @@ pub fn retire<A: Allocator, G: Guess>(
     ensures track { track.new ≡ retired track.old (step_on (first_done track.old.context.flight)) }
     ensures event { IsEventAt context flow.old flow.new track.old track.new }
     ensures stamp { result.stamp ≡ (entry_at track.old.context 0).stamp }
+    ensures parked { result.parked ≡ is_last track.old.context }
     ensures dropped { result.dropped + 1 + length track.new.context.flight ≡ length track.old.context.flight }
     ensures keeps { G.may_answer guess.new ≡ G.may_answer guess.old }
 {
@@ -62,9 +65,17 @@ pub fn retire<A: Allocator, G: Guess>(
     flow.commit(context);
     if track.is_at_target() {
         let dropped = park(flow, track, context);
-        return Retired { stamp, dropped };
+        return Retired {
+            stamp,
+            parked: true,
+            dropped,
+        };
     }
-    Retired { stamp, dropped: 0 }
+    Retired {
+        stamp,
+        parked: false,
+        dropped: 0,
+    }
 }
 
 /// A context that has reached its target is parked, and its entries are dropped. Returns how many.
@@ -106,6 +117,7 @@ pub fn complete_plain<A: Allocator>(
     ensures none { result ≡ None → (flow.new ≡ flow.old) × (track.new ≡ track.old) }
     ensures track { IfSome result (λ _. track.new ≡ completed track.old place (execution_of (entry_at track.old.context place).stage)) }
     ensures kept { IfSome result (λ _. length track.new.context.flight ≡ length track.old.context.flight) }
+    ensures finished { IfSome result (λ _. track.new ≡ finished track.old place (execution_of (entry_at track.old.context place).stage)) }
     ensures more { IfSome result (λ more. more ≡ false → (i : ℕ) → is_due cycle (entry_at track.new.context i) ≡ false) }
     ensures event { IsEventAt context flow.old flow.new track.old track.new }
 {
@@ -420,6 +432,7 @@ pub fn issue<A: Allocator, D: Delay>(
     ensures issued { IfSome result (HasIssued (D.may_answer delay.old context) flow.now context stamp cycle track.old track.new) }
     ensures waits { result ≡ None → HasToWait flow.now context stamp track.old }
     ensures same { result ≡ None → track.new ≡ track.old }
+    ensures unasked { result ≡ None → delay.new ≡ delay.old }
     ensures keeps { D.may_answer delay.new ≡ D.may_answer delay.old }
     ensures keeps_greatest { D.greatest_lag delay.new ≡ D.greatest_lag delay.old }
 {
@@ -487,6 +500,7 @@ fn issue_at<A: Allocator, D: Delay>(
     ensures issued { IfSome result (HasIssued (D.may_answer delay.old context) flow.now context (entry_at track.old.context place).stamp cycle track.old track.new) }
     ensures waits { result ≡ None → HasToWait flow.now context (entry_at track.old.context place).stamp track.old }
     ensures same { result ≡ None → track.new ≡ track.old }
+    ensures unasked { result ≡ None → delay.new ≡ delay.old }
     ensures keeps { D.may_answer delay.new ≡ D.may_answer delay.old }
     ensures keeps_greatest { D.greatest_lag delay.new ≡ D.greatest_lag delay.old }
 {
@@ -518,41 +532,31 @@ fn issue_apart<A: Allocator, D: Delay>(
     )
 }
 
-/// Tells the queue which loads of a context, which are all let go, have to wait for an older store. Returns whether one
-/// has to.
-pub fn hold_loads<A: Allocator>(flow: &mut DataFlow<A>, track: &Track<A>, context: Ctx) -> bool
+/// Tells the queue which loads of a context, which are all let go, have to wait for an older store.
+pub fn hold_loads<A: Allocator>(flow: &mut DataFlow<A>, track: &Track<A>, context: Ctx)
     requires nodes { length (lane flow.old context).nodes ≡ track.now.renamed }
     requires answered { (i : ℕ) → i < track.now.renamed → IsAnswered track.now.context i }
     requires let_go { (k : ℕ) → IsMarked flow.old context k false }
     ensures flow { IsRemarked flow.old flow.new }
     ensures held { AreHeld flow.new context track.now }
     ensures others { (d k : ℕ) (b : Bool) → d ≢ context → IsMarked flow.old d k b → IsMarked flow.new d k b }
-    ensures none { result ≡ false → flow.new ≡ flow.old }
 {
     if track.has_no_completed_store() {
-        return false;
+        return;
     }
-    let mut holds = false;
     let mut from = 0;
     for _turn in 0..track.renamed_count() {
         let Some(place) = track.next_queued_load(from) else {
-            return holds;
+            return;
         };
-        let held = hold_load(flow, track, context, place);
-        holds = holds || held;
+        hold_load(flow, track, context, place);
         from = place + 1;
     }
-    holds
 }
 
 /// Holds the entry of a context at a place, which is queued and let go, if it has the values of its sources and has to
-/// wait for an older store. Returns whether it has to.
-fn hold_load<A: Allocator>(
-    flow: &mut DataFlow<A>,
-    track: &Track<A>,
-    context: Ctx,
-    place: usize,
-) -> bool
+/// wait for an older store.
+fn hold_load<A: Allocator>(flow: &mut DataFlow<A>, track: &Track<A>, context: Ctx, place: usize)
     requires place { place < track.now.renamed }
     requires nodes { length (lane flow.old context).nodes ≡ track.now.renamed }
     requires queued { (entry_at track.now.context place).stage ≡ Queued }
@@ -561,17 +565,15 @@ fn hold_load<A: Allocator>(
     ensures flow { IsRemarked flow.old flow.new }
     ensures held { IsMarked flow.new context (entry_at track.now.context place).stamp (must_wait track.now.context place (sources_at (lane flow.old context) place)) }
     ensures others { (d k : ℕ) (b : Bool) → (k ≡ (entry_at track.now.context place).stamp → d ≢ context) → IsMarked flow.old d k b → IsMarked flow.new d k b }
-    ensures none { result ≡ false → flow.new ≡ flow.old }
 {
     // How many are renamed is at most how many there are.
     let _renamed = track.renamed_count();
     let Some((first, _second)) = flow.sources(context, place) else {
-        return false;
+        return;
     };
     if !track.load_waits_by_search(place, first) {
-        return false;
+        return;
     }
     let entry = track.entry_at(place);
     flow.hold(context, entry.stamp, true);
-    true
 }

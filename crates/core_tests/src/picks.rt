@@ -7,7 +7,7 @@ use crate::equal::assert_equal;
 use core_profile::FetchPolicy;
 use fetch_policy::{
     Brcount, FetchContext, FetchView, Icount, Iqposn, Misscount, NO_COUNT, NO_KEY, NamedPick, Pick,
-    RoundRobin, choose, first_by_rank, ranks, without, without_full,
+    RoundRobin, choose, first_by_rank, ranks, sums, without, without_full,
 };
 use join_law::{Ctx, Eight};
 use std::simd::prelude::*;
@@ -136,6 +136,18 @@ fn contexts_with_sixteen_fetched_entries_are_left_out(rt: HostRuntime) {
         &rt,
         without_full(&[3, 0, 160, 7, 12, 15, 16, NO_COUNT], &fetched),
         [3, 0, 8191, 8191, 8191, 15, 16, 8191],
+    );
+}
+
+#[test]
+fn sums_are_of_each_context(rt: HostRuntime) {
+    assert_equal(
+        &rt,
+        sums(
+            &[0, 1, 80, 7, 65535, 65535, 300, 12],
+            &[0, 16, 32, 0, 0, 1, 5, 12],
+        ),
+        [0, 17, 112, 7, 65535, 0, 305, 24],
     );
 }
 

@@ -215,17 +215,6 @@ impl<A: Allocator> DataFlow<A> {
         }
     }
 
-    /// Removes the first instructions by an order that have the values of their sources, at most so many, from those
-    /// that wait, and lists their names in that order.
-    pub fn select<O: Order>(&mut self, order: &O, width: usize, names: &mut ArrayVec<EntryId, 8>)
-        requires width { width ≤ 8 }
-        requires empty { names.old.items ≡ [] }
-        ensures lanes { self.new ≡ record self.old { waiters = self.new.waiters } }
-        ensures selected { IsSelected (λ e. O.key_of order.now (view_of e)) width (queued self.old) (queued self.new) names.new.items }
-    {
-        self.queue.select_into(order, width, names);
-    }
-
     /// Lists the first instructions by an order that have the values of their sources, at most so many, in that order,
     /// and holds them. All of them still wait.
     #[inline(always)]

@@ -8,7 +8,7 @@ mod policies;
 mod view;
 
 pub use choice::choose;
-pub use least::{FRONT_ROOM, NO_COUNT, NO_KEY, first_by_rank, ranks, without, without_full};
+pub use least::{FRONT_ROOM, NO_COUNT, NO_KEY, first_by_rank, ranks, sums, without, without_full};
 pub use named::NamedPick;
 pub use policies::{Brcount, Icount, Iqposn, Misscount, Pick, RoundRobin};
 pub use view::{Count, FetchContext, FetchView};

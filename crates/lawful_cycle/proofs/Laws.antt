@@ -11,3 +11,6 @@ pub use Rattle.lawful_cycle.proofs.Timing.{cycle_timely}
 pub use Rattle.lawful_cycle.proofs.KeptEntries.{retire_keeps, complete_keeps, issue_keeps, rename_keeps, fetch_keeps, holds_of_oldest}
 -- what retires, completes or issues leaves a context's oldest fetched entry, if any stays, as it is
 pub use Rattle.lawful_cycle.proofs.OldestFetched.{HasOwnStamps, retire_oldest, complete_oldest, issue_oldest}
+-- a place is another or isn't; what can be told from each other is in a list or isn't
+pub use Rattle.lawful_cycle.proofs.UniqueIssue.{same_or_not}
+pub use Rattle.lawful_cycle.proofs.OneFirst.{among_or_not}

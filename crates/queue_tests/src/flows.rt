@@ -51,13 +51,13 @@ fn of_three(rt: &impl Abort, alloc: Global) -> DataFlow
     flow
 }
 
-// By an order these are taken of what waits, first to last.
-fn assert_selected<O: Order>(rt: &impl Abort, flow: &mut DataFlow, order: &O, stamps: &[u64])
+// By an order these are listed of what waits, first to last, and held.
+fn assert_held<O: Order>(rt: &impl Abort, flow: &mut DataFlow, order: &O, stamps: &[u64])
     ensures { flow.new ≡ record flow.old { waiters = flow.new.waiters } }
 {
-    let mut selected = ArrayVec::new();
-    flow.select(order, 8, &mut selected);
-    assert!(rt; has_stamps(selected.as_slice(), stamps));
+    let mut held = ArrayVec::new();
+    flow.hold_first(order, 8, &mut held);
+    assert!(rt; has_stamps(held.as_slice(), stamps));
 }
 
 // How many registers are free, how many of a context wait, and how many of these are guessed.
@@ -99,7 +99,8 @@ fn finish_two(rt: &impl Abort, flow: &mut DataFlow)
         flow.sources(first, 1),
         flow.sources(second, 0),
     ];
-    assert_selected(rt, flow, &OldestFirst, &[1, 3]);
+    assert_held(rt, flow, &OldestFirst, &[1, 3]);
+    flow.drop_held();
     flow.finish(first, 0, 15);
     let [of_first, of_second, of_third] = sources;
     assert_equal(
@@ -107,7 +108,8 @@ fn finish_two(rt: &impl Abort, flow: &mut DataFlow)
         [of_first, of_second, of_third, flow.sources(first, 1)],
         [Some((10, 0)), None, Some((20, 20)), Some((15, 10))],
     );
-    assert_selected(rt, flow, &OldestFirst, &[2]);
+    assert_held(rt, flow, &OldestFirst, &[2]);
+    flow.drop_held();
     flow.finish(first, 1, 25);
 }
 
@@ -182,24 +184,22 @@ fn leaves_a_held_one(rt: HostRuntime) {
     let let_go = flow.contexts_with_ready_load();
     flow.hold(second, 3, true);
     assert_equal(&rt, [let_go, flow.contexts_with_ready_load()], [0b10, 0]);
-    assert_selected(&rt, &mut flow, &OldestFirst, &[1]);
+    assert_held(&rt, &mut flow, &OldestFirst, &[1]);
     flow.hold(second, 3, false);
-    assert_selected(&rt, &mut flow, &OldestFirst, &[3]);
+    assert_held(&rt, &mut flow, &OldestFirst, &[3]);
 }
 
 #[test]
 fn holds_what_it_lists(rt: HostRuntime) {
     let mut flow = of_three(&rt, rt.alloc());
     let [first, second, ..] = Ctx::all();
-    let mut held = ArrayVec::new();
-    flow.hold_first(&OldestFirst, 8, &mut held);
-    assert!(&rt; has_stamps(held.as_slice(), &[1, 3]));
+    assert_held(&rt, &mut flow, &OldestFirst, &[1, 3]);
     let all = [flow.waiting_count(first), flow.waiting_count(second)];
     flow.hold(second, 3, false);
     flow.drop_held();
     let left = [flow.waiting_count(first), flow.waiting_count(second)];
     assert_equal(&rt, [all, left], [[2, 1], [1, 1]]);
-    assert_selected(&rt, &mut flow, &OldestFirst, &[3]);
+    assert_held(&rt, &mut flow, &OldestFirst, &[3]);
 }
 
 #[test]
@@ -207,5 +207,5 @@ fn takes_a_speculative_one_last(rt: HostRuntime) {
     let mut flow = of_three(&rt, rt.alloc());
     let [first, ..] = Ctx::all();
     flow.speculate(first, 1, true);
-    assert_selected(&rt, &mut flow, &SpecLast, &[3, 1]);
+    assert_held(&rt, &mut flow, &SpecLast, &[3, 1]);
 }

@@ -1,15 +1,15 @@
-use Rattle.std.proofs.Common.{◌≡◌, ◌-◌, length, refl, sym, ap, ◌∙◌, arith}
+use Rattle.std.proofs.Common.{◌≡◌, ◌+◌, ◌-◌, length, refl, sym, ap, ◌∙◌, arith}
 use Rattle.std.proofs.lemmas.List.{length-map}
 use Rattle.std.specs.Arc.{arc_value}
 use Rattle.origin_set.specs.Start.{start}
 use Rattle.core_view.specs.View.{Context}
 use Rattle.lawful_cycle.specs.Fetch.{front_room, is_eligible}
 use Rattle.core_context.specs.Track.{Track}
-use Rattle.core_context.proofs.Laws.{fetched_count}
+use Rattle.core_context.proofs.Laws.{fetched_count, fill_is}
 use Rattle.core_back.specs.Machine.{Machine}
 use Rattle.core_back.proofs.BlockTurns.{ids_length, pick_turn, takes_turn}
 use Rattle.core_back.proofs.InFlight.{in_flight_turn}
-use Rattle.core_back.proofs.Machines.{At, at_context, idle_core, machine_fetched, shown_fetched}
+use Rattle.core_back.proofs.Machines.{At, at_context, fills_set, idle_core, machine_fetched, shown_fetched}
 use Rattle.core_back.proofs.machine.Machine.fetch_block.Given.{Over}
 use Rattle.core_back.proofs.machine.Machine.fetch_block.Goals as goal
 use Rattle.core_back.proofs.machine.Machine.fetch_block.Goals.{After-index_mut-track}
@@ -49,6 +49,16 @@ invariant_of-self g c =
     (e.kept (start (arc_value c.self.inside.origins.c0) c.args.context) c.self.inside.profile.reorder_buffer c.self.inside.flow core)
     (e.loads ∙ ap (λ (t : Track). t.load_places) h.track) (e.stores ∙ ap (λ (t : Track). t.store_places) h.track) c.index.ensures.value refl refl refl refl refl refl
     (omega (arith, c.fetch_block-number.ensures.most, c.most_in_turn-most.ensures)) refl
+    (fills_set c.self.inside.fills c.self.inside.tracks.items c.args.context c.index-2.result c.front_fill.result c.fetch_block-number.new.track c.self.invariant.fills (omega (arith, c.index.ensures)) c.self.invariant.tracks c.index-2.ensures.value
+    (c.front_fill.ensures ∙ sym (fill_is (start (arc_value c.self.inside.origins.c0) c.args.context) (c.self.inside.stamp + c.fetch_block-number.result) c.self.inside.profile.reorder_buffer c.self.inside.flow c.args.context c.fetch_block-number.new.track
+    (e.kept (start (arc_value c.self.inside.origins.c0) c.args.context) c.self.inside.profile.reorder_buffer c.self.inside.flow core))))
+
+pub front_fill-requires : goal.front_fill-requires
+front_fill-requires g c =
+    let h = here g (goal.at.front_fill-requires g c).After-index_mut-track in
+    let core = idle_core c.self.inside c.args.self.now c.args.context c.index_mut-track.result.now c.self.view_is c.requires.idle h in
+    let after = c.fetch_block-number.ensures.block.kept (start (arc_value c.self.inside.origins.c0) c.args.context) c.self.inside.profile.reorder_buffer c.self.inside.flow core in
+    let most = c.self.inside.profile.reorder_buffer_in_range.1 in omega (arith, after.capacity, most)
 
 pub returns-clause-turn : goal.returns-clause-turn
 returns-clause-turn g c =

@@ -11,7 +11,7 @@ invariant_of-self g c =
     let some : 0 < length m.selected = rw (← c.self.view_is) at c.requires in
     let is : c.drop_held.new.self ≡ record m.flow { waiters = filter (λ v. not v.held) (map (marked_among m.selected false) m.flow.waiters) } =
     c.drop_held.ensures ∙ ap (λ (f : Flow). let g : Flow = record f { waiters = filter (λ v. not v.held) f.waiters } in g) c.mark.ensures in
-    given_machine m _ c.args.self.now c.self.view_is c.self.invariant some is refl refl c.clear.ensures refl refl refl refl
+    given_machine m _ c.args.self.now c.self.view_is c.self.invariant some is refl refl c.clear.ensures refl refl refl refl refl
 
 pub returns : goal.returns
 returns g c = rw (c.clear.ensures, ← c.self.view_is) refl

@@ -23,13 +23,16 @@ issue-requires-clause-supplied g c =
 pub invariant_of-self : goal.invariant_of-self
 invariant_of-self g c =
     let h = first g (goal.at.invariant_of-self g c).After-index_mut-track in
-    machine_same c.self.inside _ c.first-name.result.context c.index.result c.issue.new.track c.self.invariant (c.issue.ensures.same c.in_err-lag.was ∙ h.shown.track) c.index.ensures.value refl refl refl refl refl refl refl refl
+    machine_same c.self.inside _ c.first-name.result.context c.index.result c.issue.new.track c.self.invariant (c.issue.ensures.same c.in_err-lag.was ∙ h.shown.track) c.index.ensures.value refl refl refl refl refl refl refl refl refl
 
 pub returns-in_err-lag-clause-waits : goal.returns-in_err-lag-clause-waits
 returns-in_err-lag-clause-waits g c _ =
     let h = first g (goal.at.returns-in_err-lag-clause-waits g c).After-index_mut-track in
     let r = c.issue.ensures.waits c.in_err-lag.was in
     head_waits c.self.inside c.args.self.now c.first-name.result (drop 1 c.self.inside.selected) c.index_mut-track.result.now c.self.view_is h r.place r.first r.second r.within r.stamp r.sources r.waits
+
+pub returns-in_err-lag-clause-unasked : goal.returns-in_err-lag-clause-unasked
+returns-in_err-lag-clause-unasked g c _ = c.issue.ensures.unasked c.in_err-lag.was
 
 pub invariant_of-self-2 : goal.invariant_of-self-2
 invariant_of-self-2 g c =
@@ -39,7 +42,7 @@ invariant_of-self-2 g c =
     let rest : List EntryId = drop 1 c.self.inside.selected in
     let core = issued_core c.self.inside c.args.self.now c.first-name.result rest c.index_mut-track.result.now h r.place x r.first r.second r.within r.stamp r.sources r.clear refl in
     issued_machine c.self.inside _ c.args.self.now c.first-name.result c.index.result rest c.index_mut-track.result.now r.place x c.self.invariant h (omega (arith, c.index.ensures)) core c.index.ensures.value refl
-    (c.drop_issued.ensures ∙ ap (λ ns. flow_left ns c.self.inside.flow) c.take_first-first.ensures.rest) (ap (set c.self.inside.tracks.items c.index.result) r.after) c.take_first-first.ensures.rest refl refl refl refl
+    (c.drop_issued.ensures ∙ ap (λ ns. flow_left ns c.self.inside.flow) c.take_first-first.ensures.rest) (ap (set c.self.inside.tracks.items c.index.result) r.after) c.take_first-first.ensures.rest refl refl refl refl refl
 
 pub returns-clause-issued : goal.returns-clause-issued
 returns-clause-issued g c =

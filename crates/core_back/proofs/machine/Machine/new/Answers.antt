@@ -6,6 +6,7 @@ use Rattle.core_view.specs.declared.note.EntryId.{EntryId}
 use Rattle.data_flow.specs.Flow.{waits_in}
 use Rattle.core_context.specs.Issuable.{IsMarked}
 use Rattle.core_context.specs.Track.{Track}
+use Rattle.core_back.specs.Fills.{AreFills}
 use Rattle.core_back.specs.Machine.{no_track}
 use Rattle.core_back.specs.Shown.{AreApart, IsSuppliedIn, waiting_in, waiting_flow}
 use Rattle.core_back.proofs.FirstMachine.{first_core, mark_of_first, origin_of_first, first_context_at, count_of_tracks}
@@ -34,6 +35,7 @@ invariant_of-result g c =
         loads = λ d lt. ap (λ (t : Track). t.load_places) (c.in_ok-tracks.ensures.each d lt).first;
         stores = λ d lt. ap (λ (t : Track). t.store_places) (c.in_ok-tracks.ensures.each d lt).first;
       };
+      fills = subst (λ (ts : List Track). AreFills c.first_fills-fills.result ts) c.as_slice.ensures.value c.first_fills-fills.ensures;
     }
 
 pub returns : goal.returns
@@ -47,3 +49,11 @@ returns g c = record {
   count = count_of_tracks c.in_ok-tracks.tracks.items ∙ c.in_ok-tracks.ensures.count;
   contexts = λ d lt. first_context_at c.args.profile.now (place_of c.args.marks.now d) (slice_index c.args.targets.now d) c.in_ok-tracks.tracks.items d (c.in_ok-tracks.ensures.each d lt);
 }
+
+pub first_fills-fills-requires-clause-few : goal.first_fills-fills-requires-clause-few
+first_fills-fills-requires-clause-few g c d lt =
+    let is = ap (λ (ts : List Track). (get_or ts d no_track).capacity) c.as_slice.ensures.value ∙ ap (λ (t : Track). t.capacity) (c.in_ok-tracks.ensures.each d lt).first in
+    omega (arith, is, c.args.profile.now.reorder_buffer_in_range.1)
+
+pub first_fills-fills-requires-clause-empty : goal.first_fills-fills-requires-clause-empty
+first_fills-fills-requires-clause-empty g c d lt = ap (λ (ts : List Track). (get_or ts d no_track).context.flight) c.as_slice.ensures.value ∙ ap (λ (t : Track). t.context.flight) (c.in_ok-tracks.ensures.each d lt).first

@@ -27,7 +27,7 @@ returns-clause-same g c =
 pub invariant_of-self : goal.invariant_of-self
 invariant_of-self g c =
     let h = here g (goal.at.invariant_of-self g c).After-index_mut-track in
-    machine_same c.self.inside _ c.args.context c.index.result c.next_due.new.self c.self.invariant (c.next_due.ensures.same ∙ h.track) c.index.ensures.value refl refl refl refl refl refl refl refl
+    machine_same c.self.inside _ c.args.context c.index.result c.next_due.new.self c.self.invariant (c.next_due.ensures.same ∙ h.track) c.index.ensures.value refl refl refl refl refl refl refl refl refl
 
 pub returns-clause-few : goal.returns-clause-few
 returns-clause-few g c = c.next_due.ensures.few

@@ -1,4 +1,4 @@
-use Rattle.std.proofs.Common.{◌≡◌, List, length, arith, refl, ap}
+use Rattle.std.proofs.Common.{List, length, arith, refl, ap}
 use Rattle.std.proofs.lemmas.List.{length-map}
 use Rattle.issue_queue.specs.Views.{name_of}
 use Rattle.core_view.specs.declared.note.EntryId.{EntryId}
@@ -12,7 +12,7 @@ invariant_of-self g c =
     let m = c.self.inside in
     let same : IsRemarked m.flow m.flow = record { flow = refl; waits = refl } in
     selected_machine m _ c.args.self.now m.flow m.flow c.self.view_is c.self.invariant c.requires.idle same c.hold_first.ensures.selected same (c.self.invariant.let_go (idle_names m c.args.self.now c.self.view_is c.requires.idle)) c.hold_first.ensures.flow
-    refl refl refl refl refl refl refl
+    refl refl refl refl refl refl refl refl
 
 pub returns-clause-selected : goal.returns-clause-selected
 returns-clause-selected g c = rw (← c.self.view_is) refl

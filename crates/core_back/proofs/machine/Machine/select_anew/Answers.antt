@@ -1,4 +1,4 @@
-use Rattle.std.proofs.Common.{◌≡◌, ap, subst, ◌∙◌}
+use Rattle.std.proofs.Common.{ap, subst, ◌∙◌}
 use Rattle.core_view.specs.View.{View}
 use Rattle.core_back.specs.Machine.{Machine}
 use Rattle.core_back.specs.Selected.{IsChosen}

@@ -15,24 +15,24 @@ loop-left-init g c = record {
   machine = c.self.inside;
   shows = c.self.view_is;
   ok = c.self.invariant;
-  so_far = held_first c.self.inside _ c.args.self.now c.contexts_with_ready_load-left.result c.self.view_is c.self.invariant c.requires.idle refl c.contexts_with_ready_load-left.ensures.known c.contexts_with_ready_load-left.ensures.lacking refl refl refl refl refl refl;
+  so_far = held_first c.self.inside _ c.args.self.now c.contexts_with_ready_load-left.result c.self.view_is c.self.invariant c.requires.idle refl c.contexts_with_ready_load-left.ensures.known c.contexts_with_ready_load-left.ensures.lacking refl refl refl refl refl refl refl;
 }
 
 pub first_context-context-requires-clause-known : goal.first_context-context-requires-clause-known
 first_context-context-requires-clause-known g c = c.loop-left.invariant.so_far.known
 
-pub hold_loads-held-requires-clause-nodes : goal.hold_loads-held-requires-clause-nodes
-hold_loads-held-requires-clause-nodes g c =
+pub hold_loads-requires-clause-nodes : goal.hold_loads-requires-clause-nodes
+hold_loads-requires-clause-nodes g c =
     let h = context_next c.loop-left.invariant.machine c.loop-left.self-inside c.args.self.now c.loop-left.left c.first_context-context.result c.index.result c.index-track.result.now c.loop-left.invariant.shows c.loop-left.invariant.ok c.loop-left.invariant.so_far c.first_context-context.ensures c.index.ensures.value c.index-track.ensures in
     held_nodes c.loop-left.invariant.machine c.loop-left.self-inside c.args.self.now c.loop-left.left c.first_context-context.result c.index-track.result.now h c.loop-left.invariant.so_far
 
-pub hold_loads-held-requires-clause-answered : goal.hold_loads-held-requires-clause-answered
-hold_loads-held-requires-clause-answered g c i lt =
+pub hold_loads-requires-clause-answered : goal.hold_loads-requires-clause-answered
+hold_loads-requires-clause-answered g c i lt =
     let h = context_next c.loop-left.invariant.machine c.loop-left.self-inside c.args.self.now c.loop-left.left c.first_context-context.result c.index.result c.index-track.result.now c.loop-left.invariant.shows c.loop-left.invariant.ok c.loop-left.invariant.so_far c.first_context-context.ensures c.index.ensures.value c.index-track.ensures in
     core_answered h.core i (omega (arith, lt))
 
-pub hold_loads-held-requires-clause-let_go : goal.hold_loads-held-requires-clause-let_go
-hold_loads-held-requires-clause-let_go g c = c.loop-left.invariant.so_far.rest c.first_context-context.result c.first_context-context.ensures
+pub hold_loads-requires-clause-let_go : goal.hold_loads-requires-clause-let_go
+hold_loads-requires-clause-let_go g c = c.loop-left.invariant.so_far.rest c.first_context-context.result c.first_context-context.ensures
 
 pub loop-left-preserved : goal.loop-left-preserved
 loop-left-preserved g c =
@@ -43,7 +43,7 @@ loop-left-preserved g c =
       shows = c.loop-left.invariant.shows;
       ok = c.loop-left.invariant.ok;
       so_far = held_next c.loop-left.invariant.machine c.loop-left.self-inside _ c.args.self.now c.loop-left.left c.cleared-left.result c.first_context-context.result c.index-track.result.now h c.loop-left.invariant.so_far word
-          c.hold_loads-held.ensures.flow c.hold_loads-held.ensures.held c.hold_loads-held.ensures.others refl refl refl refl refl refl;
+          c.hold_loads.ensures.flow c.hold_loads.ensures.held c.hold_loads.ensures.others refl refl refl refl refl refl refl;
     }
 
 pub invariant_of-self : goal.invariant_of-self
@@ -54,7 +54,7 @@ invariant_of-self g c =
     let held : IsRemarked m.flow c.hold_first.new.flow = remarked_twice m.flow h c.hold_first.new.flow so_far.flow (held_remarked c.hold_first.new.self h c.hold_first.new.flow c.hold_first.ensures.flow) in
     let freed : IsRemarked m.flow c.release.new.self = remarked_twice m.flow c.hold_first.new.flow c.release.new.self held (released_remarked c.hold_first.new.flow c.release.new.self c.release.ensures) in
     selected_machine m _ c.args.self.now h c.release.new.self c.loop-left.invariant.shows c.loop-left.invariant.ok c.requires.idle so_far.flow c.hold_first.ensures.selected freed (released_all c.hold_first.new.flow c.release.new.self c.release.ensures) c.mark.ensures
-    so_far.origins so_far.tracks refl so_far.cycle so_far.stamp so_far.room so_far.profile
+    so_far.origins so_far.tracks refl so_far.cycle so_far.stamp so_far.room so_far.profile so_far.fills
 
 pub returns-clause-selected : goal.returns-clause-selected
 returns-clause-selected g c = selected_shown c.loop-left.invariant.machine c.loop-left.self-inside c.args.self.now c.loop-left.left c.hold_first.new.self c.loop-left.invariant.shows c.loop-left.invariant.so_far

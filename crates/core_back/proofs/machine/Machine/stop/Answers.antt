@@ -1,11 +1,12 @@
-use Rattle.std.proofs.Common.{length, refl, ap, ◌∙◌, arith}
+use Rattle.std.proofs.Common.{length, refl, sym, ap, ◌∙◌, arith}
 use Rattle.core_view.specs.View.{Context}
 use Rattle.core_view.specs.Events.{stop_event}
+use Rattle.core_context.specs.FrontLists.{front_fill}
 use Rattle.core_context.specs.Track.{Track}
 use Rattle.core_back.specs.Machine.{context_at}
 use Rattle.core_context.specs.Heads.{first_done}
 use Rattle.core_back.proofs.InFlight.{in_flight_after}
-use Rattle.core_back.proofs.Machines.{At, at_context, is_idle, machine_after_event, shown_after}
+use Rattle.core_back.proofs.Machines.{At, at_context, fills_set, is_idle, machine_after_event, shown_after}
 use Rattle.core_back.proofs.machine.Machine.stop.Given.{Over}
 use Rattle.core_back.proofs.machine.Machine.stop.Goals as goal
 use Rattle.core_back.proofs.machine.Machine.stop.Goals.{After-index_mut-track}
@@ -29,6 +30,7 @@ invariant_of-self g c =
     let h = here g (goal.at.invariant_of-self g c).After-index_mut-track in
     machine_after_event c.self.inside _ c.args.self.now c.args.context c.index.result c.index_mut-track.result.now c.stop.new.track c.stop.new.flow c.self.view_is c.self.invariant c.requires.idle (omega (arith, c.index.ensures)) h c.stop.ensures.event
     c.index.ensures.value refl refl refl refl refl refl refl refl
+    (fills_set c.self.inside.fills c.self.inside.tracks.items c.args.context c.index-2.result 16 c.stop.new.track c.self.invariant.fills (omega (arith, c.index.ensures)) c.self.invariant.tracks c.index-2.ensures.value (ap (λ (t : Track). front_fill t.context) (sym c.stop.ensures.track)))
 
 pub returns-clause-stopped : goal.returns-clause-stopped
 returns-clause-stopped g c =

@@ -19,6 +19,7 @@ invariant_of-self g c =
       waits = ok.waits;
       stamps = omega (arith, ok.stamps);
       room = ok.room;
+      fills = ok.fills;
     }
 
 pub returns-clause-next : goal.returns-clause-next

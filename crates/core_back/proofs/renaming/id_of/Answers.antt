@@ -1,5 +1,5 @@
 use Rattle.std.proofs.Common.{refl}
-use Rattle.core_back.proofs.machine.id_of.Goals as goal
+use Rattle.core_back.proofs.renaming.id_of.Goals as goal
 
 pub returns : goal.returns
 returns c = refl
