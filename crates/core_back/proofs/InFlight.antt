@@ -4,7 +4,7 @@ use Rattle.std.specs.Prelude.{set, sum_by}
 use Rattle.std.proofs.lemmas.List.{length-map, length-set}
 use Rattle.std.proofs.lemmas.List.Sums.{sum_by-cons, sum_by-set}
 use Rattle.std.proofs.lemmas.List.FromFn.{length-range_with_len}
-use Rattle.core_view.specs.Events.{issue_event, rename_event}
+use Rattle.core_view.specs.Events.{issue_event}
 use Rattle.core_view.specs.declared.note.Issue.{Issue}
 use Rattle.core_view.specs.declared.note.EntryId.{EntryId}
 use Rattle.rv64_decode.specs.declared.insn.Insn.{Insn}
@@ -16,7 +16,7 @@ use Rattle.core_context.specs.Track.{Track}
 use Rattle.data_tags.specs.declared.delay.Kind.{Kind}
 use Rattle.data_tags.specs.declared.delay.Lag.{Lag}
 use Rattle.core_back.specs.Issued.{IsIssued}
-use Rattle.core_back.specs.Fetched.{IsRenamed, IsPickTurn}
+use Rattle.core_back.specs.Fetched.{IsPickTurn}
 use Rattle.core_back.proofs.BlockTurns.{ids_length}
 
 -- as many fewer are in flight as the flight of the context lost
@@ -66,10 +66,6 @@ in_flight-set_same m n c x e same = ap (λ (xs : List Context). sum_by (λ (y : 
 pub in_flight_issued : {delays : ℕ → Kind → ℕ → Lag → Bool} (m n : Machine) (i : Issue) → IsIssued delays m n i → in_flight n ≡ in_flight m
 in_flight_issued m n i is =
     in_flight-set_same m n i.entry.context (issue_event (context_at m i.entry.context) is.place is.execution) (ap (λ (k : Machine). k.view.contexts) is.after) (length-set (context_at m i.entry.context).flight is.place _)
-
-pub in_flight_renamed : (m n : Machine) (c stamp : ℕ) → IsRenamed m n c stamp → in_flight n ≡ in_flight m
-in_flight_renamed m n c stamp is =
-    in_flight-set_same m n c (rename_event m.view.cycle (context_at m c) is.place) (ap (λ (k : Machine). k.view.contexts) is.after) (length-set (context_at m c).flight is.place _)
 
 pub in_flight_turn : {guesses : ℕ → ℕ → Insn → ℕ → Bool} (m n : Machine) (c num2 : ℕ) (before after : List EntryId) → IsPickTurn guesses m n c num2 before after → c < length m.view.contexts → in_flight n + length before ≡ in_flight m + length after
 unfolding in_flight

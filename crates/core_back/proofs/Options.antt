@@ -2,11 +2,6 @@
 use Rattle.std.proofs.Common.{◌≡◌, Option, Some, None, refl}
 use Rattle.std.specs.Prelude.{IfSome}
 
--- three facts of what is answered give a fourth
-pub some_of_three : {A : Type 0} {P Q R S : A → Type 0} (o : Option A) → IfSome o P → IfSome o Q → IfSome o R → ((x : A) → P x → Q x → R x → S x) → IfSome o S
-some_of_three None p q r f = tt
-some_of_three (Some x) p q r f = f x p q r
-
 -- a fact either way
 pub none_or_some : {A P : Type 0} {Q : A → Type 0} (o : Option A) → IfSome o Q → (o ≡ None → P) → ((x : A) → Q x → P) → P
 none_or_some None q none some = none refl
