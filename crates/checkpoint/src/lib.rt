@@ -15,6 +15,7 @@ mod eights;
 mod fault;
 mod pairs;
 mod run;
+mod shared;
 
 pub use best::{furthest, furthest_each, furthest_leaf, furthest_leaf_each};
 pub use eight_starts::starts;
@@ -23,6 +24,7 @@ pub use fault::MarkFault;
 use hart_step::{Hart, Stop};
 use join_law::{Ctx, Join};
 use origin_set::Origin;
+pub use shared::Shared;
 use std::alloc::{Allocator, Global};
 use std::marker::Model;
 use std::sync::Arc;

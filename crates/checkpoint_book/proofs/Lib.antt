@@ -1,0 +1,4 @@
+mod Aligned
+mod Histories
+mod Kept
+mod Standing

@@ -1,0 +1,3 @@
+mod Greatest
+mod Kept
+mod Gathers
