@@ -100,6 +100,11 @@ ANSWER_NAMES_OWN_GOAL = (
     "./proofs/ring/Ring/count_below/Answers.antt:4:5: error: `returns`: `goal.returns`: module "
     "`Rattle.reorder_buffer.proofs.ring.Ring.count_below.Goals` has no `returns` that can be named from here\n"
 )
+ANSWER_NAMES_OWN_BROKEN = (
+    "./proofs/ring/Ring/count_below/Answers.antt:7:63: error: `invariant_of-self`: record "
+    "`Rattle.reorder_buffer.proofs.ring.Ring.count_below.Lts.After-map_err` {A = g.row.A} (nearest: .try_push_front)\n"
+    "  has no field `try_push_back`\n"
+)
 ANSWER_NAMES_OTHERS = (
     "./proofs/ring/Ring/count_below/Answers.antt:7:63: error: `invariant_of-self`: record "
     "`Rattle.reorder_buffer.proofs.ring.Ring.len.Lts.After-map_err` has no field `try_push_back`\n"
@@ -176,6 +181,14 @@ class OutputTest(unittest.TestCase):
         # (what its body has is the same whatever becomes of what it calls)
         self.assertTrue(self.is_own(named + BARE.format(BELOW) + calls, CUT))
         self.assertFalse(self.is_own(ANSWER_NAMES_OWN + BARE.format(BELOW) + calls, CUT))
+
+    def test_an_answer_that_names_what_is_gone_over_two_lines(self) -> None:
+        said = output.read(ANSWER_NAMES_OWN_BROKEN + BARE.format(BELOW))[BELOW]
+        self.assertEqual((said.refused_answer, said.names_gone, said.is_gone_only), (False, True, True))
+
+    def test_what_stands_behind_a_message_is_of_it(self) -> None:
+        said = output.read(REFUSED_ANSWER + "  of `List`\n" + ANSWER_NAMES_OWN + BARE.format(BELOW))[BELOW]
+        self.assertEqual((said.refused_answer, said.names_gone), (True, True))
 
     def test_the_answer_to_no_goal(self) -> None:
         for answer in (TO_NO_GOAL.format("len"), TO_NO_GOAL_OF_ITS_OWN.format("len")):
@@ -657,7 +670,8 @@ esac
 class WholeTest(unittest.TestCase):
     """The gate under a toolchain that isn't the one named: plain `rt ci`, on a copy that has the edits."""
 
-    def run_gate(self, says: str, status: int, program: int = 0, docs: int = 0) -> "subprocess.CompletedProcess[str]":
+    def run_gate(self, says: str, status: int, program: int = 0, docs: int = 0,
+                 draft: str = "") -> "subprocess.CompletedProcess[str]":
         here = os.path.dirname(os.path.abspath(__file__))
         with tempfile.TemporaryDirectory() as room:
             os.makedirs(f"{room}/bin")
@@ -669,7 +683,8 @@ class WholeTest(unittest.TestCase):
             for file, text in (("bin/rt", FAKE_RT), ("top/crates/low/says", says),
                                ("top/crates/low/status", str(status)),
                                ("top/tools/try_program.py", f"raise SystemExit({program})\n"),
-                               ("top/tools/try_docs.py", f"raise SystemExit({docs})\n")):
+                               ("top/tools/try_docs.py", f"raise SystemExit({docs})\n"),
+                               ("top/tools/try_draft.py", draft)):
                 with open(f"{room}/{file}", "w", encoding="utf-8") as it:
                     it.write(text)
             os.chmod(f"{room}/bin/rt", 0o755)
@@ -679,7 +694,7 @@ class WholeTest(unittest.TestCase):
 
     def test_passed(self) -> None:
         ran = self.run_gate("3 passed, 0 failed\n", 0)
-        self.assertEqual((ran.returncode, ran.stdout.splitlines()[-1]), (0, "5 passed, 0 failed"))
+        self.assertEqual((ran.returncode, ran.stdout.splitlines()[-1]), (0, "6 passed, 0 failed"))
         self.assertIn("must-fail\n", ran.stdout)
         self.assertNotIn("out\n", ran.stdout)
         self.assertIn("another kit", ran.stderr)
@@ -697,12 +712,22 @@ class WholeTest(unittest.TestCase):
     def test_the_program_fails(self) -> None:
         ran = self.run_gate("3 passed, 0 failed\n", 0, program=1)
         self.assertEqual((ran.returncode, ran.stdout.splitlines()[-2:]),
-                         (1, ["FAILED: tools/try_program.py", "4 passed, 1 failed"]))
+                         (1, ["FAILED: tools/try_program.py", "5 passed, 1 failed"]))
 
     def test_the_documents_fail(self) -> None:
         ran = self.run_gate("3 passed, 0 failed\n", 0, docs=1)
         self.assertEqual((ran.returncode, ran.stdout.splitlines()[-2:]),
-                         (1, ["FAILED: tools/try_docs.py", "4 passed, 1 failed"]))
+                         (1, ["FAILED: tools/try_docs.py", "5 passed, 1 failed"]))
+
+    def test_the_draft_differs(self) -> None:
+        ran = self.run_gate("3 passed, 0 failed\n", 0, draft="raise SystemExit(1)\n")
+        self.assertEqual((ran.returncode, ran.stdout.splitlines()[-2:]),
+                         (1, ["FAILED: tools/try_draft.py", "5 passed, 1 failed"]))
+
+    def test_a_kit_without_a_draft(self) -> None:
+        ran = self.run_gate("3 passed, 0 failed\n", 0, draft="print('no draft: another kit')\n")
+        self.assertEqual((ran.returncode, ran.stdout.splitlines()[-1]), (0, "6 passed, 0 failed"))
+        self.assertIn("try_draft.py: no draft: another kit", ran.stderr)
 
     def test_failed_without_a_name(self) -> None:
         for says, status, last in (("3 passed, 0 failed\n", 1, "3 passed, 1 failed"),

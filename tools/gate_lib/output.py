@@ -16,7 +16,9 @@ NOTE = re.compile(
 )
 ERROR = re.compile(r"^\./(proofs/\S+)/(?:Answers|Invariants|Proof)\.antt:\d+:\d+: error: (.*)$")
 # An answer that names what an edit took away from the modules that the prover makes of its function's body.
-GONE = re.compile(r"(?:record|module) `Rattle\.(\S+?)\.(?:Lts|Goals|Given)[`.]\S* has no ")
+GONE = re.compile(r"(?:record|module) `Rattle\.(\S+?)\.(?:Lts|Goals|Given)[`.]\S*(?: [^`]*?)?(?: \(nearest: [^)]*\))? has no ")
+# Where another message, or what is said of a function, begins.
+BEGINS = re.compile(r"^(?:\./|(?:note|error|warning|fn|impl|struct|enum|trait|statements|logic|rattle|rt)\b)")
 # A goal that no function has, to which each function that is tried has an answer (`kit.without_offers`).
 NO_GOAL = "no-goal-of-this-name"
 # An answer that wasn't looked at, and one that names what an edit took away: no goal was refused there.
@@ -80,10 +82,21 @@ class Said(NamedTuple):
                 and not self.refused_answer)
 
 
+def messages(text: str) -> List[str]:
+    """The messages of a text, each on one line: the prover breaks a long one, and goes on in the next line."""
+    found: List[str] = []
+    for line in text.split("\n"):
+        if found and line.strip() and not BEGINS.match(line) and not LAST.fullmatch(line):
+            found[-1] += " " + line.strip()
+        else:
+            found.append(line)
+    return found
+
+
 def read(text: str) -> Dict[str, Said]:
     """What a check says of each function, by its name."""
     refused, gone = set(), set()
-    for line in text.split("\n"):
+    for line in messages(text):
         error = ERROR.match(line)
         if error and NO_GOAL in error[2]:
             continue

@@ -44,6 +44,8 @@ class Result(NamedTuple):
     label: str
     refused: bool
     said: str
+    # Whether it is refused only because an answer names what it took away, which says little of the contract.
+    only_a_name: bool = False
 
 
 class Plant(NamedTuple):
@@ -167,7 +169,7 @@ class Trial:
                 if edit is self.plant:
                     return True
                 why = " (only because an answer names what the edit took away)" if it.is_gone_only else ""
-                self.results.append(Result(edit.label, True, f"refused, as it must be: {name}: {it.line}{why}"))
+                self.results.append(Result(edit.label, True, f"refused, as it must be: {name}: {it.line}{why}", it.is_gone_only))
                 return True
         return False
 

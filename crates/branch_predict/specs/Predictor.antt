@@ -93,3 +93,21 @@ after_retirement p pc _ next = p
 -- the predictor of a context
 abbrev pub predictor_of : List Predictor → ℕ → Predictor
 predictor_of predictors context = slice_index_or predictors context untrained
+
+-- ---- the predictors of the eight contexts, each its own
+
+-- as they are made: none has seen anything
+abbrev pub new_predictors : List Predictor
+new_predictors = replicate 8 untrained
+
+-- where an instruction of a context goes on by the guess
+abbrev pub guessed_in : List Predictor → ℕ → ℕ → Insn → ℕ
+guessed_in predictors context pc insn = guessed (predictor_of predictors context) pc insn
+
+-- an instruction of a context was fetched
+abbrev pub after_fetch_in : List Predictor → ℕ → ℕ → Insn → List Predictor
+after_fetch_in predictors context pc insn = slice_set predictors context (after_fetch (predictor_of predictors context) pc insn)
+
+-- an instruction of a context retired and went on at `next`
+abbrev pub after_retirement_in : List Predictor → ℕ → ℕ → Insn → ℕ → List Predictor
+after_retirement_in predictors context pc insn next = slice_set predictors context (after_retirement (predictor_of predictors context) pc insn next)

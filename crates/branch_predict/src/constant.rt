@@ -13,9 +13,19 @@ use rv64_decode::Insn;
 pub struct Always(pub u64);
 
 impl Guess for Always {
-    ghost use Rattle.std.specs.Prelude.{◌==◌};
+    ghost use Rattle.std.specs.Prelude.{◌==◌, refl};
 
     ghost may_answer = { λ s context pc insn next. next == s.0 };
+
+    ghost answer = { λ s context pc insn. s.0 };
+
+    ghost after_guess = { λ s context pc insn. s };
+
+    ghost after_learn = { λ s context pc insn next. s };
+
+    ghost guess_keeps = { λ s context pc insn. refl };
+
+    ghost learn_keeps = { λ s context pc insn next. refl };
 
     fn guess(&mut self, _context: Ctx, _pc: u64, _insn: &Insn) -> u64 {
         self.0
@@ -29,10 +39,20 @@ impl Guess for Always {
 pub struct Sequential;
 
 impl Guess for Sequential {
-    ghost use Rattle.std.specs.Prelude.{◌==◌};
+    ghost use Rattle.std.specs.Prelude.{◌==◌, refl};
     ghost use Rattle.hart_step.specs.State.{following};
 
     ghost may_answer = { λ s context pc insn next. next == following pc };
+
+    ghost answer = { λ s context pc insn. following pc };
+
+    ghost after_guess = { λ s context pc insn. s };
+
+    ghost after_learn = { λ s context pc insn next. s };
+
+    ghost guess_keeps = { λ s context pc insn. refl };
+
+    ghost learn_keeps = { λ s context pc insn next. refl };
 
     fn guess(&mut self, _context: Ctx, pc: u64, _insn: &Insn) -> u64 {
         following(pc)

@@ -1,7 +1,7 @@
 //! The predictor of all contexts.
 
-ghost use Rattle.std.specs.Prelude.{◌≡◌, IsTrue, IfOk, replicate, slice_set};
-ghost use Rattle.branch_predict.specs.Predictor.{untrained, predictor_of, guessed, after_fetch, after_retirement};
+ghost use Rattle.std.specs.Prelude.{◌≡◌, IsTrue, IfOk};
+ghost use Rattle.branch_predict.specs.Predictor.{new_predictors, guessed_in, after_fetch_in, after_retirement_in};
 ghost use Rattle.branch_predict.specs.Stated.{stated};
 
 use crate::Guess;
@@ -40,7 +40,7 @@ impl<A: Allocator> Tables<A> {
     ///
     /// Where the room for the eight contexts is refused. No other call takes memory.
     pub fn new(alloc: A) -> Result<Self, AllocError>
-        ensures { IfOk result (λ tables. tables ≡ replicate 8 untrained) }
+        ensures { IfOk result (λ tables. tables ≡ new_predictors) }
     {
         let mut contexts = Vec::with_capacity(alloc, CONTEXTS)?;
         for k in 0..CONTEXTS {
@@ -51,21 +51,33 @@ impl<A: Allocator> Tables<A> {
 }
 
 impl<A: Allocator> Guess for Tables<A> {
+    ghost use Rattle.std.specs.Prelude.{refl};
+    ghost use Rattle.branch_predict.specs.Predictor.{guessed_in, after_fetch_in, after_retirement_in};
     ghost use Rattle.branch_predict.specs.Stated.{stated};
 
     ghost may_answer = { λ s context pc insn next. stated pc insn next };
 
+    ghost answer = { guessed_in };
+
+    ghost after_guess = { after_fetch_in };
+
+    ghost after_learn = { after_retirement_in };
+
+    ghost guess_keeps = { λ s context pc insn. refl };
+
+    ghost learn_keeps = { λ s context pc insn next. refl };
+
     #[inline(always)]
     fn guess(&mut self, context: Ctx, pc: u64, insn: &Insn) -> u64
         ensures answer { IsTrue (stated pc insn.now result) }
-        ensures value { result ≡ guessed (predictor_of self.old context) pc insn.now }
-        ensures state { self.new ≡ slice_set self.old context (after_fetch (predictor_of self.old context) pc insn.now) }
+        ensures value { result ≡ guessed_in self.old context pc insn.now }
+        ensures state { self.new ≡ after_fetch_in self.old context pc insn.now }
     {
         self.contexts[context.index()].guess(pc, insn)
     }
 
     fn learn(&mut self, context: Ctx, pc: u64, insn: &Insn, next: u64)
-        ensures state { self.new ≡ slice_set self.old context (after_retirement (predictor_of self.old context) pc insn.now next) }
+        ensures state { self.new ≡ after_retirement_in self.old context pc insn.now next }
     {
         self.contexts[context.index()].learn(pc, insn, next);
     }

@@ -1,5 +1,5 @@
 -- Events keep the origin, the profile, the cycle, what may be fetched, and the targets.
-use Rattle.std.proofs.Common.{◌≡◌, ℕ, zero, suc, ◌≤◌, Bool, List, [], ◌∷◌, length, get_or, refl, ap, ◌∙◌, arith}
+use Rattle.std.proofs.Common.{◌≡◌, ℕ, zero, suc, ◌≤◌, List, [], ◌∷◌, length, get_or, refl, ap, ◌∙◌, arith}
 use Rattle.std.specs.Prelude.{set}
 use Rattle.core_view.specs.declared.note.Issue.{Issue}
 use Rattle.core_view.specs.declared.note.EntryId.{EntryId}
@@ -7,8 +7,9 @@ use Rattle.core_view.specs.View.{Context}
 use Rattle.core_view.specs.Events.{issue_event}
 use Rattle.data_tags.specs.declared.delay.Kind.{Kind}
 use Rattle.data_tags.specs.declared.delay.Lag.{Lag}
-use Rattle.core_back.specs.Issued.{IsIssued}
+use Rattle.core_back.specs.Issued.{IsIssuedBy}
 use Rattle.core_back.specs.Machine.{Machine, IsAlike, no_context, context_at, with_context}
+use Rattle.core_view.specs.declared.outcome.Outcome.{Outcome}
 
 pub alike_none : (m : Machine) → IsAlike m m
 alike_none m = record { origin = refl; profile = refl; cycle = refl; room = refl; targets = λ c lt. refl }
@@ -32,7 +33,7 @@ pub alike_with : (m n : Machine) (c : ℕ) (x : Context) → n ≡ with_context 
 alike_with m n c x e target = alike_set m n c x (ap (λ (k : Machine). k.origin) e) (ap (λ (k : Machine). k.view.profile) e) (ap (λ (k : Machine). k.view.cycle) e) (ap (λ (k : Machine). k.fetch_room) e) (ap (λ (k : Machine). k.view.contexts) e) target
 
 -- the first of the names that were selected issues
-pub issue_alike : {delays : ℕ → Kind → ℕ → Lag → Bool} (m n : Machine) (i : Issue) → IsIssued delays m n i → IsAlike m n
+pub issue_alike : {says : ℕ → Kind → ℕ → Outcome → Lag → Type 0} (m n : Machine) (i : Issue) → IsIssuedBy says m n i → IsAlike m n
 issue_alike m n i is =
     alike_set m n i.entry.context (issue_event (context_at m i.entry.context) is.place is.execution) (ap (λ (k : Machine). k.origin) is.after) (ap (λ (k : Machine). k.view.profile) is.after) (ap (λ (k : Machine). k.view.cycle) is.after) (ap (λ (k : Machine). k.fetch_room) is.after)
     (ap (λ (k : Machine). k.view.contexts) is.after) refl

@@ -16,7 +16,11 @@ use Rattle.core_back.specs.Selected.{IsSuppliedPlace, IsChosenOf}
 use Rattle.core_back.specs.Machine.{Machine, context_at}
 use Rattle.core_back.specs.Issuing.{HaveIssued, IsIssuing, IsIssuingAsked}
 use Rattle.core_back.proofs.IssuedFlights.{IsInFlight, supplied_in_flight, ready_place_supplied}
-use Rattle.core_back.proofs.IssueViews.{issued_first, issued_count, issue_named, issued_next, next_ready, issuing_done}
+use Rattle.core_back.proofs.IssueViews.{issued_first, issued_count, issue_named, issued_next, next_ready, timed_next, issuing_done}
+use Rattle.core_back.specs.Issued.{IsIssuedBy}
+use Rattle.core_back.proofs.IssuedRuns.{stated_issue}
+use Rattle.lawful_cycle.specs.Queries.{IsLagBy}
+use Rattle.lawful_cycle.specs.Steps.{IsTimedAt}
 
 pub asked_first : (key : QueueView → ℕ) (delays : ℕ → Kind → ℕ → Lag → Bool) (width : ℕ) (m n : Machine) (issues : List Issue) → length m.view.contexts ≡ 8 → n.view ≡ m.view → issues ≡ [] → IsChosenOf (IsSuppliedPlace m.view) key width m.view n.names → IsIssuingAsked key delays width m n issues
 asked_first key delays width m n issues count same none c = record {
@@ -56,6 +60,12 @@ asked_next key delays width m n u issues more i growing h one pushed = record {
           let at : length issues ≡ j = omega (arith, ge, lt, pushes) in
           subst (λ k. IsReadyIn m.view (get_or h.chosen k no_place)) at (next_ready delays h.chosen m n u issues i growing inside h.issued one)
     ]
+
+-- of the next the delay was queried
+pub timed_asked : {T : Type 0} (key : QueueView → ℕ) (delays : ℕ → Kind → ℕ → Lag → Bool) (answer : T → ℕ → Kind → ℕ → Lag) (queried : T → ℕ → Kind → ℕ → T) (width : ℕ) (m n u : Machine) (s t : T) (issues : List Issue) (i : Issue)
+    → ((c : ℕ) → c < 8 → IsGrowing 0 (context_at m c).flight) → IsIssuingAsked key delays width m n issues → IsIssuedBy (IsLagBy delays answer queried s t) n u i → IsTimedAt answer queried m.view i s t
+timed_asked key delays answer queried width m n u s t issues i growing h one =
+    timed_next delays h.chosen m n u issues i growing (All-weaker (IsSuppliedPlace m.view) (IsInFlight m.view) (supplied_in_flight m.view) h.chosen h.supplied) h.issued (stated_issue delays answer queried s t n u i one) answer queried s t one.performed.lag.timed
 
 -- ---- all that was chosen is ready
 

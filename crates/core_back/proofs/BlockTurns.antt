@@ -1,8 +1,8 @@
 -- A context's turn to fetch, entry by entry.
 use Rattle.std.proofs.Common.{◌≡◌, ℕ, ◌+◌, ◌-◌, ◌<◌, ◌≤◌, Bool, List, [], ◌∷◌, ◌++◌, length, refl, sym, ap, ◌∙◌, subst, arith, append-nil, append_assoc}
-use Rattle.std.specs.Prelude.{min}
+use Rattle.std.specs.Prelude.{min, drop}
 use Rattle.std.specs.List.{range_with_len}
-use Rattle.std.proofs.lemmas.List.{length-append, length-map, get_or-set_same}
+use Rattle.std.proofs.lemmas.List.{length-append, length-map, get_or-set_same, drop_all, drop-append-le}
 use Rattle.std.proofs.lemmas.List.FromFn.{length-range_with_len, map-range_with_len_more}
 use Rattle.rv64_decode.specs.declared.insn.Insn.{Insn}
 use Rattle.hart_step.specs.State.{State}
@@ -20,6 +20,9 @@ use Rattle.core_context.specs.Left.{KeepsCores}
 use Rattle.core_context.specs.NextEntry.{IsFetchedBy}
 use Rattle.core_back.specs.Machine.{Machine, context_at, no_context}
 use Rattle.core_back.specs.Fetched.{ids_of, with_block, IsBlockBy, IsPickTurn}
+use Rattle.lawful_cycle.specs.Queries.{followed_by, when_shown}
+use Rattle.lawful_cycle.specs.Steps.{GoesBy, IsFollowedAt}
+use Rattle.lawful_cycle.proofs.Laws.{goes_once}
 use Rattle.core_back.proofs.Blocks.{IsBlockSoFar, GoesOn, block_none, block_next, last_of_next, block_made, pc_push}
 
 -- ---- the entries so far
@@ -90,6 +93,36 @@ module _ (guesses : ℕ → Insn → ℕ → Bool) (cycle stamp c k : ℕ) (t u 
   -- fetch goes on where it says
   pub next_pc : pc ≡ pc_past v.context.state.pc v.context.flight
   next_pc = one.next_is ∙ sym (ap (λ (x : Context). pc_past x.state.pc x.flight) here ∙ pc_push u.context.state.pc u.context.flight (fetched_entry (stamp + k) cycle here_pc (operation_at u.context.state.memory here_pc) one.followed))
+
+-- ---- the guess
+
+module _ {S : Type 0} (answer : S → ℕ → ℕ → Insn → ℕ) (queried : S → ℕ → ℕ → Insn → S) (c : ℕ) where
+  -- one more entry is fetched, and the guess is queried of it
+  pub queried_next : (guesses : ℕ → Insn → ℕ → Bool) (stamp cycle n pc next : ℕ) (ends : Bool) (u v : Track) (s r q : S) → IsFetchedBy guesses stamp cycle u v next ends → pc ≡ pc_past u.context.state.pc u.context.flight → n ≤ length u.context.flight
+      → next ≡ followed_by (answer r c pc) (operation_at u.context.state.memory pc) pc → q ≡ when_shown (operation_at u.context.state.memory pc) (queried r c pc) r
+      → GoesBy (IsFollowedAt answer queried c) (drop n u.context.flight) s r → GoesBy (IsFollowedAt answer queried c) (drop n v.context.flight) s q
+  queried_next guesses stamp cycle n pc next ends u v s r q one here le value state before =
+      let p : ℕ = pc_past u.context.state.pc u.context.flight in
+      let e : Entry = fetched_entry stamp cycle p (operation_at u.context.state.memory p) one.followed in
+      let flight : v.context.flight ≡ u.context.flight ++ e ∷ [] = ap (λ (w : Track). w.context.flight) one.after in
+      let is : IsFollowedAt answer queried c e r q = record {
+        followed = sym one.next_is ∙ subst (λ k. next ≡ followed_by (answer r c k) (operation_at u.context.state.memory k) k) here value;
+        after = subst (λ k. q ≡ when_shown (operation_at u.context.state.memory k) (queried r c k) r) here state;
+      } in
+      subst (λ es. GoesBy (IsFollowedAt answer queried c) es s q) (sym (ap (drop n) flight ∙ drop-append-le n u.context.flight (e ∷ []) le)) (goes_once (IsFollowedAt answer queried c) (drop n u.context.flight) e s r q before is)
+
+  pub queried_none : (es : List Entry) (s : S) → GoesBy (IsFollowedAt answer queried c) (drop (length es) es) s s
+  queried_none es s = subst (λ fs. GoesBy (IsFollowedAt answer queried c) fs s s) (sym (drop_all (length es) es (omega arith))) refl
+
+  -- the same of a context's turn in the machine
+  pub queried_in_turn : (m n : Machine) (number room : ℕ) (x y : Context) (s t : S) → n ≡ with_block m c y number room → c < length m.view.contexts → x ≡ context_at m c
+      → GoesBy (IsFollowedAt answer queried c) (drop (length x.flight) y.flight) s t → GoesBy (IsFollowedAt answer queried c) (drop (length (context_at m c).flight) (context_at n c).flight) s t
+  queried_in_turn m n number room x y s t is lt was h =
+      subst (λ (z : Context). GoesBy (IsFollowedAt answer queried c) (drop (length (context_at m c).flight) z.flight) s t) (sym here)
+      (subst (λ (w : Context). GoesBy (IsFollowedAt answer queried c) (drop (length w.flight) y.flight) s t) was h)
+    where
+      here : context_at n c ≡ y
+      here = ap (λ (q : Machine). context_at q c) is ∙ get_or-set_same m.view.contexts c y no_context lt
 
 -- ---- the turn
 

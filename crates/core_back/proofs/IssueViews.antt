@@ -30,6 +30,8 @@ use Rattle.core_back.specs.Machine.{Machine, context_at, no_context}
 use Rattle.core_context.proofs.Laws.{same_place}
 pub use Rattle.core_back.specs.Issuing.{WereQueued, HaveIssued, IsIssuing}
 use Rattle.core_back.proofs.IssuedFlights.{issued_length, issued_entry, issued_none, issued_stamp, not_issued, seen_same, ready_kept, IsInFlight, supplied_in_flight, ready_place_supplied}
+use Rattle.lawful_cycle.specs.Queries.{IsTimed}
+use Rattle.lawful_cycle.specs.Steps.{IsTimedAt}
 
 -- ---- an outcome, by the state, what is seen and the entry
 
@@ -333,6 +335,22 @@ module _ (delays : ℕ → Kind → ℕ → Lag → Bool) (chosen : List Place) 
     where
       parts : (k j : Kind) (a b : ℕ) (o q : Outcome) (s t : Bool) → k ≡ j → a ≡ b → o ≡ q → s ≡ t → IsLagOf (delays i.entry.context) k a o (record { cycles = i.latency; miss = s }) → IsLagOf (delays i.entry.context) j b q (record { cycles = i.latency; miss = t })
       parts k j a b o q s t p1 p2 p3 p4 h = subst (λ v. IsLagOf (delays i.entry.context) j b q (record { cycles = i.latency; miss = v })) p4 (subst (λ v. IsLagOf (delays i.entry.context) j b v (record { cycles = i.latency; miss = s })) p3 (subst (λ v. IsLagOf (delays i.entry.context) j v o (record { cycles = i.latency; miss = s })) p2 (subst (λ v. IsLagOf (delays i.entry.context) v a o (record { cycles = i.latency; miss = s })) p1 h)))
+
+  -- the same of the entry where all stands that was selected, and where some has issued
+  pub timed_next : {T : Type 0} (answer : T → ℕ → Kind → ℕ → Lag) (queried : T → ℕ → Kind → ℕ → T) (s t : T)
+      → (let y = context_at n i.entry.context in IsTimed answer queried s t i.entry.context (kind_of (operation_at_place y one.place)) (address_at y one.place) (outcome_at y one.place) (record { cycles = i.latency; miss = one.execution.miss }))
+      → IsTimedAt answer queried m.view i s t
+  timed_next answer queried s t timed = record {
+    context = lc;
+    place = one.place;
+    within = within;
+    stamp = sym (issued_stamp m.view.cycle i.entry.context issues x 0 one.place x.flight) ∙ stamp;
+    timed = parts (kind_of (operation_at_place (context_at n i.entry.context) one.place)) (kind_of (operation_at_place x one.place)) (address_at (context_at n i.entry.context) one.place) (address_at x one.place) (outcome_at (context_at n i.entry.context) one.place) (outcome_at x one.place) one.execution.miss i.miss
+        (ap kind_of operation_is) address_is outcome_is one.miss timed;
+  }
+    where
+      parts : (k j : Kind) (a b : ℕ) (o q : Outcome) (v w : Bool) → k ≡ j → a ≡ b → o ≡ q → v ≡ w → IsTimed answer queried s t i.entry.context k a o (record { cycles = i.latency; miss = v }) → IsTimed answer queried s t i.entry.context j b q (record { cycles = i.latency; miss = w })
+      parts k j a b o q v w p1 p2 p3 p4 h = subst (λ d. IsTimed answer queried s t i.entry.context j b q (record { cycles = i.latency; miss = d })) p4 (subst (λ d. IsTimed answer queried s t i.entry.context j b d (record { cycles = i.latency; miss = v })) p3 (subst (λ d. IsTimed answer queried s t i.entry.context j d o (record { cycles = i.latency; miss = v })) p2 (subst (λ d. IsTimed answer queried s t i.entry.context d a o (record { cycles = i.latency; miss = v })) p1 h)))
 
   lags_next : (j : ℕ) → j < length (issues ++ i ∷ []) → HasLag delays m.view (get_or chosen j no_place) (get_or (issues ++ i ∷ []) j no_issue)
   lags_next j lt = elim (cases_lt j (length issues)) [

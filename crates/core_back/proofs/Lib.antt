@@ -6,6 +6,7 @@ pub mod Selections
 pub mod HeldNames
 pub mod Chosen
 pub mod FirstMachine
+pub mod FirstViews
 pub mod AlikeMachines
 pub mod CompletedByPlace
 pub mod ContextByContext
@@ -14,6 +15,7 @@ pub mod RenamedRuns
 pub mod RetiredFronts
 pub mod RetireSteps
 pub mod RetireTurns
+pub mod LearnedRuns
 pub mod CompletedCount
 pub mod NextOutcomes
 pub mod Options

@@ -21,9 +21,9 @@ use Rattle.core_context.specs.Track.{Track, issued}
 use Rattle.core_context.specs.Issuable.{IsSupplied, may_issue_at, must_wait, IsMarked, AreLetGo, AreHeld}
 use Rattle.data_tags.specs.declared.delay.Kind.{Kind}
 use Rattle.data_tags.specs.declared.delay.Lag.{Lag}
-use Rattle.lawful_cycle.specs.Delays.{kind_of, address_in, IsLagOf}
+use Rattle.lawful_cycle.specs.Delays.{kind_of, address_in}
 use Rattle.lawful_cycle.specs.Issue.{first_value, second_value, is_ready, outcome_at, address_at}
-use Rattle.core_back.specs.Issued.{IsPerformed, IsIssued, IsHeadWaiting}
+use Rattle.core_back.specs.Issued.{IsPerformedBy, IsIssuedBy, IsHeadWaiting}
 use Rattle.core_context.specs.Steps.{IsRemarked}
 use Rattle.core_context.specs.Cores.{is_selected, IsCore}
 use Rattle.core_back.specs.Machine.{Machine, context_at, with_context, no_track}
@@ -39,6 +39,7 @@ use Rattle.core_back.specs.Selected.{IsChosenOf, IsChosen, IsSuppliedPlace}
 use Rattle.issue_queue.specs.declared.entry.QueueView.{QueueView}
 use Rattle.issue_queue.specs.Views.{view_of}
 use Rattle.issue_queue.specs.Entry.{Entry as Waiting}
+use Rattle.core_view.specs.declared.outcome.Outcome.{Outcome}
 use Rattle.issue_queue.specs.IsSelected.{IsSelected}
 
 -- a list that isn't empty is its first element and the others
@@ -190,12 +191,12 @@ module _ {A : Type 0} where
   issued_shown m now c k rest u x shows same context = rw (same, map-set (λ (t : Track). t.context) m.tracks.items c u, context, ← shows) refl
 
   -- what is known of it
-  pub is_performed : (m : Inside A) (now : Machine) (n : EntryId) (rest : List EntryId) (t : Track) → IsFirstName m now n rest t → (i : ℕ) (x : Execution) (a b : ℕ) (delays : Kind → ℕ → Lag → Bool) (kind : Kind) (address latency : ℕ)
+  pub is_performed : (m : Inside A) (now : Machine) (n : EntryId) (rest : List EntryId) (t : Track) → IsFirstName m now n rest t → (i : ℕ) (x : Execution) (a b : ℕ) (says : Kind → ℕ → Outcome → Lag → Type 0) (kind : Kind) (address latency : ℕ)
       → i < length t.context.flight → (entry_at t.context i).stamp ≡ n.stamp → sources_at (lane m.flow n.context) i ≡ Some (a, b) → may_issue_at t.context i a b ≡ true
       → x.outcome ≡ outcome_in (image_of t.context.state) (seen_at t.context i).bytes (entry_at t.context i).operation (entry_at t.context i).pc a b
       → kind ≡ kind_of (entry_at t.context i).operation → address ≡ address_in (entry_at t.context i).operation (entry_at t.context i).pc a b
-      → IsLagOf delays kind address x.outcome (record { cycles = latency; miss = x.miss }) → IsPerformed delays t.context i latency x
-  is_performed m now n rest t h i x a b delays kind address latency lt is sources clear outcome kind-is address-is lag =
+      → says kind address x.outcome (record { cycles = latency; miss = x.miss }) → IsPerformedBy says t.context i latency x
+  is_performed m now n rest t h i x a b says kind address latency lt is sources clear outcome kind-is address-is lag =
       let place = first_place m now n rest t h i lt is in
       let both_known = core_sources h.core i place.renamed a b sources in
       let first : first_value t.context i ≡ Some a = both_known.0 in
@@ -205,9 +206,9 @@ module _ {A : Type 0} where
       record {
         ready = rw (lt-ltb i (length t.context.flight) lt, place.stage, first, second) clear;
         outcome = same;
-        lag = subst (λ o. IsLagOf delays (kind_of (entry_at t.context i).operation) (address_at t.context i) o (record { cycles = latency; miss = x.miss })) same
-            (subst (λ d. IsLagOf delays (kind_of (entry_at t.context i).operation) d x.outcome (record { cycles = latency; miss = x.miss })) at
-            (subst (λ k. IsLagOf delays k address x.outcome (record { cycles = latency; miss = x.miss })) kind-is lag));
+        lag = subst (λ o. says (kind_of (entry_at t.context i).operation) (address_at t.context i) o (record { cycles = latency; miss = x.miss })) same
+            (subst (λ d. says (kind_of (entry_at t.context i).operation) d x.outcome (record { cycles = latency; miss = x.miss })) at
+            (subst (λ k. says k address x.outcome (record { cycles = latency; miss = x.miss })) kind-is lag));
       }
 
   -- the entry of the first name has to wait
@@ -231,15 +232,15 @@ module _ {A : Type 0} where
       }
 
   -- the entry of the first name has issued
-  pub is_issued : {delays : ℕ → Kind → ℕ → Lag → Bool} (m : Inside A) (now : Machine) (n : EntryId) (k : ℕ) (rest : List EntryId) (t u : Track) (i : ℕ) (x : Execution) (latency : ℕ) (left : List EntryId) → machine_of m ≡ now → IsFirstName m now n rest t → k ≡ n.context
-      → i < length t.context.flight → (entry_at t.context i).stamp ≡ n.stamp → u ≡ issued t i x → x.due ≡ m.cycle + latency → left ≡ rest → IsPerformed (delays n.context) t.context i latency x
-      → IsIssued delays now (record {
+  pub is_issued : {says : ℕ → Kind → ℕ → Outcome → Lag → Type 0} (m : Inside A) (now : Machine) (n : EntryId) (k : ℕ) (rest : List EntryId) (t u : Track) (i : ℕ) (x : Execution) (latency : ℕ) (left : List EntryId) → machine_of m ≡ now → IsFirstName m now n rest t → k ≡ n.context
+      → i < length t.context.flight → (entry_at t.context i).stamp ≡ n.stamp → u ≡ issued t i x → x.due ≡ m.cycle + latency → left ≡ rest → IsPerformedBy (says n.context) t.context i latency x
+      → IsIssuedBy says now (record {
         origin = arc_value m.origins.c0;
         view = record { profile = m.profile; cycle = m.cycle; stamp = m.stamp; contexts = map (λ (v : Track). v.context) (set m.tracks.items k u) };
         names = left;
         fetch_room = m.fetch_room;
       }) (record { entry = n; latency = latency; miss = x.miss })
-  is_issued {delays = delays} m now n k rest t u i x latency left shows h same lt is new due names performed =
+  is_issued {says = says} m now n k rest t u i x latency left shows h same lt is new due names performed =
       let context : t.context ≡ context_at now n.context = h.shown.context in
       record {
         place = i;
@@ -247,7 +248,7 @@ module _ {A : Type 0} where
         within = subst (λ (v : Context). i < length v.flight) context lt;
         stamp = subst (λ (v : Context). (entry_at v i).stamp ≡ n.stamp) context is;
         queued = subst (λ (v : Context). (entry_at v i).stage ≡ Queued) context (first_place m now n rest t h i lt is).stage;
-        performed = subst (λ (v : Context). IsPerformed (delays n.context) v i latency x) context performed;
+        performed = subst (λ (v : Context). IsPerformedBy (says n.context) v i latency x) context performed;
         due = due ∙ ap (λ (v : Machine). v.view.cycle + latency) shows;
         miss = refl;
         names = sym (ap (λ (v : Machine). v.names) shows) ∙ h.names ∙ ap (λ ns. n ∷ ns) (sym names);

@@ -8,6 +8,7 @@ pub mod Fetched
 pub mod Renamable
 pub mod First
 pub mod Turn
+pub mod Learned
 pub mod Coming
 pub mod Completing
 -- of the crate below, what a contract here speaks of

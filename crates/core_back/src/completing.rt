@@ -119,7 +119,7 @@ fn counted(turn: Completed, cut: usize) -> Completed
     }
 }
 
-/// The same of the entry at its place, which may squash others.
+/// A turn in which the entry at a place completes, which may squash others.
 #[inline(always)]
 fn complete_other<A: Allocator>(machine: &mut Machine<A>, context: Ctx, place: usize) -> Completed
     requires idle { machine.old.names ≡ [] }
@@ -139,7 +139,7 @@ fn complete_other<A: Allocator>(machine: &mut Machine<A>, context: Ctx, place: u
     }
 }
 
-/// The same, by a search.
+/// A turn whose entry is found by a search.
 #[inline(always)]
 fn search_turn<A: Allocator>(machine: &mut Machine<A>, context: Ctx) -> Completed
     requires idle { machine.old.names ≡ [] }

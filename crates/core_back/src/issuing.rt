@@ -3,6 +3,8 @@
 ghost use Rattle.std.specs.Prelude.{◌≡◌, ◌+◌, ◌<◌, ◌≤◌, ◌^◌, [], length};
 ghost use Rattle.lawful_cycle.specs.Issue.{IsIssue};
 ghost use Rattle.core_back.specs.Issued.{IsIssuedAnew};
+ghost use Rattle.lawful_cycle.specs.Queries.{IsLagBy};
+ghost use Rattle.lawful_cycle.specs.Steps.{GoesBy, IsTimedAt};
 ghost use Rattle.core_back.specs.Machine.{IsAlike, in_flight};
 
 use crate::machine::Machine;
@@ -25,9 +27,8 @@ pub fn issue<A: Allocator, O: Order, D: Delay, L: Listing<Issue, 8>>(
     requires fresh { L.items issued.old ≡ [] }
     ensures alike { IsAlike machine.old machine.new }
     ensures idle { machine.new.names ≡ [] }
-    ensures keeps { D.may_answer delay.new ≡ D.may_answer delay.old }
-    ensures keeps_greatest { D.greatest_lag delay.new ≡ D.greatest_lag delay.old }
     ensures flights { in_flight machine.new ≡ in_flight machine.old }
+    ensures timed { GoesBy (IsTimedAt D.answer D.after_delay machine.old.view) (L.items issued.new) delay.old delay.new }
     ensures lawful { IsIssue (O.key_of order.now) (D.may_answer delay.old) machine.old.view machine.new.view (L.items issued.new) }
 {
     let width = issue_width(machine);
@@ -44,7 +45,7 @@ pub fn issue<A: Allocator, O: Order, D: Delay, L: Listing<Issue, 8>>(
     }
 }
 
-/// The same where a load that was selected has to wait: the first ready entries issue, at most so many.
+/// The first ready entries issue, at most so many, where a load that was selected has to wait.
 // It is rare, and asks each load ahead of the selection.
 #[cold]
 #[inline(never)]
@@ -59,10 +60,8 @@ fn issue_anew<A: Allocator, O: Order, D: Delay, L: Listing<Issue, 8>>(
     requires cycle { machine.old.view.cycle < 2 ^ 56 }
     requires room { length (L.items issued.old) + width ≤ 8 }
     ensures alike { IsAlike machine.old machine.new }
-    ensures keeps { D.may_answer delay.new ≡ D.may_answer delay.old }
-    ensures keeps_greatest { D.greatest_lag delay.new ≡ D.greatest_lag delay.old }
     ensures flights { in_flight machine.new ≡ in_flight machine.old }
-    ensures anew { IsIssuedAnew (O.key_of order.now) (D.may_answer delay.old) width machine.old machine.new (L.items issued.old) (L.items issued.new) }
+    ensures anew { IsIssuedAnew (O.key_of order.now) (IsLagBy (D.may_answer delay.old) D.answer D.after_delay) delay.old delay.new width machine.old machine.new (L.items issued.old) (L.items issued.new) }
 {
     // `cycle` ensures that each context is live, so its stamps grow.
     let _live = machine.cycle();

@@ -16,13 +16,15 @@ ghost use Rattle.core_context.specs.FrontLists.{front_fill};
 ghost use Rattle.core_context.specs.Heads.{IsGoing, first_done, step_on};
 ghost use Rattle.core_back.specs.Selected.{IsChosen, IsChosenOf, IsSuppliedPlace};
 ghost use Rattle.core_back.specs.Shown.{flow_left};
-ghost use Rattle.core_back.specs.Issued.{IsIssued, IsHeadWaiting};
+ghost use Rattle.core_back.specs.Issued.{IsIssuedBy, IsHeadWaiting};
+ghost use Rattle.lawful_cycle.specs.Queries.{IsLagBy, when_shown};
 ghost use Rattle.core_back.specs.Fetched.{IsRenamedRun, IsPickTurn};
 ghost use Rattle.core_back.specs.Renamable.{front_stops};
 ghost use Rattle.core_back.specs.First.{IsFirst, IsTarget, AreMarksAt};
 ghost use Rattle.checkpoint.specs.Aligned.{IsAligned};
 ghost use Rattle.join_law.specs.Eight.{place_of};
 ghost use Rattle.word_mask.specs.Mask.{has};
+ghost use Rattle.lawful_cycle.specs.Steps.{GoesBy, IsFollowedAt};
 
 use crate::fetching::fetch_block;
 use crate::first::{first_fills, first_flow, first_tracks, marks_of, origins_of};
@@ -243,7 +245,8 @@ impl<A: Allocator> Machine<A> {
         ensures stamp { result.stamp ≡ (entry_at (context_at self.old context) 0).stamp }
         ensures dropped { result.dropped + 1 + in_flight self.new ≡ in_flight self.old }
         ensures bound { result.dropped ≤ 80 }
-        ensures keeps { G.may_answer guess.new ≡ G.may_answer guess.old }
+        ensures state { let x = context_at self.old context in
+            guess.new ≡ when_shown (entry_at x 0).operation (λ insn. G.after_learn guess.old context (entry_at x 0).pc insn (step_on (first_done x.flight)).next) guess.old }
     {
         let track = &mut self.tracks[context.index()];
         // How many there are bounds how many are dropped.
@@ -404,12 +407,10 @@ impl<A: Allocator> Machine<A> {
     pub fn issue_next<D: Delay>(&mut self, delay: &mut D) -> Option<Issue>
         requires some { 0 < length self.old.names }
         requires cycle { self.old.view.cycle < 2 ^ 56 }
-        ensures issued { IfSome result (IsIssued (D.may_answer delay.old) self.old self.new) }
+        ensures issued { IfSome result (IsIssuedBy (IsLagBy (D.may_answer delay.old) D.answer D.after_delay delay.old delay.new) self.old self.new) }
         ensures waits { result ≡ None → IsHeadWaiting self.old }
         ensures same { result ≡ None → self.new ≡ self.old }
         ensures unasked { result ≡ None → delay.new ≡ delay.old }
-        ensures keeps { D.may_answer delay.new ≡ D.may_answer delay.old }
-        ensures keeps_greatest { D.greatest_lag delay.new ≡ D.greatest_lag delay.old }
     {
         let name = self.selected.first();
         let track = &mut self.tracks[name.context.index()];
@@ -603,9 +604,9 @@ impl<A: Allocator> Machine<A> {
         requires room { self.old.fetch_room + length (L.items fetched.old) ≡ 8 }
         requires eligible { is_eligible (context_at self.old context) ≡ true }
         ensures turn { IsPickTurn (G.may_answer guess.old) self.old self.new context num2 (L.items fetched.old) (L.items fetched.new) }
+        ensures queried { GoesBy (IsFollowedAt G.answer G.after_guess context) (drop (length (context_at self.old context).flight) (context_at self.new context).flight) guess.old guess.new }
         ensures room { self.new.fetch_room + length (L.items fetched.new) ≡ 8 }
         ensures idle { self.new.names ≡ [] }
-        ensures keeps { G.may_answer guess.new ≡ G.may_answer guess.old }
         ensures flights { in_flight self.new + length (L.items fetched.old) ≡ in_flight self.old + length (L.items fetched.new) }
     {
         let Machine {

@@ -8,6 +8,8 @@ ghost use Rattle.fetch_policy.specs.Lawful.{turn as turn_of};
 ghost use Rattle.lawful_cycle.specs.Retire.{IsRetire};
 ghost use Rattle.core_back.specs.Machine.{IsAlike, in_flight, context_at, with_context};
 ghost use Rattle.core_back.specs.Turn.{IsStepOfTurn, ended};
+ghost use Rattle.core_back.specs.Learned.{HasLearned};
+ghost use Rattle.lawful_cycle.specs.Steps.{GoesBy, IsLearnedAt, OfNamed};
 
 use crate::machine::Machine;
 use bit_vector::{after_first, next, push, turn_eight};
@@ -30,7 +32,7 @@ pub fn retire<A: Allocator, G: Guess, L: Listing<EntryId, 16>>(
     requires fresh { L.items retired.old ≡ [] }
     ensures alike { IsAlike machine.old machine.new }
     ensures idle { machine.new.names ≡ [] }
-    ensures keeps { G.may_answer guess.new ≡ G.may_answer guess.old }
+    ensures learns { GoesBy (OfNamed (IsLearnedAt G.after_learn) machine.old.view) (L.items retired.new) guess.old guess.new }
     ensures dropped { result + length (L.items retired.new) + in_flight machine.new ≡ in_flight machine.old }
     ensures bound { result ≤ 10880 }
     ensures lawful { IsRetire machine.old.view machine.new.view (L.items retired.new) }
@@ -116,7 +118,7 @@ fn retire_oldest<A: Allocator, G: Guess, L: Listing<EntryId, 16>>(
     ensures width { length (L.items retired.new) + result.left ≤ 16 }
     ensures fewer { result.left ≤ left }
     ensures one_fewer { IsTrue result.goes_on → result.left + 1 ≡ left }
-    ensures keeps { G.may_answer guess.new ≡ G.may_answer guess.old }
+    ensures trained { HasLearned G.after_learn machine.old machine.new (L.items retired.old) (L.items retired.new) guess.old guess.new }
 {
     if left == 0 {
         let stopped = stop_done(machine, context);
@@ -159,7 +161,7 @@ fn retire_going<A: Allocator, G: Guess, L: Listing<EntryId, 16>>(
     ensures step { IsStepOfTurn machine.old machine.new context left result.left result.goes_on dropped result.dropped (L.items retired.old) (L.items retired.new) }
     ensures one { length (L.items retired.new) ≡ length (L.items retired.old) + 1 }
     ensures left { result.left + 1 ≡ left }
-    ensures keeps { G.may_answer guess.new ≡ G.may_answer guess.old }
+    ensures trained { HasLearned G.after_learn machine.old machine.new (L.items retired.old) (L.items retired.new) guess.old guess.new }
 {
     let next = machine.is_next_done(context);
     let gone = machine.retire(guess, context);
@@ -188,7 +190,7 @@ fn with_dropped(dropped: usize, more: usize) -> usize
     add_dropped(dropped, more)
 }
 
-/// The same, where a turn drops some.
+/// How many entries were dropped, with those of a turn that drops some.
 #[cold]
 fn add_dropped(dropped: usize, more: usize) -> usize
     requires { dropped + more ≤ 10880 }

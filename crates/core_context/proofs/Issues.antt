@@ -123,10 +123,10 @@ place_issuable f c t k place values waits supplied there sources is goes = recor
 -- ---- what an event says of it
 
 -- the entry at a place issued, if it did, on the values of its sources
-pub issued_if_some : (delays : Kind → ℕ → Lag → Bool) (f : Flow) (c cycle i a b : ℕ) (old new : Track) (r : Option Lag) → i < length old.context.flight → Some (a, b) ≡ sources_at (lane f c) i → IfSome r (λ _. may_issue_at old.context i a b ≡ true)
-    → IfSome r (HasPerformed delays a b cycle i old new) → IfSome r (HasIssued delays f c (entry_at old.context i).stamp cycle old new)
-issued_if_some delays f c cycle i a b old new None lt sources clear performed = tt
-issued_if_some delays f c cycle i a b old new (Some lag) lt sources clear performed = record { place = i; first = a; second = b; within = lt; stamp = refl; sources = sym sources; clear = clear; stated = performed.stated; after = performed.after }
+pub issued_if_some : (says : Kind → ℕ → Outcome → Lag → Type 0) (f : Flow) (c cycle i a b : ℕ) (old new : Track) (r : Option Lag) → i < length old.context.flight → Some (a, b) ≡ sources_at (lane f c) i → IfSome r (λ _. may_issue_at old.context i a b ≡ true)
+    → IfSome r (HasPerformed says a b cycle i old new) → IfSome r (HasIssued says f c (entry_at old.context i).stamp cycle old new)
+issued_if_some says f c cycle i a b old new None lt sources clear performed = tt
+issued_if_some says f c cycle i a b old new (Some lag) lt sources clear performed = record { place = i; first = a; second = b; within = lt; stamp = refl; sources = sym sources; clear = clear; stated = performed.stated; after = performed.after }
 
 -- ---- the core once it has issued
 

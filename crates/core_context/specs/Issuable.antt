@@ -11,7 +11,7 @@ use Rattle.lawful_cycle.specs.Issue.{is_clear_on}
 use Rattle.data_flow.specs.Flow.{Flow, Waiter, is_waiter, lane, sources_at}
 use Rattle.data_tags.specs.declared.delay.Kind.{Kind}
 use Rattle.data_tags.specs.declared.delay.Lag.{Lag}
-use Rattle.lawful_cycle.specs.Delays.{kind_of, address_in, IsLagOf}
+use Rattle.lawful_cycle.specs.Delays.{kind_of, address_in}
 use Rattle.entry_stages.specs.Effects.{answered_in}
 use Rattle.core_context.specs.Queued.{queued_at}
 use Rattle.core_context.specs.Track.{Track, issued}
@@ -88,7 +88,7 @@ pub record HasToWait (f : Flow) (c k : ℕ) (t : Track) : Type 0 where
   pub waits : may_issue_at t.context place first second ≡ false
 
 -- it has issued in a cycle on the values of its sources, on which it was clear, after a lag that a delay states
-pub record HasIssued (delays : Kind → ℕ → Lag → Bool) (f : Flow) (c k cycle : ℕ) (old new : Track) (lag : Lag) : Type 0 where
+pub record HasIssued (says : Kind → ℕ → Outcome → Lag → Type 0) (f : Flow) (c k cycle : ℕ) (old new : Track) (lag : Lag) : Type 0 where
   pub place : ℕ
   pub first : ℕ
   pub second : ℕ
@@ -96,5 +96,5 @@ pub record HasIssued (delays : Kind → ℕ → Lag → Bool) (f : Flow) (c k cy
   pub stamp : (entry_at old.context place).stamp ≡ k
   pub sources : sources_at (lane f c) place ≡ Some (first, second)
   pub clear : may_issue_at old.context place first second ≡ true
-  pub stated : let e = entry_at old.context place in IsLagOf delays (kind_of e.operation) (address_in e.operation e.pc first second) (performed_at old.context place first second) lag
+  pub stated : let e = entry_at old.context place in says (kind_of e.operation) (address_in e.operation e.pc first second) (performed_at old.context place first second) lag
   pub after : new ≡ issued old place (record { due = cycle + lag.cycles; miss = lag.miss; outcome = performed_at old.context place first second })

@@ -9,6 +9,7 @@ ghost use Rattle.core_view.specs.View.{entry_at};
 ghost use Rattle.data_tags.specs.declared.delay.Kind.TheVariants.{Load, Store};
 ghost use Rattle.core_context.specs.Issuable.{IsAnswered, effected_at};
 ghost use Rattle.core_context.specs.Performed.{HasIssuedWith};
+ghost use Rattle.lawful_cycle.specs.Queries.{IsLagBy};
 
 use crate::track::Track;
 use core_view::{loads_at, stores_at};
@@ -41,9 +42,7 @@ pub(crate) fn perform_load<A: Allocator, D: Delay>(
     requires answered { IsAnswered track.old.context place }
     requires clear { may_issue (take place track.old.context.flight) (Loads kind address) ≡ true }
     requires cycle { cycle < 2 ^ 56 }
-    ensures issued { HasIssuedWith (D.may_answer delay.old context) Load address (effected_at track.old.context place (Loads kind address)) cycle place track.old track.new result }
-    ensures keeps { D.may_answer delay.new ≡ D.may_answer delay.old }
-    ensures keeps_greatest { D.greatest_lag delay.new ≡ D.greatest_lag delay.old }
+    ensures { HasIssuedWith (IsLagBy (D.may_answer delay.old) D.answer D.after_delay delay.old delay.new context) Load address (effected_at track.old.context place (Loads kind address)) cycle place track.old track.new result }
 {
     let number = match track.read(kind, address) {
         Ok(number) => number,
@@ -80,9 +79,7 @@ pub(crate) fn perform_store<A: Allocator, D: Delay>(
     requires queued { (entry_at track.old.context place).stage ≡ Queued }
     requires store { is_load (entry_at track.old.context place).operation ≡ false }
     requires cycle { cycle < 2 ^ 56 }
-    ensures issued { HasIssuedWith (D.may_answer delay.old context) Store address (effected_at track.old.context place (Stores width address value)) cycle place track.old track.new result }
-    ensures keeps { D.may_answer delay.new ≡ D.may_answer delay.old }
-    ensures keeps_greatest { D.greatest_lag delay.new ≡ D.greatest_lag delay.old }
+    ensures { HasIssuedWith (IsLagBy (D.may_answer delay.old) D.answer D.after_delay delay.old delay.new context) Store address (effected_at track.old.context place (Stores width address value)) cycle place track.old track.new result }
 {
     let effect = Effect::Stores {
         width,

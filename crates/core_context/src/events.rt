@@ -19,6 +19,7 @@ ghost use Rattle.flight.specs.Flights.{is_due};
 ghost use Rattle.core_context.specs.Left.{IsIdleCore, IsEventAt};
 ghost use Rattle.core_context.specs.Renamable.{HasPlaces, IsRenamable};
 ghost use Rattle.core_context.specs.Steps.{retired_flow, settled_flow, completed_flow, cut_by, renamed_flow, IsRemarked, AreTold};
+ghost use Rattle.lawful_cycle.specs.Queries.{IsLagBy, when_shown};
 
 use crate::issuing::{perform, perform_apart};
 use crate::track::Track;
@@ -59,7 +60,7 @@ pub fn retire<A: Allocator, G: Guess>(
     ensures stamp { result.stamp ≡ (entry_at track.old.context 0).stamp }
     ensures parked { result.parked ≡ is_last track.old.context }
     ensures dropped { result.dropped + 1 + length track.new.context.flight ≡ length track.old.context.flight }
-    ensures keeps { G.may_answer guess.new ≡ G.may_answer guess.old }
+    ensures state { guess.new ≡ when_shown (entry_at track.old.context 0).operation (λ insn. G.after_learn guess.old context (entry_at track.old.context 0).pc insn (step_on (first_done track.old.context.flight)).next) guess.old }
 {
     let stamp = track.step(guess, context);
     flow.commit(context);
@@ -129,7 +130,7 @@ pub fn complete_plain<A: Allocator>(
     Some(finished.more)
 }
 
-/// The same as `settle_speculation`, where told so.
+/// Calls `settle_speculation` where a flag says that something was freed.
 #[inline(always)]
 fn settle_freed<A: Allocator>(
     flow: &mut DataFlow<A>,
@@ -169,7 +170,7 @@ pub fn complete<A: Allocator>(
     before - track.len()
 }
 
-/// The same. The queue is told of what is behind no guessed entry any more.
+/// The entry at a place completes, and the queue learns what is behind no guessed entry any more.
 fn complete_entry<A: Allocator>(
     flow: &mut DataFlow<A>,
     track: &mut Track<A>,
@@ -316,7 +317,7 @@ pub fn rename<A: Allocator>(
     Some(stamp)
 }
 
-/// The same, where each place that the entry needs is free.
+/// The oldest fetched entry is renamed; each place that it needs is free.
 fn rename_oldest<A: Allocator>(
     flow: &mut DataFlow<A>,
     track: &mut Track<A>,
@@ -350,7 +351,7 @@ fn next_stops<A: Allocator>(track: &Track<A>) -> bool
     next.operation.stops_at_fetch()
 }
 
-/// The same of an entry that stops at fetch: it doesn't wait.
+/// The oldest fetched entry, which stops at fetch, is renamed: it doesn't wait.
 // It is rare, and stays out of the way of the others.
 #[cold]
 fn rename_stop<A: Allocator>(flow: &mut DataFlow<A>, track: &mut Track<A>, context: Ctx, cycle: u64)
@@ -368,7 +369,7 @@ fn rename_stop<A: Allocator>(flow: &mut DataFlow<A>, track: &mut Track<A>, conte
     flow.rename(context, operands(&entry));
 }
 
-/// The same of an entry that doesn't stop at fetch: it waits for issue.
+/// The oldest fetched entry, which doesn't stop at fetch, is renamed: it waits for issue.
 #[inline(always)]
 fn rename_waiting<A: Allocator>(flow: &mut DataFlow<A>, track: &mut Track<A>, context: Ctx)
     requires some { track.old.renamed < length track.old.context.flight }
@@ -429,12 +430,10 @@ pub fn issue<A: Allocator, D: Delay>(
 ) -> Option<Lag>
     requires supplied { IsSupplied flow.now context track.old stamp }
     requires cycle { cycle < 2 ^ 56 }
-    ensures issued { IfSome result (HasIssued (D.may_answer delay.old context) flow.now context stamp cycle track.old track.new) }
+    ensures issued { IfSome result (HasIssued (IsLagBy (D.may_answer delay.old) D.answer D.after_delay delay.old delay.new context) flow.now context stamp cycle track.old track.new) }
     ensures waits { result ≡ None → HasToWait flow.now context stamp track.old }
     ensures same { result ≡ None → track.new ≡ track.old }
     ensures unasked { result ≡ None → delay.new ≡ delay.old }
-    ensures keeps { D.may_answer delay.new ≡ D.may_answer delay.old }
-    ensures keeps_greatest { D.greatest_lag delay.new ≡ D.greatest_lag delay.old }
 {
     let Some(place) = track.known_place(stamp) else {
         // Asked apart from what issues: an `Option` that a call out of line returns is built in memory.
@@ -476,9 +475,7 @@ fn issue_searched<A: Allocator, D: Delay>(
 ) -> Lag
     requires issuable { IsIssuable flow.now context track.old stamp }
     requires cycle { cycle < 2 ^ 56 }
-    ensures issued { HasIssued (D.may_answer delay.old context) flow.now context stamp cycle track.old track.new result }
-    ensures keeps { D.may_answer delay.new ≡ D.may_answer delay.old }
-    ensures keeps_greatest { D.greatest_lag delay.new ≡ D.greatest_lag delay.old }
+    ensures { HasIssued (IsLagBy (D.may_answer delay.old) D.answer D.after_delay delay.old delay.new context) flow.now context stamp cycle track.old track.new result }
 {
     let place = track.queued_place(stamp).unwrap();
     issue_apart(flow, track, context, place, cycle, delay)
@@ -497,12 +494,10 @@ fn issue_at<A: Allocator, D: Delay>(
     requires place { place < length track.old.context.flight }
     requires supplied { IsSuppliedAt flow.now context track.old place }
     requires cycle { cycle < 2 ^ 56 }
-    ensures issued { IfSome result (HasIssued (D.may_answer delay.old context) flow.now context (entry_at track.old.context place).stamp cycle track.old track.new) }
+    ensures issued { IfSome result (HasIssued (IsLagBy (D.may_answer delay.old) D.answer D.after_delay delay.old delay.new context) flow.now context (entry_at track.old.context place).stamp cycle track.old track.new) }
     ensures waits { result ≡ None → HasToWait flow.now context (entry_at track.old.context place).stamp track.old }
     ensures same { result ≡ None → track.new ≡ track.old }
     ensures unasked { result ≡ None → delay.new ≡ delay.old }
-    ensures keeps { D.may_answer delay.new ≡ D.may_answer delay.old }
-    ensures keeps_greatest { D.greatest_lag delay.new ≡ D.greatest_lag delay.old }
 {
     let values = flow.read_sources(context, place);
     perform(track, place, values, context, cycle, delay)
@@ -520,9 +515,7 @@ fn issue_apart<A: Allocator, D: Delay>(
     requires place { place < length track.old.context.flight }
     requires issuable { IsIssuableAt flow.now context track.old place }
     requires cycle { cycle < 2 ^ 56 }
-    ensures issued { HasIssued (D.may_answer delay.old context) flow.now context (entry_at track.old.context place).stamp cycle track.old track.new result }
-    ensures keeps { D.may_answer delay.new ≡ D.may_answer delay.old }
-    ensures keeps_greatest { D.greatest_lag delay.new ≡ D.greatest_lag delay.old }
+    ensures { HasIssued (IsLagBy (D.may_answer delay.old) D.answer D.after_delay delay.old delay.new context) flow.now context (entry_at track.old.context place).stamp cycle track.old track.new result }
 {
     let values = flow.read_sources(context, place);
     let entry = track.entry_at(place);

@@ -9,9 +9,11 @@ ghost use Rattle.hart_step.specs.Next.{after};
 ghost use Rattle.origin_set.specs.Start.{start};
 ghost use Rattle.lawful_cycle.specs.Cycle.{IsLawfulCycle, laws_of};
 ghost use Rattle.lawful_cycle.specs.Timing.{AreTimely};
+ghost use Rattle.lawful_cycle.specs.Distance.{NeverStalls, GoesOn, PutsSureFirst};
 ghost use Rattle.core_back.specs.Machine.{context_at, in_flight, IsAlike};
 ghost use Rattle.core_back.specs.First.{IsFirst, AreMarksAt};
 ghost use Rattle.core_cycle.specs.Faults.{IsBehind, IsRefusal};
+ghost use Rattle.lawful_cycle.specs.Steps.{IsSteppedCycle, steps_of};
 
 use crate::contexts::Contexts;
 use crate::counts::CycleCounts;
@@ -55,6 +57,8 @@ impl<G: Guess + Drop, P: Pick + Drop, O: Order + Drop, D: Delay + Drop, A: Alloc
     ghost use Rattle.core_cycle.specs.Shown.{shown};
 
     /// A core by a profile whose contexts start at eight marks of one origin, each with the count that it is to reach.
+    /// Under an order that puts sure entries first, as OLDEST_FIRST and SPEC_LAST do, it never stalls, and `cycle` keeps
+    /// that.
     ///
     /// # Errors
     ///
@@ -77,6 +81,7 @@ impl<G: Guess + Drop, P: Pick + Drop, O: Order + Drop, D: Delay + Drop, A: Alloc
         ensures pick { IfOk result (λ core. core.pick ≡ pick) }
         ensures order { IfOk result (λ core. core.order ≡ order) }
         ensures delay { IfOk result (λ core. core.delay ≡ delay) }
+        ensures never_stalls { IfOk result (λ core. PutsSureFirst (O.key_of order) → NeverStalls (O.key_of order) (D.greatest_lag delay) (shown core).view) }
         ensures refused { IfErr result (λ back. (back.0 ≡ marks) × IsRefusal marks targets back.1) }
     {
         if let Some(context) = behind_start(&marks, &targets) {
@@ -86,6 +91,8 @@ impl<G: Guess + Drop, P: Pick + Drop, O: Order + Drop, D: Delay + Drop, A: Alloc
             return Err((marks, CoreFault::OutOfMemory));
         };
         drop(marks);
+        // `greatest` ensures that the greatest lag is at least 1.
+        let _greatest = delay.greatest();
         Ok(Core {
             contexts: Contexts::new(machine),
             guess,
@@ -139,7 +146,9 @@ impl<G: Guess + Drop, P: Pick + Drop, O: Order + Drop, D: Delay + Drop, A: Alloc
         ensures pick { self.new.pick ≡ self.old.pick }
         ensures order { self.new.order ≡ self.old.order }
         ensures lawful { IsLawfulCycle (laws_of (P.key_of self.old.pick) (O.key_of self.old.order) (G.may_answer self.old.guess) (D.may_answer self.old.delay)) (shown self.old).view (shown self.new).view result }
+        ensures stepped { IsSteppedCycle (steps_of G.answer G.after_guess G.after_learn D.answer D.after_delay) (laws_of (P.key_of self.old.pick) (O.key_of self.old.order) (G.may_answer self.old.guess) (D.may_answer self.old.delay)) self.old.guess self.new.guess self.old.delay self.new.delay (shown self.old).view (shown self.new).view result }
         ensures timely { AreTimely (shown self.new).view.cycle (shown self.new).view }
+        ensures goes_on { NeverStalls (O.key_of self.old.order) (D.greatest_lag self.old.delay) (shown self.old).view → GoesOn (O.key_of self.old.order) (D.greatest_lag self.old.delay) (shown self.old).view (shown self.new).view result }
         ensures flights { result.cut + array_vec_len result.retired + in_flight (shown self.new) ≡ in_flight (shown self.old) + array_vec_len result.fetched }
     {
         let mut note = CycleNote::new();
@@ -158,7 +167,7 @@ impl<G: Guess + Drop, P: Pick + Drop, O: Order + Drop, D: Delay + Drop, A: Alloc
         note
     }
 
-    /// The same, told by counts alone.
+    /// One cycle, as `cycle`, whose note is returned as counts alone.
     pub fn cycle_counted(&mut self) -> CycleCounts
         requires { (shown self.old).view.cycle < 2 ^ 56 }
         ensures live { (c : ℕ) → c < 8 → IsLive (start (shown self.new).origin c) (shown self.new).view.stamp (context_at (shown self.new) c) }
@@ -174,7 +183,9 @@ impl<G: Guess + Drop, P: Pick + Drop, O: Order + Drop, D: Delay + Drop, A: Alloc
         ensures pick { self.new.pick ≡ self.old.pick }
         ensures order { self.new.order ≡ self.old.order }
         ensures lawful { IsLawfulCycle (laws_of (P.key_of self.old.pick) (O.key_of self.old.order) (G.may_answer self.old.guess) (D.may_answer self.old.delay)) (shown self.old).view (shown self.new).view (note_of result) }
+        ensures stepped { IsSteppedCycle (steps_of G.answer G.after_guess G.after_learn D.answer D.after_delay) (laws_of (P.key_of self.old.pick) (O.key_of self.old.order) (G.may_answer self.old.guess) (D.may_answer self.old.delay)) self.old.guess self.new.guess self.old.delay self.new.delay (shown self.old).view (shown self.new).view (note_of result) }
         ensures timely { AreTimely (shown self.new).view.cycle (shown self.new).view }
+        ensures goes_on { NeverStalls (O.key_of self.old.order) (D.greatest_lag self.old.delay) (shown self.old).view → GoesOn (O.key_of self.old.order) (D.greatest_lag self.old.delay) (shown self.old).view (shown self.new).view (note_of result) }
         ensures flights { result.cut + length result.retired + in_flight (shown self.new) ≡ in_flight (shown self.old) + length result.fetched }
     {
         // Each by itself: in one struct that is lent field by field they stand in memory, and not in registers.

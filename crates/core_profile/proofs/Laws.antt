@@ -1,4 +1,4 @@
--- What callers may cite: where the keys of a table's entries grow, a name that comes before them is none of them.
+-- What callers may cite: the fields of a profile determine it; where the keys of a table's entries grow, a name that comes before them is none of them.
 use Rattle.std.proofs.Common.{◌≡◌, ℕ, List, [], ◌∷◌, None, string_bytes, refl}
 use Rattle.std.proofs.lemmas.Cmp.{nat_list_cmp_total}
 use Rattle.std.specs.List.{AllByRecursion}
@@ -7,6 +7,8 @@ use Rattle.toml.proofs.Views.{Entry}
 use Rattle.toml.specs.Data.{get_member}
 use Rattle.toml.specs.View.{members_view}
 use Rattle.core_profile.specs.Tables.{IsBefore}
+-- profiles with the same fields are one
+pub use Rattle.core_profile.proofs.OneProfile.{one_profile}
 
 -- each key of the entries comes after a name
 abbrev pub AreAfter : List ℕ → List Entry → Type 0

@@ -3,9 +3,11 @@
 ghost use Rattle.std.specs.Prelude.{◌≡◌, ◌↔◌, ◌+◌, ◌≤◌, ◌^◌, IsTrue, false};
 ghost use Rattle.lawful_cycle.specs.Cycle.{laws_of};
 ghost use Rattle.lawful_cycle.specs.Runs.{SomeRuns};
+ghost use Rattle.lawful_cycle.specs.Distance.{NeverStalls, IsBoundedRun};
 ghost use Rattle.core_cycle.specs.Shown.{shown};
 ghost use Rattle.core_run.specs.Told.{figures_of};
-ghost use Rattle.core_run.specs.Ended.{IsRunFrom, IsRunOf, is_reached};
+ghost use Rattle.core_run.specs.Ended.{IsRunFrom, IsRunOf, IsSteppedRunOf, is_reached};
+ghost use Rattle.lawful_cycle.specs.Steps.{IsSteppedRunTo, steps_of};
 
 use crate::figures::Figures;
 use branch_predict::Guess;
@@ -43,7 +45,9 @@ pub fn run_to<G: Guess + Drop, P: Pick + Drop, O: Order + Drop, D: Delay + Drop,
     limit: u64,
 ) -> Run<A>
     requires { (shown core).view.cycle + limit ≤ 2 ^ 56 }
-    ensures { IsRunOf (laws_of (P.key_of core.pick) (O.key_of core.order) (G.may_answer core.guess) (D.may_answer core.delay)) (shown core) limit result.outcome (figures_of result.figures) result.marks }
+    ensures run { IsRunOf (laws_of (P.key_of core.pick) (O.key_of core.order) (G.may_answer core.guess) (D.may_answer core.delay)) (shown core) limit result.outcome (figures_of result.figures) result.marks }
+    ensures stepped { IsSteppedRunOf (steps_of G.answer G.after_guess G.after_learn D.answer D.after_delay) (laws_of (P.key_of core.pick) (O.key_of core.order) (G.may_answer core.guess) (D.may_answer core.delay)) core.guess core.delay (shown core) limit result.outcome (figures_of result.figures) result.marks }
+    ensures no_stall { NeverStalls (O.key_of core.order) (D.greatest_lag core.delay) (shown core).view → IsBoundedRun (D.greatest_lag core.delay) limit (shown core).view (figures_of result.figures) (is_reached result.outcome) }
 {
     let mut core = core;
     let (outcome, figures) = advance(&mut core, limit);
@@ -60,7 +64,8 @@ fn advance<G: Guess + Drop, P: Pick + Drop, O: Order + Drop, D: Delay + Drop, A:
     limit: u64,
 ) -> (Outcome, Figures)
     requires { (shown core.old).view.cycle + limit ≤ 2 ^ 56 }
-    ensures { IsRunFrom (laws_of (P.key_of core.old.pick) (O.key_of core.old.order) (G.may_answer core.old.guess) (D.may_answer core.old.delay)) (shown core.old) (shown core.new) limit result.0 (figures_of result.1) }
+    ensures run { IsRunFrom (laws_of (P.key_of core.old.pick) (O.key_of core.old.order) (G.may_answer core.old.guess) (D.may_answer core.old.delay)) (shown core.old) (shown core.new) limit result.0 (figures_of result.1) }
+    ensures stepped { IsSteppedRunTo (steps_of G.answer G.after_guess G.after_learn D.answer D.after_delay) (laws_of (P.key_of core.old.pick) (O.key_of core.old.order) (G.may_answer core.old.guess) (D.may_answer core.old.delay)) limit core.old.guess core.new.guess core.old.delay core.new.delay (shown core.old).view (shown core.new).view (figures_of result.1) (is_reached result.0) }
 {
     // `cycles` ensures that what is in flight can be counted.
     let _first = core.cycles();

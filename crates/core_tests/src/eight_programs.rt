@@ -8,7 +8,7 @@ use core_cycle::Core;
 use core_profile::{Profile, ProfileFields};
 use data_tags::Alternating;
 use fetch_policy::NamedPick;
-use hart_step::Hart;
+use hart_step::{Hart, following};
 use issue_queue::{Order, QueueView};
 use join_law::Ctx;
 use origin_set::Origin;
@@ -35,23 +35,35 @@ const LOOP: [u32; 12] = [
     0xFC03_1CE3,
 ];
 
-/// Guesses that go round a fixed list of odd numbers.
+/// Guesses that go round a fixed list of odd numbers, and then in line.
 #[derive(Drop)]
 struct OddGuess {
     next: usize,
 }
 
 impl Guess for OddGuess {
-    ghost use Rattle.std.specs.Prelude.{true};
+    ghost use Rattle.std.specs.Prelude.{◌+◌, ◌%◌, true, [], ◌∷◌, slice_get, unwrap_or, refl};
+    ghost use Rattle.hart_step.specs.State.{following};
 
     ghost may_answer = { λ s context pc insn next. true };
 
+    ghost answer = { λ s context pc insn. unwrap_or (slice_get (1 ∷ 3 ∷ 0x1_0005 ∷ 0xffff_ffff_ffff_ffff ∷ 0x1_0004 ∷ 0x1_0014 ∷ 7 ∷ []) (s.next % 8)) (following pc) };
+
+    ghost after_guess = { λ s context pc insn. record s { next = (s.next % 8 + 1) % 8 } };
+
+    ghost after_learn = { λ s context pc insn next. s };
+
+    ghost guess_keeps = { λ s context pc insn. refl };
+
+    ghost learn_keeps = { λ s context pc insn next. refl };
+
     fn guess(&mut self, _context: Ctx, pc: u64, _insn: &Insn) -> u64 {
         let table = [1, 3, 0x1_0005, u64::MAX, 0x1_0004, 0x1_0014, 7];
-        self.next = self.next.wrapping_add(1) % 8;
-        match table.get(self.next) {
+        let place = self.next % 8;
+        self.next = (place + 1) % 8;
+        match table.get(place) {
             Some(answer) => *answer,
-            None => pc.wrapping_add(4),
+            None => following(pc),
         }
     }
 
@@ -233,13 +245,13 @@ fn points_agree(alloc: Global, core: &mut OddCore, origin: &Arc<Origin>) -> Resu
     Ok(true)
 }
 
-/// The same of a core by a profile at the starts of an origin.
+/// Whether the contexts of a core with a profile, at the starts of an origin, are where plain steps are.
 fn stays_plain_by(alloc: Global, profile: &Profile, origin: &Arc<Origin>) -> Result<bool, Fail> {
     let mut core = odd_core(alloc, profile, origin)?;
     points_agree(alloc, &mut core, origin)
 }
 
-/// The same of a core with so many places that runs the eight loops.
+/// Whether the contexts of a core with so many places, which runs the eight loops, are where plain steps are.
 fn stays_plain(alloc: Global, places: u64) -> Result<bool, Fail> {
     let profile = profile_of(places)?;
     let origin = loops(alloc)?;

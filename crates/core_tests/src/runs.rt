@@ -50,7 +50,7 @@ fn end_of(
     end_from(alloc, profile, marks, guess, delay, targets, limit)
 }
 
-/// The same from marks, with a predictor and data tags.
+/// How a core ends that begins at marks, with a predictor and data tags.
 fn end_from(
     alloc: Global,
     profile: &Profile,
@@ -70,7 +70,7 @@ fn end_from(
     Ok(end_of_core(core, limit))
 }
 
-/// The same of a core that has run no cycle.
+/// How a core ends that has run no cycle.
 fn end_of_core(core: TablesCore, limit: u64) -> End
     requires first { (shown core).view.cycle ≡ 0 }
     requires limit { limit ≤ 1000 }

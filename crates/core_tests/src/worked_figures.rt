@@ -86,7 +86,7 @@ fn end_by<G: Guess + Drop, D: Delay + Drop>(
     Ok(ending_of(&core, figures))
 }
 
-/// The same of a program, with flat delays, and the doubleword 1 as data.
+/// What a core shows at the end of a program, with flat delays, and the doubleword 1 as data.
 fn end_of<G: Guess + Drop>(
     alloc: Global,
     profile: &Profile,
@@ -98,7 +98,7 @@ fn end_of<G: Guess + Drop>(
     end_by(alloc, profile, marks, guess, delay)
 }
 
-/// The same by the default profile, with its predictor and data tags.
+/// What a core shows at the end of a program, by the default profile, with its predictor and data tags.
 fn end_by_tables(alloc: Global, words: &[u32], bytes: &[u8]) -> Result<Ending, Fail> {
     let profile = Profile::default();
     let (guess, delay) = tables_of(alloc, &profile)?;
@@ -215,7 +215,7 @@ fn calls_and_returns(rt: HostRuntime) -> Result<(), Fail> {
     Ok(())
 }
 
-/// The same with two sums in the function, the first of which is passed over: so a return is fetched behind the first
+/// These calls with two sums in the function, the first of which is passed over: so a return is fetched behind the first
 /// wrong guess too, and takes what the call has pushed.
 ///
 /// | pc | Instruction | |

@@ -123,7 +123,7 @@ impl Entry {
         }
     }
 
-    /// The same where fetch went on there already, or it stops.
+    /// The entry, which is issued, as it completes, where fetch went on at its true next pc already, or it stops.
     #[inline(always)]
     pub fn settled(&self) -> Entry
         requires issued { IsIssued self.now.stage }

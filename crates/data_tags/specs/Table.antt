@@ -1,8 +1,10 @@
 -- The table of data tags: 64 lines of 64 bytes for all contexts.
-use Rattle.std.specs.Prelude.{ℕ, ◌/◌, ◌%◌, ◌==◌, ◌&&◌, not, Bool, false, List, Option, Some, None, slice_index_or, slice_set}
+use Rattle.std.specs.Prelude.{ℕ, ◌/◌, ◌%◌, ◌==◌, ◌&&◌, not, Bool, false, List, Option, Some, None, slice_index_or, slice_set, replicate}
 use Rattle.data_tags.specs.declared.delay.Kind.{Kind}
 use Rattle.data_tags.specs.declared.delay.Kind.TheVariants.{Load}
+use Rattle.data_tags.specs.declared.delay.Lag.{Lag}
 use Rattle.data_tags.specs.declared.latencies.Latencies.{Latencies}
+use Rattle.data_tags.specs.Latency.{lag_of}
 use Rattle.data_tags.specs.declared.tags.Tag.{Tag}
 
 -- latencies that stay, and 64 lines that each have the tag of the last load there
@@ -34,3 +36,17 @@ is_miss lines context _ address = false
 abbrev pub after_access : List (Option Tag) → ℕ → Kind → ℕ → List (Option Tag)
 after_access lines context Load address = slice_set lines (line_of address) (Some (tag_of context address))
 after_access lines context _ address = lines
+
+-- ---- the table as a whole
+
+-- as it is made: no line has a tag
+abbrev pub new_table : Latencies → Table
+new_table latencies = record { latencies = latencies; lines = replicate 64 None }
+
+-- the lag of an access
+abbrev pub lag_in : Table → ℕ → Kind → ℕ → Lag
+lag_in t context kind address = lag_of t.latencies kind (is_miss t.lines context kind address)
+
+-- the table after an access
+abbrev pub after_access_in : Table → ℕ → Kind → ℕ → Table
+after_access_in t context kind address = record t { lines = after_access t.lines context kind address }

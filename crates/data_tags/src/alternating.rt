@@ -14,11 +14,20 @@ pub struct Alternating {
 }
 
 impl Delay for Alternating {
-    ghost use Rattle.data_tags.specs.Alternate.{is_alternating_lag, alternating_within};
+    ghost use Rattle.std.specs.Prelude.{not, refl};
+    ghost use Rattle.data_tags.specs.Alternate.{alternating_lag, is_alternating_lag, alternating_within};
 
     ghost greatest_lag = { λ _. 200 };
 
     ghost may_answer = { λ s context kind address lag. is_alternating_lag kind lag };
+
+    ghost answer = { λ s context kind address. alternating_lag s.long kind };
+
+    ghost after_delay = { λ s context kind address. record s { long = not s.long } };
+
+    ghost delay_keeps = { λ s context kind address. refl };
+
+    ghost greatest_keeps = { λ s context kind address. refl };
 
     ghost all_within = { λ s context kind address lag stated. alternating_within kind lag stated };
 

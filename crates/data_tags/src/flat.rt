@@ -22,13 +22,21 @@ impl Flat {
 }
 
 impl Delay for Flat {
-    ghost use Rattle.std.specs.Prelude.{false};
+    ghost use Rattle.std.specs.Prelude.{false, refl};
     ghost use Rattle.data_tags.specs.Latency.{greatest_latency, lag_of, is_same_lag};
     ghost use Rattle.data_tags.specs.LatencyLaws.{same_lag_within};
 
     ghost greatest_lag = { λ s. greatest_latency s.latencies };
 
     ghost may_answer = { λ s context kind address lag. is_same_lag lag (lag_of s.latencies kind false) };
+
+    ghost answer = { λ s context kind address. lag_of s.latencies kind false };
+
+    ghost after_delay = { λ s context kind address. s };
+
+    ghost delay_keeps = { λ s context kind address. refl };
+
+    ghost greatest_keeps = { λ s context kind address. refl };
 
     ghost all_within = { λ s context kind address lag stated. same_lag_within s.latencies kind false lag stated };
 

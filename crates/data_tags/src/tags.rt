@@ -1,8 +1,8 @@
 //! Data tags, by which loads hit or miss.
 
-ghost use Rattle.std.specs.Prelude.{◌≡◌, ◌%◌, not, IsTrue, IfOk, None, replicate};
-ghost use Rattle.data_tags.specs.Latency.{IsWithin, greatest_latency, lag_of, is_lag_of};
-ghost use Rattle.data_tags.specs.Table.{block_of, has_tag};
+ghost use Rattle.std.specs.Prelude.{◌≡◌, ◌%◌, not, IsTrue, IfOk};
+ghost use Rattle.data_tags.specs.Latency.{IsWithin, greatest_latency, is_lag_of};
+ghost use Rattle.data_tags.specs.Table.{block_of, has_tag, lag_in, after_access_in};
 
 use crate::{Delay, Kind, Lag, Latencies};
 use join_law::Ctx;
@@ -43,7 +43,7 @@ impl<A: Allocator> Model for Tags<A> {
 }
 
 impl<A: Allocator> Tags<A> {
-    ghost use Rattle.data_tags.specs.Table.{is_miss, after_access};
+    ghost use Rattle.data_tags.specs.Table.{is_miss, after_access, new_table};
 
     /// A table with no tags.
     ///
@@ -51,7 +51,7 @@ impl<A: Allocator> Tags<A> {
     ///
     /// Where the room for the lines is refused. No other call takes memory.
     pub fn new(alloc: A, latencies: Latencies) -> Result<Self, AllocError>
-        ensures { IfOk result (λ tags. tags ≡ record { latencies = latencies; lines = replicate 64 None }) }
+        ensures { IfOk result (λ tags. tags ≡ new_table latencies) }
     {
         let mut lines = Vec::new(alloc);
         lines.resize(LINES as usize, None)?;
@@ -99,13 +99,22 @@ fn lacks(line: Option<Tag>, context: Ctx, block: u64) -> bool
 }
 
 impl<A: Allocator> Delay for Tags<A> {
+    ghost use Rattle.std.specs.Prelude.{refl};
     ghost use Rattle.data_tags.specs.Latency.{greatest_latency, is_lag_of};
     ghost use Rattle.data_tags.specs.LatencyLaws.{same_lag_within};
-    ghost use Rattle.data_tags.specs.Table.{is_miss, after_access};
+    ghost use Rattle.data_tags.specs.Table.{lag_in, after_access_in};
 
     ghost greatest_lag = { λ s. greatest_latency s.latencies };
 
     ghost may_answer = { λ s context kind address lag. is_lag_of s.latencies kind lag };
+
+    ghost answer = { lag_in };
+
+    ghost after_delay = { after_access_in };
+
+    ghost delay_keeps = { λ s context kind address. refl };
+
+    ghost greatest_keeps = { λ s context kind address. refl };
 
     ghost all_within = { λ s context kind address lag stated. same_lag_within s.latencies kind lag.miss lag stated };
 
@@ -117,8 +126,8 @@ impl<A: Allocator> Delay for Tags<A> {
     fn delay(&mut self, context: Ctx, kind: Kind, address: u64) -> Lag
         ensures answer { IsTrue (is_lag_of self.old.latencies kind result) }
         ensures within { IsWithin (greatest_latency self.old.latencies) result }
-        ensures value { result ≡ lag_of self.old.latencies kind (is_miss self.old.lines context kind address) }
-        ensures state { self.new ≡ record self.old { lines = after_access self.old.lines context kind address } }
+        ensures value { result ≡ lag_in self.old context kind address }
+        ensures state { self.new ≡ after_access_in self.old context kind address }
     {
         let misses = kind == Kind::Load && self.load(context, address);
         self.latencies.lag(kind, misses)

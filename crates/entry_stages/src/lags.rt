@@ -3,7 +3,8 @@
 ghost use Rattle.std.specs.Prelude.{◌≡◌, ◌<◌, ◌^◌};
 ghost use Rattle.hart_step.specs.Next.{stop_of};
 ghost use Rattle.core_view.specs.declared.outcome.Outcome.TheVariants.{Stops};
-ghost use Rattle.lawful_cycle.specs.Delays.{address_of as address_of_effect, kind_of as kind_of_operation, one_cycle, IsLagOf};
+ghost use Rattle.lawful_cycle.specs.Delays.{address_of as address_of_effect, kind_of as kind_of_operation, one_cycle};
+ghost use Rattle.lawful_cycle.specs.Queries.{IsLagBy};
 ghost use Rattle.entry_stages.specs.Due.{due_after as due_after_lag};
 
 use core_view::{Decoded, Execution, OperationKind, Outcome};
@@ -51,9 +52,7 @@ pub fn lag_of<D: Delay>(
     address: u64,
     outcome: &Outcome,
 ) -> Lag
-    ensures lag { IsLagOf (D.may_answer delay.old context) kind address outcome.now result }
-    ensures keeps { D.may_answer delay.new ≡ D.may_answer delay.old }
-    ensures keeps_greatest { D.greatest_lag delay.new ≡ D.greatest_lag delay.old }
+    ensures { IsLagBy (D.may_answer delay.old) D.answer D.after_delay delay.old delay.new context kind address outcome.now result }
 {
     let stops = matches!(outcome, Outcome::Stops { .. });
     if stops && matches!(kind, Kind::Load | Kind::Store) {

@@ -1,9 +1,10 @@
 //! Where fetch goes on after an entry, and what the guess learns of one.
 
-ghost use Rattle.std.specs.Prelude.{◌≡◌};
+ghost use Rattle.std.specs.Prelude.{◌≡◌, ◌-◌, ◌%◌};
 ghost use Rattle.core_view.specs.declared.operation.Operation.TheVariants.{Performs};
 ghost use Rattle.core_view.specs.Operations.{is_guessed};
 ghost use Rattle.lawful_cycle.specs.Fetch.{IsFollowedBy, IsStated};
+ghost use Rattle.lawful_cycle.specs.Queries.{followed_by, when_shown};
 
 use branch_predict::Guess;
 use core_view::{Decoded, Entry, Operation};
@@ -25,7 +26,8 @@ pub struct Onward {
 #[inline(always)]
 pub fn followed<G: Guess>(guess: &mut G, context: Ctx, pc: u64, operation: &Decoded) -> u64
     ensures follows { IsFollowedBy (G.may_answer guess.old context pc) operation.now pc result }
-    ensures keeps { G.may_answer guess.new ≡ G.may_answer guess.old }
+    ensures value { result ≡ followed_by (G.answer guess.old context pc) operation.now pc }
+    ensures state { guess.new ≡ when_shown operation.now (G.after_guess guess.old context pc) guess.old }
 {
     if let Operation::Performs { insn } = operation.operation() {
         if operation.is_guessed() {
@@ -45,17 +47,19 @@ pub fn followed<G: Guess>(guess: &mut G, context: Ctx, pc: u64, operation: &Deco
 #[inline(always)]
 fn guessed<G: Guess>(guess: &mut G, context: Ctx, pc: u64, insn: &Insn) -> u64
     ensures stated { IsStated (G.may_answer guess.old context pc) (Performs insn.now) result }
-    ensures keeps { G.may_answer guess.new ≡ G.may_answer guess.old }
+    ensures value { result ≡ G.answer guess.old context pc insn.now - G.answer guess.old context pc insn.now % 4 }
+    ensures state { guess.new ≡ G.after_guess guess.old context pc insn.now }
 {
     let answer = guess.guess(context, pc, insn);
     answer - answer % 4
 }
 
-/// The same, out of line.
+/// What is guessed of an instruction, out of line.
 #[inline(never)]
 fn guessed_apart<G: Guess>(guess: &mut G, context: Ctx, pc: u64, insn: &Insn) -> u64
     ensures stated { IsStated (G.may_answer guess.old context pc) (Performs insn.now) result }
-    ensures keeps { G.may_answer guess.new ≡ G.may_answer guess.old }
+    ensures value { result ≡ G.answer guess.old context pc insn.now - G.answer guess.old context pc insn.now % 4 }
+    ensures state { guess.new ≡ G.after_guess guess.old context pc insn.now }
 {
     guessed(guess, context, pc, insn)
 }
@@ -64,7 +68,7 @@ fn guessed_apart<G: Guess>(guess: &mut G, context: Ctx, pc: u64, insn: &Insn) ->
 #[inline(always)]
 pub fn learn<G: Guess>(guess: &mut G, context: Ctx, entry: &Entry, next: u64, guessed: bool)
     requires { guessed ≡ is_guessed entry.now.operation }
-    ensures { G.may_answer guess.new ≡ G.may_answer guess.old }
+    ensures { guess.new ≡ when_shown entry.now.operation (λ insn. G.after_learn guess.old context entry.now.pc insn next) guess.old }
 {
     let operation = entry.operation.operation();
     if guessed {

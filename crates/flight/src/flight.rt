@@ -199,7 +199,7 @@ impl<A: Allocator> Flight<A> {
         self.hints[cycle] = set_slot(self.hints[cycle], slot_of(self.base, place));
     }
 
-    /// The same of one that is no load.
+    /// The entry at a place, which waits for issue and is no load, issues.
     #[inline(always)]
     pub fn issue_other(&mut self, place: usize, execution: Execution)
         requires place { place < length self.old.entries }
@@ -223,7 +223,7 @@ impl<A: Allocator> Flight<A> {
         self.finish_where(place, false);
     }
 
-    /// The same, where it may be known that fetch went on after it where it goes, or that it stops.
+    /// The entry at a place completes; a flag may say that fetch went on after it where it goes, or that it stops.
     #[inline(always)]
     fn finish_where(&mut self, place: usize, followed: bool)
         requires place { place < length self.old.entries }
@@ -648,7 +648,7 @@ fn complete_in<A: Allocator>(ring: &mut Ring<Entry, A>, place: usize) -> u64
     entry.stage.due()
 }
 
-/// The same where fetch went on after it where it goes, or it stops.
+/// The entry at a place is done, where fetch went on after it where it goes, or it stops.
 #[inline]
 fn settle_in<A: Allocator>(ring: &mut Ring<Entry, A>, place: usize) -> u64
     requires place { place < length ring.old.items }
@@ -662,7 +662,7 @@ fn settle_in<A: Allocator>(ring: &mut Ring<Entry, A>, place: usize) -> u64
     entry.stage.due()
 }
 
-/// The same, where it may be known that fetch went on after it where it goes, or that it stops.
+/// The entry at a place is done; a flag may say that fetch went on after it where it goes, or that it stops.
 #[inline(always)]
 fn done_in<A: Allocator>(ring: &mut Ring<Entry, A>, place: usize, followed: bool) -> u64
     requires place { place < length ring.old.items }

@@ -139,7 +139,7 @@ fn went_to(target: u64) -> Effect
     }
 }
 
-/// The same, with the address of the next instruction in line as the value.
+/// On at a target, which four has to divide, with the address of the next instruction in line as the value.
 #[inline(always)]
 pub(crate) fn linked_to(pc: u64, target: u64) -> Effect
     ensures { result ≡ linked_to_of pc target }

@@ -45,7 +45,7 @@ fn shifted_right(x: u64, by: u32) -> u64
     (x.cast_signed() >> by).cast_unsigned()
 }
 
-/// The same on 32 bits.
+/// A right shift of 32 bits into which the sign comes.
 #[inline(always)]
 fn shifted_right_word(x: u32, by: u32) -> u32
     requires { by < 32 }
@@ -82,7 +82,7 @@ pub fn shift_value(op: ShiftOp, a: u64, by: u32) -> u64
     }
 }
 
-/// The same on 32 bits.
+/// The result of a shift of 32 bits by an amount in the instruction.
 #[inline(always)]
 pub fn shift_word_value(op: ShiftOp, a: u32, by: u32) -> u32
     requires { by < 32 }
@@ -114,7 +114,7 @@ pub fn alu_value(op: AluOp, a: u64, b: u64) -> u64
     }
 }
 
-/// The same on 32 bits.
+/// The result on two sources of 32 bits.
 #[inline(always)]
 pub fn word_value(op: WordOp, a: u32, b: u32) -> u32
     ensures { result ≡ word_result op a b }

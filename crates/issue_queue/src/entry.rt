@@ -56,7 +56,7 @@ pub struct Reading {
 }
 
 impl Waiting {
-    /// The same entry with two registers. Where it has no source it reads one that it doesn't wait for.
+    /// The entry with two registers. Where it has no source it reads one that it doesn't wait for.
     pub(crate) fn reading(&self) -> Reading
         ensures entry { entered result ≡ entry_of self.now }
         ensures alike { AreAlike result }

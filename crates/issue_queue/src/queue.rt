@@ -174,7 +174,7 @@ impl Queue {
         names
     }
 
-    /// The same, with the names put into a list that is passed.
+    /// Removes the first ready entries, as `select`, and puts their names into a list that is passed.
     #[inline(always)]
     pub fn select_into<O: Order>(
         &mut self,

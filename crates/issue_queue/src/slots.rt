@@ -57,7 +57,7 @@ fn add_source(words: &mut [u64], source: &Source, place: usize)
     words[index] = word_mask::added(words[index], place, source.awaited);
 }
 
-/// The same in the word of each source of an entry.
+/// Sets the bit of a place in the word of each source of an entry that is waited for.
 #[inline(always)]
 fn add_sources(words: &mut [u64; 480], reading: &Reading, place: usize)
     requires { place < 64 }

@@ -7,3 +7,5 @@ pub mod StepBlocks
 pub mod Subcommands
 pub mod Unplanned
 pub mod WordLines
+pub mod PlanOutcomes
+pub mod DecidedReports

@@ -1,8 +1,15 @@
 //! The jobs of a plan, one after another.
-ghost use Rattle.std.specs.Prelude.{◌≡◌, List, [], ◌∷◌, ◌++◌, IfOk};
+ghost use Rattle.std.specs.Prelude.{◌≡◌, ℕ, ◌<◌, true, List, [], ◌∷◌, ◌++◌, IfOk};
 ghost use Rattle.checkpoint.specs.Aligned.{IsAligned};
 ghost use Rattle.lab_plan.specs.declared.job.Job.{Job};
+ghost use Rattle.lab_pool.specs.declared.result.JobResult.{JobResult};
+ghost use Rattle.join_law.specs.Eight.{place_of};
+ghost use Rattle.origin_set.specs.Start.{start};
+ghost use Rattle.lawful_cycle.specs.Plain.{ComesTo};
 ghost use Rattle.lab_pool.specs.Allowed.{AreJobResults};
+ghost use Rattle.lab_pool.specs.Decided.{AgreeFromOpening};
+ghost use Rattle.lab_pool.specs.Closed.{are_closed, AreReached, most_wanted, NoneRefused};
+ghost use Rattle.lab_pool.specs.Counts.{counts_in};
 ghost use Rattle.lab_pool.specs.Book.{book_after};
 
 use crate::copies::copy_of;
@@ -15,7 +22,8 @@ use lab_plan::{Job, Plan};
 use std::alloc::Global;
 
 /// Runs the jobs of a plan in order, from an opening of its origin. Each job's marks are merged into the book, and a job
-/// that starts at `furthest` starts at the book as the jobs before it left it.
+/// that starts at `furthest` starts at the book as the jobs before it left it. Where the plan is closed and no job ran
+/// out of memory, each context of the book is where its plan's outcome says.
 ///
 /// # Errors
 /// E1 where there is no memory for the book or for the list of jobs. A job that runs out of memory is reported as
@@ -29,11 +37,28 @@ pub fn run_in_order(
     requires origin { opening.c0.origin ≡ plan.now.origin }
     ensures jobs { IfOk result (λ done. AreJobResults opening [] plan.now.jobs done.jobs.items) }
     ensures book { IfOk result (λ done. done.marks ≡ book_after opening done.jobs.items) }
+    ensures decided { IfOk result (λ done. (others : List JobResult) → AreJobResults opening [] plan.now.jobs others → AgreeFromOpening plan.now.jobs done.jobs.items others) }
+    ensures outcome { are_closed (counts_in opening) plan.now.jobs ≡ true → IfOk result (λ done. NoneRefused done.jobs.items → (c : ℕ) → c < 8 → ComesTo (start opening.c0.origin c) (most_wanted c (place_of opening c).count plan.now.jobs) (place_of done.marks c).count) }
 {
     let planned = plan.jobs();
+    reached(&opening);
     let results = results_from(alloc, planned, &opening);
     drop(opening);
     results
+}
+
+/// That plain RV64I reaches the count of each of eight marks, as `Mark::state` ensures. It does nothing.
+fn reached(marks: &Eight<Mark>)
+    ensures { AreReached marks.now }
+{
+    let _c0 = marks.c0.state();
+    let _c1 = marks.c1.state();
+    let _c2 = marks.c2.state();
+    let _c3 = marks.c3.state();
+    let _c4 = marks.c4.state();
+    let _c5 = marks.c5.state();
+    let _c6 = marks.c6.state();
+    let _c7 = marks.c7.state();
 }
 
 /// Runs jobs in order, from an opening.

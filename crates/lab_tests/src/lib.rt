@@ -5,6 +5,8 @@
 #[cfg(test)]
 mod blocks;
 #[cfg(test)]
+mod bounds;
+#[cfg(test)]
 mod devices;
 #[cfg(test)]
 mod endings;

@@ -1,5 +1,6 @@
-//! The lines of refusals of texts, the same of both commands, and of plans.
+//! The lines of refusals of texts, the same of `step` and `asm`, and of plans, the same of `run` and `bound`.
 
+use crate::bounds::BOUND;
 use crate::devices::{assert_answer, repeated};
 use crate::listings::LISTED;
 use crate::reports::RUN;
@@ -85,9 +86,11 @@ fn refusals_of_plans(rt: HostRuntime) {
     let alloc = rt.alloc();
     for (plan, line) in OF_PLANS {
         assert_answer(&rt, &alloc, RUN, "plan", plan.as_bytes(), &[*line]);
+        assert_answer(&rt, &alloc, BOUND, "plan", plan.as_bytes(), &[*line]);
     }
     let no_text = "refused S1 a?plan";
     assert_answer(&rt, &alloc, RUN, "a\nplan", b"# \xff\n", &[no_text]);
+    assert_answer(&rt, &alloc, BOUND, "a\nplan", b"# \xff\n", &[no_text]);
 }
 
 #[test]
@@ -96,4 +99,5 @@ fn one_job_too_many(rt: HostRuntime) {
     let plan = repeated(&rt, alloc, "[[jobs]]\nlimit = 0\n", 4097);
     let bytes = plan.as_str().as_bytes();
     assert_answer(&rt, &alloc, RUN, "plan", bytes, &["refused J3"]);
+    assert_answer(&rt, &alloc, BOUND, "plan", bytes, &["refused J3"]);
 }

@@ -27,7 +27,7 @@ fn done_of(alloc: Global, text: &str) -> Result<(Vec<JobResult>, u64), Fail> {
     }
 }
 
-/// The same of a plan that was read.
+/// What is left of a plan that was read and is run from the start.
 fn done_of_plan(alloc: Global, plan: &Plan) -> Result<(Vec<JobResult>, u64), Fail> {
     let opening = starts(alloc, plan.origin())?;
     let LabResult { marks, jobs } = run_in_order(alloc, plan, opening)?;

@@ -15,6 +15,7 @@ const REQUESTS: &[(&[&str], Request<'_>)] = &[
         },
     ),
     (&["run", "mix.toml"], Request::Run { plan: "mix.toml" }),
+    (&["bound", "mix.toml"], Request::Bound { plan: "mix.toml" }),
     (
         &["run", "--workers", "1", "mix.toml"],
         Request::Run { plan: "mix.toml" },
@@ -35,8 +36,12 @@ fn words_that_make_a_request(rt: HostRuntime) {
     for (given, request) in REQUESTS {
         assert!(rt; words(alloc, *given).ok() == Some(*request));
     }
-    let files = [REQUESTS[0].1.file(), REQUESTS[2].1.file()];
-    assert_eq!(rt; files, ["-.s", "mix.toml"]);
+    let files = [
+        REQUESTS[0].1.file(),
+        REQUESTS[2].1.file(),
+        REQUESTS[3].1.file(),
+    ];
+    assert_eq!(rt; files, ["-.s", "mix.toml", "mix.toml"]);
 }
 
 /// Words that are wrong.
@@ -61,6 +66,9 @@ const WRONG: &[&[&str]] = &[
     &["run", "a", "--workers", "0"],
     &["run", "a", "--workers", "2"],
     &["run", "a", "--count", "7"],
+    &["bound"],
+    &["bound", "a", "b"],
+    &["bound", "a", "--workers", "1"],
 ];
 
 /// Words that ask for help or the version.
@@ -71,6 +79,7 @@ const HELPS: &[&[&str]] = &[
     &["step", "--help"],
     &["asm", "-h"],
     &["run", "--help"],
+    &["bound", "--help"],
     &["--version"],
     &["-V"],
 ];

@@ -236,7 +236,7 @@ impl LoadStoreQueue {
         self.forward(flight, place, span, number(memory, address, width))
     }
 
-    /// The same of a load of a span at which memory has a number.
+    /// What the load at a place gets of a span at which memory has a number.
     #[inline(always)]
     pub fn forward<A: Allocator>(
         &self,

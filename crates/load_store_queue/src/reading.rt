@@ -29,7 +29,7 @@ pub fn number<A: Allocator>(memory: &Memory<A>, address: u64, width: Width) -> u
     }
 }
 
-/// The same, byte by byte from the highest down.
+/// The number that memory's bytes spell at an address, byte by byte from the highest down.
 #[cold]
 fn number_by_bytes<A: Allocator>(memory: &Memory<A>, span: Span) -> u64
     requires { span.size ≤ 8 }

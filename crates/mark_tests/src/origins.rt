@@ -22,7 +22,7 @@ fn outer(first: Option<Program>, last: Option<Program>) -> Result<Origin, Origin
     )
 }
 
-/// The same origin, behind a pointer: what holds a whole origin has a cost in proof.
+/// That origin, behind a pointer: what holds a whole origin has a cost in proof.
 fn shared(
     rt: &impl Abort,
     alloc: Global,
@@ -243,7 +243,7 @@ fn loaded_at_ends(hart: &Hart) -> AtTheEnds {
     ]
 }
 
-/// The same of the start of an origin's context 7.
+/// What is loaded at these places from the start of an origin's context 7.
 fn loaded_of_last(rt: &impl Abort, alloc: Global, origin: &Arc<Origin>) -> AtTheEnds {
     let [.., last] = Ctx::all();
     let hart = origin.hart(alloc, last).expect(rt, "a hart");

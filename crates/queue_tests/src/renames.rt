@@ -14,7 +14,7 @@ fn read(registers: &Registers, context: Ctx, rs: u8) -> Option<u64>
     registers.value(register)
 }
 
-// The same, read where it is there.
+// The value that a source reads, where it is there.
 fn read_ready(registers: &Registers, context: Ctx, rs: u8) -> Option<u64>
     requires { rs < 32 }
 {

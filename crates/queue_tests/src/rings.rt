@@ -91,7 +91,7 @@ enum Step {
     Refuses(u64),
     /// The oldest entry retires, if there is one: its stamp, and whether it is done.
     Retires(Option<(u64, bool)>),
-    /// The same of the youngest, which is taken out.
+    /// The youngest entry is taken out, if there is one: its stamp, and whether it is done.
     PopsLast(Option<(u64, bool)>),
     /// The entries from a stamp on are squashed.
     CutsFrom(u64),

@@ -154,7 +154,7 @@ impl<E: Stamped, A: Allocator> Ring<E, A> {
         self.buffer.truncate_back(keep);
     }
 
-    /// The same, where the entry at a place is kept. No older one is looked at.
+    /// Drops each entry whose stamp is at least this one, past a place that is kept. No older one is looked at.
     pub fn cut_past(&mut self, place: usize, stamp: u64)
         requires place { place < length self.old.items }
         requires kept { ForSome (slice_get self.old.items place) (λ e. E.stamp_of e < stamp) }
@@ -182,7 +182,7 @@ impl<E: Stamped, A: Allocator> Ring<E, A> {
         keep
     }
 
-    // The same, counted from a place on whose entry has a stamp below this one.
+    // How many entries have a stamp below this one, counted from a place on whose entry has one.
     fn count_past(&self, place: usize, stamp: u64) -> usize
         requires place { place < length self.now.items }
         requires kept { ForSome (slice_get self.now.items place) (λ e. E.stamp_of e < stamp) }

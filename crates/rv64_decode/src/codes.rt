@@ -202,7 +202,7 @@ pub(crate) fn alu_op(funct3: u32, funct7: u32) -> Option<AluOp>
     }
 }
 
-/// The same of one on words.
+/// The funct3 and funct7 of a register-register operation on words.
 pub(crate) fn word_bits(op: WordOp) -> (u32, u32)
     ensures code { result.0 ≡ word_code op }
     ensures top { result.1 ≡ word_top op }

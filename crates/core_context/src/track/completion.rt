@@ -59,7 +59,7 @@ impl<A: Allocator> Track<A> {
         Some(next.stamp)
     }
 
-    /// The same of a store.
+    /// The store at a place, which is issued, completes. Returns the stamp of the oldest entry that it doesn't keep.
     #[inline(always)]
     fn finish_store(&mut self, place: usize) -> Option<u64>
         requires place { place < length self.old.context.flight }

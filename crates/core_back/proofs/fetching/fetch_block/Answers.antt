@@ -1,13 +1,16 @@
-use Rattle.std.proofs.Common.{◌≡◌, ℕ, ◌+◌, ◌-◌, Bool, [], length, refl, sym, subst, ◌∙◌, arith}
+use Rattle.std.proofs.Common.{◌≡◌, ℕ, ◌+◌, ◌-◌, Bool, [], length, sym, subst, ◌∙◌, arith}
 use Rattle.rv64_decode.specs.declared.insn.Insn.{Insn}
 use Rattle.core_view.specs.View.{entry_at}
 use Rattle.lawful_cycle.specs.Fetch.{ends_block}
 use Rattle.core_context.specs.Cores.{IsCore}
 use Rattle.core_context.specs.NextEntry.{IsFetchedBy}
 use Rattle.core_back.proofs.Blocks.{block_open}
-use Rattle.core_back.proofs.BlockTurns.{HasFetched, fetched_none, fetched_next, ends_so, next_pc, block_by}
+use Rattle.core_back.proofs.BlockTurns.{HasFetched, queried_next, queried_none, fetched_none, fetched_next, ends_so, next_pc, block_by}
 use Rattle.core_back.proofs.fetching.fetch_block.Given.{Over}
 use Rattle.core_back.proofs.fetching.fetch_block.Goals as goal
+use Rattle.std.specs.Prelude.{drop}
+use Rattle.lawful_cycle.specs.Steps.{GoesBy, IsFollowedAt}
+use Rattle.lawful_cycle.proofs.Laws.{block_keeps}
 use Rattle.core_back.proofs.fetching.fetch_block.Goals.{After-fetch_listed-onward}
 
 pub loop-number-init : goal.loop-number-init
@@ -17,7 +20,7 @@ loop-number-init g c = record {
   goes = λ some. absurd (omega (arith, some));
   pc = c.fetch_pc-pc.ensures;
   long = omega arith;
-  keeps = refl;
+  queried = queried_none g.G.Guess.answer g.G.Guess.after_guess c.args.context c.args.track.now.context.flight c.args.guess.now;
 }
 
 pub fetch_listed-onward-requires-clause-before : goal.fetch_listed-onward-requires-clause-before
@@ -46,7 +49,8 @@ may g c = g.G.Guess.may_answer c.args.guess.now c.args.context
 one : (g : Over) (c : After-fetch_listed-onward g) → IsFetchedBy (may g c) c.stamp_past-next.result c.args.cycle c.loop-number.track c.fetch_listed-onward.new.track c.fetch_listed-onward.result.pc c.fetch_listed-onward.result.ends
 one g c =
     subst (λ says. IsFetchedBy (says c.args.context) c.stamp_past-next.result c.args.cycle c.loop-number.track c.fetch_listed-onward.new.track c.fetch_listed-onward.result.pc c.fetch_listed-onward.result.ends)
-    c.loop-number.invariant.keeps c.fetch_listed-onward.ensures.fetched
+    (block_keeps g.G.Guess.may_answer g.G.Guess.answer g.G.Guess.after_guess g.met.G.Guess.guess_keeps c.args.context (drop (length c.args.track.now.context.flight) c.loop-number.track.context.flight) c.args.guess.now c.loop-number.guess c.loop-number.invariant.queried)
+    c.fetch_listed-onward.ensures.fetched
 
 fetched : (g : Over) (c : After-fetch_listed-onward g)
     → HasFetched (may g c) c.args.cycle c.args.stamp c.args.context (c.loop-number.number + 1) c.args.track.now c.fetch_listed-onward.new.track (g.L.Listing.items c.args.fetched.now) (g.L.Listing.items c.fetch_listed-onward.new.fetched)
@@ -54,6 +58,13 @@ fetched g c =
     let i = c.loop-number.invariant in
     fetched_next (may g c) c.args.cycle c.args.stamp c.args.context c.loop-number.number c.args.track.now c.loop-number.track c.fetch_listed-onward.new.track (g.L.Listing.items c.args.fetched.now) (g.L.Listing.items c.loop-number.fetched) (g.L.Listing.items c.fetch_listed-onward.new.fetched)
     i.fetched i.goes c.stamp_past-next.result c.fetch_listed-onward.result.pc c.fetch_listed-onward.result.ends c.stamp_past-next.ensures (one g c) c.fetch_listed-onward.ensures.kept c.fetch_listed-onward.ensures.listed
+
+queried : (g : Over) (c : After-fetch_listed-onward g) → GoesBy (IsFollowedAt g.G.Guess.answer g.G.Guess.after_guess c.args.context) (drop (length c.args.track.now.context.flight) c.fetch_listed-onward.new.track.context.flight) c.args.guess.now c.fetch_listed-onward.new.guess
+queried g c =
+    let i = c.loop-number.invariant in
+    let count = i.fetched.block.count in
+    queried_next g.G.Guess.answer g.G.Guess.after_guess c.args.context (may g c) c.stamp_past-next.result c.args.cycle (length c.args.track.now.context.flight) c.loop-number.pc c.fetch_listed-onward.result.pc c.fetch_listed-onward.result.ends c.loop-number.track c.fetch_listed-onward.new.track
+    c.args.guess.now c.loop-number.guess c.fetch_listed-onward.new.guess (one g c) i.pc (omega (arith, count)) c.fetch_listed-onward.ensures.value c.fetch_listed-onward.ensures.state i.queried
 
 ends : (g : Over) (c : After-fetch_listed-onward g) → ends_block (entry_at c.fetch_listed-onward.new.track.context (length c.fetch_listed-onward.new.track.context.flight - 1)) ≡ c.fetch_listed-onward.result.ends
 ends g c =
@@ -87,9 +98,15 @@ loop-number-preserved g c =
       pc = next_pc (may g at) c.args.cycle c.args.stamp c.args.context c.loop-number.number c.args.track.now c.loop-number.track c.fetch_listed-onward.new.track (g.L.Listing.items c.args.fetched.now) (g.L.Listing.items c.loop-number.fetched) (g.L.Listing.items c.fetch_listed-onward.new.fetched)
           i.fetched i.goes c.stamp_past-next.result c.fetch_listed-onward.result.pc c.fetch_listed-onward.result.ends c.stamp_past-next.ensures (one g at);
       long = omega (arith, i.long, c.fetch_listed-onward.ensures.long);
-      keeps = c.fetch_listed-onward.ensures.keeps ∙ i.keeps;
+      queried = queried g at;
     }
 
 pub returns-clause-block : goal.returns-clause-block
 returns-clause-block g c =
     block_by (g.G.Guess.may_answer c.args.guess.now c.args.context) c.args.cycle c.args.stamp c.args.context c.loop-number.number c.args.track.now c.loop-number.track (g.L.Listing.items c.args.fetched.now) (g.L.Listing.items c.loop-number.fetched) c.loop-number.invariant.fetched
+
+pub returns-then-onward-clause-queried : goal.returns-then-onward-clause-queried
+returns-then-onward-clause-queried g c = queried g (goal.at.returns-then-onward-clause-queried g c).After-fetch_listed-onward
+
+pub returns-clause-queried : goal.returns-clause-queried
+returns-clause-queried g c = c.loop-number.invariant.queried

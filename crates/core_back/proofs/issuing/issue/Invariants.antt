@@ -1,6 +1,7 @@
 use Rattle.std.proofs.Common.{◌≡◌, ◌+◌, ◌≤◌, length}
 use Rattle.core_back.specs.Issuing.{IsIssuingAsked}
 use Rattle.core_back.specs.Machine.{IsAlike, in_flight}
+use Rattle.lawful_cycle.specs.Steps.{GoesBy, IsTimedAt}
 use Rattle.core_back.proofs.issuing.issue.Given as goal
 
 abbrev pub invariant-loop-machine : goal.invariant-loop-machine
@@ -11,8 +12,7 @@ invariant-loop-machine g l = record {
   width : l.width ≤ 8;
   flights : in_flight l.machine ≡ in_flight l.fn.machine;
   room : length (g.L.Listing.items l.issued) + length l.machine.names ≤ l.width;
-  keeps : g.D.Delay.may_answer l.delay ≡ g.D.Delay.may_answer l.fn.delay;
-  greatest : g.D.Delay.greatest_lag l.delay ≡ g.D.Delay.greatest_lag l.fn.delay;
+  timed : GoesBy (IsTimedAt g.D.Delay.answer g.D.Delay.after_delay l.fn.machine.view) (g.L.Listing.items l.issued) l.fn.delay l.delay;
 }
 
 abbrev pub decreases-loop-machine : goal.decreases-loop-machine

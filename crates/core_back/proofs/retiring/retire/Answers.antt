@@ -1,4 +1,6 @@
-use Rattle.std.proofs.Common.{◌≡◌, ◌≢◌, ℕ, ◌+◌, ◌<◌, ◌≤◌, Bool, false, not, ap, sym, ◌∙◌, refl, length, arith}
+use Rattle.std.proofs.Common.{◌≡◌, ◌≢◌, ℕ, ◌+◌, ◌<◌, ◌≤◌, Bool, false, not, List, ◌++◌, ap, sym, subst, ◌∙◌, refl, length, arith}
+use Rattle.core_view.specs.declared.note.EntryId.{EntryId}
+use Rattle.core_back.specs.Machine.{context_at}
 use mir.Val.{bool_byte}
 use Rattle.std.specs.Int.{bit_at}
 use Rattle.fetch_policy.specs.Lawful.{turn as turn_of}
@@ -7,6 +9,8 @@ use Rattle.core_back.proofs.RetireTurns.{turned_none, retire_lawful}
 use Rattle.core_back.proofs.RetireSteps.{arrives, goes_to, turn_bound, turn_smaller}
 use Rattle.core_back.proofs.LeftTurns.{AreLeft, left_within, left_over, left_small, left_done, left_from, left_between, left_next}
 use Rattle.core_back.proofs.AlikeMachines.{alike_none, alike_chain}
+use Rattle.lawful_cycle.specs.Steps.{GoesBy, IsLearnedAt, OfNamed}
+use Rattle.core_back.proofs.LearnedRuns.{part_same, learned_none, learned_on}
 use Rattle.core_back.proofs.retiring.retire.Goals as goal
 
 pub loop-waiting-init : goal.loop-waiting-init
@@ -37,7 +41,7 @@ loop-waiting-init g c =
       dropped = omega (arith, ap length c.requires.fresh);
       width = omega (arith, most);
       bound = omega (arith, most);
-      keeps = refl;
+      trained = learned_none g.G.Guess.after_learn m m (g.L.Listing.items c.args.retired.now) c.args.guess.now (λ d. part_same (context_at m d) (context_at m d) refl);
     }
 
 pub context_in_turn-context-requires : goal.context_in_turn-context-requires
@@ -92,7 +96,8 @@ loop-waiting-preserved g c =
       width = omega (arith, h.width, c.retire_oldest-after.ensures.fewer);
       bound = turn_bound on c.loop-waiting.dropped c.retire_oldest-after.result.dropped c.loop-waiting.left c.retire_oldest-after.result.left t (bool_byte (not on)) u h.bound c.retire_oldest-after.ensures.step.bound
           c.retire_oldest-after.ensures.fewer c.retire_oldest-after.ensures.one_fewer refl from;
-      keeps = c.retire_oldest-after.ensures.keeps ∙ h.keeps;
+      trained = learned_on g.G.Guess.after_learn m c.loop-waiting.machine c.retire_oldest-after.new.machine (g.L.Listing.items c.args.retired.now) (g.L.Listing.items c.loop-waiting.retired) (g.L.Listing.items c.retire_oldest-after.new.retired)
+          c.args.guess.now c.loop-waiting.guess c.retire_oldest-after.new.guess h.trained c.retire_oldest-after.ensures.trained;
     }
 
 pub loop-waiting-smaller : goal.loop-waiting-smaller
@@ -116,9 +121,6 @@ returns-clause-alike g c = c.loop-waiting.invariant.alike
 pub returns-clause-idle : goal.returns-clause-idle
 returns-clause-idle g c = c.loop-waiting.invariant.idle
 
-pub returns-clause-keeps : goal.returns-clause-keeps
-returns-clause-keeps g c = c.loop-waiting.invariant.keeps
-
 pub returns-clause-dropped : goal.returns-clause-dropped
 returns-clause-dropped g c = c.loop-waiting.invariant.dropped
 
@@ -129,3 +131,8 @@ pub returns-clause-lawful : goal.returns-clause-lawful
 returns-clause-lawful g c =
     retire_lawful c.loop-waiting.left c.args.machine.now c.loop-waiting.machine (g.L.Listing.items c.loop-waiting.retired) c.loop-waiting.invariant.live c.cycle-live.ensures.live
     (c.loop-waiting.invariant.turns.over (let over : 64 ≤ c.loop-waiting.turn = left_over c.args.machine.now c.loop-waiting.waiting c.loop-waiting.turn c.loop-waiting.invariant.waiting c.loop-waiting-test.false in omega (arith, over)))
+
+pub returns-clause-learns : goal.returns-clause-learns
+returns-clause-learns g c =
+    let h = c.loop-waiting.invariant.trained in
+    subst (λ (ids : List EntryId). GoesBy (OfNamed (IsLearnedAt g.G.Guess.after_learn) c.args.machine.now.view) ids c.args.guess.now c.loop-waiting.guess) (sym (h.listed ∙ ap (λ (ids : List EntryId). ids ++ h.more) c.requires.fresh)) h.learns

@@ -3,6 +3,7 @@ use Rattle.core_back.specs.Machine.{IsAlike, in_flight}
 use Rattle.core_back.proofs.RetireTurns.{AllLive}
 use Rattle.core_back.proofs.RetireSteps.{AtTurn}
 use Rattle.core_back.proofs.LeftTurns.{AreLeft}
+use Rattle.core_back.specs.Learned.{HasLearned}
 use Rattle.core_back.proofs.retiring.retire.Given as goal
 
 abbrev pub invariant-loop-waiting : goal.invariant-loop-waiting
@@ -18,7 +19,7 @@ invariant-loop-waiting g l = record {
   dropped : l.dropped + length (g.L.Listing.items l.retired) + in_flight l.machine ≡ in_flight l.fn.machine;
   width : l.left ≤ 16;
   bound : l.dropped + l.left * 80 ≤ 1280 + l.turn * 80;
-  keeps : g.G.Guess.may_answer l.guess ≡ g.G.Guess.may_answer l.fn.guess;
+  trained : HasLearned g.G.Guess.after_learn l.fn.machine l.machine (g.L.Listing.items l.fn.retired) (g.L.Listing.items l.retired) l.fn.guess l.guess;
 }
 
 abbrev pub decreases-loop-waiting : goal.decreases-loop-waiting

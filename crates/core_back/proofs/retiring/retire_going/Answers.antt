@@ -10,6 +10,7 @@ use Rattle.core_back.proofs.RetireSteps.{turn_retires, turn_goes_on}
 use Rattle.core_back.proofs.AlikeMachines.{alike_with}
 use Rattle.core_back.proofs.retiring.retire_going.Given.{Over}
 use Rattle.core_back.proofs.retiring.retire_going.Goals as goal
+use Rattle.core_back.proofs.LearnedRuns.{learned_one}
 use Rattle.core_back.proofs.retiring.retire_going.Goals.{then-next, else-next}
 
 abbrev id_at : ℕ → ℕ → EntryId
@@ -43,3 +44,8 @@ returns-clause-step g c =
 
 pub returns-clause-left : goal.returns-clause-left
 returns-clause-left g c = omega (arith, c.requires.some)
+
+pub returns-clause-trained : goal.returns-clause-trained
+returns-clause-trained g c =
+    learned_one g.G.Guess.after_learn c.args.machine.now c.retire-gone.new.self c.args.context c.retire-gone.result.stamp (g.L.Listing.items c.args.retired.now) (g.L.Listing.items c.push.new.self) c.args.guess.now c.retire-gone.new.guess
+    c.requires.going c.retire-gone.ensures.retired c.retire-gone.ensures.stamp c.retire-gone.ensures.state c.push.ensures.items

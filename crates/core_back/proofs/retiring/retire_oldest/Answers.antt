@@ -3,6 +3,8 @@ use Rattle.core_view.specs.Events.{stop_event}
 use Rattle.core_back.specs.Machine.{Machine, context_at}
 use Rattle.core_back.proofs.RetireSteps.{turn_stops, turn_used_up}
 use Rattle.core_back.proofs.AlikeMachines.{alike_with}
+use Rattle.core_back.proofs.LearnedRuns.{learned_none, part_with, part_ended}
+use Rattle.core_back.specs.Turn.{ended}
 use Rattle.core_back.proofs.retiring.retire_oldest.Goals as goal
 
 -- ---- nothing is left of the width
@@ -35,3 +37,15 @@ returns-in-Some-clause-step g c = record {
   counted = omega (arith, c.stop-stopped.ensures.dropped);
   bound = omega (arith, c.stop-stopped.ensures.bound);
 }
+
+-- ---- what the guess learns
+
+pub returns-then-left-eq0-clause-trained : goal.returns-then-left-eq0-clause-trained
+returns-then-left-eq0-clause-trained g c =
+    learned_none g.G.Guess.after_learn c.args.machine.now c.stop_done-stopped.new.machine (g.L.Listing.items c.args.retired.now) c.args.guess.now
+    (part_with c.args.machine.now c.stop_done-stopped.new.machine c.args.context (ended (context_at c.args.machine.now c.args.context)) c.stop_done-stopped.ensures.stopped (part_ended (context_at c.args.machine.now c.args.context)))
+
+pub returns-in-Some-clause-trained : goal.returns-in-Some-clause-trained
+returns-in-Some-clause-trained g c =
+    learned_none g.G.Guess.after_learn c.args.machine.now c.stop-stopped.new.self (g.L.Listing.items c.args.retired.now) c.args.guess.now
+    (part_with c.args.machine.now c.stop-stopped.new.self c.args.context (stop_event (context_at c.args.machine.now c.args.context) c.in-Some.why) c.stop-stopped.ensures.stopped (λ i lt. absurd (omega (arith, lt))))

@@ -20,11 +20,11 @@ core_of-requires-clause-targets c = c.targets_of-targets.ensures.bound
 pub returns-clause-run : goal.returns-clause-run
 returns-clause-run c =
     subst (λ (r : JobRun). IsJobRun c.args.job.now c.args.start r) (sym c.told.ensures)
-    (job_ran c.args.job.now c.args.start c.args.start c.run_to-run.result.marks c.targets_of-targets.result c.counts_of-starts.result (counts_in c.run_to-run.result.marks) c.in_ok-core.core.pick c.in_ok-core.core.order c.in_ok-core.core.delay.latencies c.run_to-run.result.outcome c.run_to-run.result.figures (shown c.in_ok-core.core) c.run_to-run.ensures.last refl c.counts_of-starts.ensures c.targets_of-targets.ensures.targets c.in_ok-core.ensures.first c.in_ok-core.ensures.pick c.in_ok-core.ensures.order c.in_ok-core.ensures.delay c.run_to-run.ensures.run c.run_to-run.ensures.marks_at refl)
+    (job_ran c.args.job.now c.args.start c.args.start c.run_to-run.result.marks c.targets_of-targets.result c.counts_of-starts.result (counts_in c.run_to-run.result.marks) c.in_ok-core.core.pick c.in_ok-core.core.order c.in_ok-core.core.delay.latencies c.run_to-run.result.outcome c.run_to-run.result.figures c.in_ok-core.core.guess c.in_ok-core.core.delay (shown c.in_ok-core.core) c.run_to-run.ensures.run.last refl c.counts_of-starts.ensures c.targets_of-targets.ensures.targets c.in_ok-core.ensures.first c.in_ok-core.ensures.pick c.in_ok-core.ensures.order c.in_ok-core.ensures.delay c.run_to-run.ensures.run.run c.run_to-run.ensures.run.marks_at refl c.in_ok-core.ensures.tables c.in_ok-core.ensures.tags c.run_to-run.ensures.stepped)
 
 pub returns-clause-left : goal.returns-clause-left
 returns-clause-left c =
-    left_known c.args.start.c0.origin c.args.start c.run_to-run.result.marks c.args.job.now c.targets_of-targets.result (laws_of (pick.named_key c.in_ok-core.core.pick) (order.named_key c.in_ok-core.core.order) (λ x. stated) (λ x kind address. is_lag_of c.in_ok-core.core.delay.latencies kind)) c.args.job.now.limit c.run_to-run.result.outcome c.run_to-run.result.figures (shown c.in_ok-core.core) c.run_to-run.ensures.last c.requires c.in_ok-core.ensures.first c.run_to-run.ensures.run c.run_to-run.ensures.marks_at
+    left_known c.args.start.c0.origin c.args.start c.run_to-run.result.marks c.args.job.now c.targets_of-targets.result (laws_of (pick.named_key c.in_ok-core.core.pick) (order.named_key c.in_ok-core.core.order) (λ x. stated) (λ x kind address. is_lag_of c.in_ok-core.core.delay.latencies kind)) c.args.job.now.limit c.run_to-run.result.outcome c.run_to-run.result.figures (shown c.in_ok-core.core) c.run_to-run.ensures.run.last c.requires c.in_ok-core.ensures.first c.run_to-run.ensures.run.run c.run_to-run.ensures.run.marks_at
 
 pub returns-clause-counts : goal.returns-clause-counts
 returns-clause-counts c = ap (λ (r : JobRun). r.counts) c.told.ensures

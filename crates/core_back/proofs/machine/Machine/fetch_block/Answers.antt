@@ -7,7 +7,7 @@ use Rattle.lawful_cycle.specs.Fetch.{front_room, is_eligible}
 use Rattle.core_context.specs.Track.{Track}
 use Rattle.core_context.proofs.Laws.{fetched_count, fill_is}
 use Rattle.core_back.specs.Machine.{Machine}
-use Rattle.core_back.proofs.BlockTurns.{ids_length, pick_turn, takes_turn}
+use Rattle.core_back.proofs.BlockTurns.{queried_in_turn, ids_length, pick_turn, takes_turn}
 use Rattle.core_back.proofs.InFlight.{in_flight_turn}
 use Rattle.core_back.proofs.Machines.{At, at_context, fills_set, idle_core, machine_fetched, shown_fetched}
 use Rattle.core_back.proofs.machine.Machine.fetch_block.Given.{Over}
@@ -87,3 +87,13 @@ returns-clause-flights g c =
     let contexts = ap (λ (v : Machine). length v.view.contexts) c.self.view_is in
     in_flight_turn c.args.self.now _ c.args.context c.args.num2 (g.L.Listing.items c.args.fetched.now) (g.L.Listing.items c.fetch_block-number.new.fetched) (returns-clause-turn g c)
     (omega (arith, h.in_tracks, contexts, length-map c.self.inside.tracks.items (λ (t : Track). t.context)))
+
+pub returns-clause-queried : goal.returns-clause-queried
+returns-clause-queried g c =
+    let h = here g (goal.at.returns-clause-queried g c).After-index_mut-track in
+    let t = c.index_mut-track.result.now in
+    let contexts = ap (λ (v : Machine). length v.view.contexts) c.self.view_is in
+    queried_in_turn g.G.Guess.answer g.G.Guess.after_guess c.args.context c.args.self.now _ c.fetch_block-number.result (c.self.inside.fetch_room - c.fetch_block-number.result) t.context c.fetch_block-number.new.track.context c.args.guess.now c.fetch_block-number.new.guess
+    (shown_fetched c.self.inside c.args.self.now c.args.context c.index.result c.fetch_block-number.result c.fetch_block-number.new.track (c.self.inside.fetch_room - c.fetch_block-number.result) c.self.view_is c.index.ensures.value)
+    (omega (arith, h.in_tracks, contexts, length-map c.self.inside.tracks.items (λ (t : Track). t.context)))
+    h.context c.fetch_block-number.ensures.queried

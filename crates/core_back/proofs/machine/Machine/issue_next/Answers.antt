@@ -50,7 +50,7 @@ returns-clause-issued g c =
     let r = c.in_ok-lag.ensures.issued in
     let x : Execution = record { due = c.self.inside.cycle + c.in_ok-lag.lag.cycles; miss = c.in_ok-lag.lag.miss; outcome = performed_at c.index_mut-track.result.now.context r.place r.first r.second } in
     let rest : List EntryId = drop 1 c.self.inside.selected in
-    let performed = is_performed c.self.inside c.args.self.now c.first-name.result rest c.index_mut-track.result.now h r.place x r.first r.second (g.D.Delay.may_answer c.args.delay.now c.first-name.result.context)
+    let performed = is_performed c.self.inside c.args.self.now c.first-name.result rest c.index_mut-track.result.now h r.place x r.first r.second _
     _ _ c.in_ok-lag.lag.cycles r.within r.stamp r.sources r.clear refl refl refl r.stated in
     rw c.issue_of.ensures (is_issued c.self.inside c.args.self.now c.first-name.result c.index.result rest c.index_mut-track.result.now c.issue.new.track r.place x c.in_ok-lag.lag.cycles c.take_first-first.new.self
     c.self.view_is h c.index.ensures.value r.within r.stamp r.after refl c.take_first-first.ensures.rest performed)

@@ -8,6 +8,7 @@ use Rattle.core_back.proofs.InFlight.{in_flight_after}
 use Rattle.core_back.proofs.Machines.{At, at_context, fills_retired, is_idle, machine_after_event, shown_after}
 use Rattle.core_back.proofs.machine.Machine.retire.Given.{Over}
 use Rattle.core_back.proofs.machine.Machine.retire.Goals as goal
+use Rattle.lawful_cycle.specs.Queries.{when_shown}
 use Rattle.core_back.proofs.machine.Machine.retire.Goals.{After-index_mut-track}
 
 -- the track and the lane of the context
@@ -54,3 +55,8 @@ pub returns-clause-bound : goal.returns-clause-bound
 returns-clause-bound g c =
     let h = here g (goal.at.returns-clause-bound g c).After-index_mut-track in
     let most = c.self.inside.profile.reorder_buffer_in_range.1 in omega (arith, c.len-len.ensures.value, c.len-len.ensures.bound, c.retire-retired.ensures.dropped, h.core.capacity, most)
+
+pub returns-clause-state : goal.returns-clause-state
+returns-clause-state g c =
+    let h = here g (goal.at.returns-clause-state g c).After-index_mut-track in
+    subst (λ (x : Context). c.retire-retired.new.guess ≡ when_shown (entry_at x 0).operation (λ insn. g.G.Guess.after_learn c.args.guess.now c.args.context (entry_at x 0).pc insn (step_on (first_done x.flight)).next) c.args.guess.now) h.context c.retire-retired.ensures.state
