@@ -3,7 +3,7 @@
 
 usage: tools/speed.py PROGRAM [OTHER] [--growth] [--plan FILE ..] [--rounds R] [--cycles C] [--count N]
 
-PROGRAM is `smt-lab`, best as crates/smt_lab/out/smt_lab: `./smt-lab` looks for changed sources first. OTHER is another
+PROGRAM is `smt-lab`, best as out/smt_lab, which tools/build makes: `./smt-lab` looks for changed sources first. OTHER is another
 program with the same commands: it is timed in turn with PROGRAM, and has to print the same. Each workload runs R times
 (default 8) on each program, all workloads in turn. A run's time is that of the processor, user and system, for the whole
 process, its start and the reading of its file included; a time in the tables is the mean of the least quarter of R, since

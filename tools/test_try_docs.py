@@ -8,12 +8,14 @@ import tempfile
 import unittest
 from contextlib import redirect_stdout
 from typing import Tuple
+from unittest import mock
 
 sys.dont_write_bytecode = True
 sys.path.insert(0, os.path.dirname(os.path.abspath(__file__)))
 
 import try_docs  # noqa: E402 (found by the line above)
 
+LAB = "import sys\nprint((sys.stdin if sys.argv[1] == '-' else open(sys.argv[1])).read(), end='')\n"
 PROGRAM = "#!/bin/sh\nfor word; do echo \"$word\"; done\n"
 
 
@@ -25,6 +27,9 @@ def tried(document: str) -> Tuple[int, str]:
             file.write(PROGRAM)
         os.chmod(program, 0o755)
         os.mkdir(os.path.join(folder, "examples"))
+        os.mkdir(os.path.join(folder, "tools"))
+        with open(os.path.join(folder, "tools", "lab"), "w", encoding="utf-8") as file:
+            file.write(LAB)
         with open(os.path.join(folder, "examples", "one.s"), "w", encoding="utf-8") as file:
             file.write("echo word\n")
         with open(os.path.join(folder, "README.md"), "w", encoding="utf-8") as file:
@@ -92,7 +97,21 @@ class Documents(unittest.TestCase):
 
     def test_another_command_is_not_run(self) -> None:
         status, said = tried(block("$ touch file"))
-        self.assertEqual((status, said.splitlines()[0]), (1, "README.md:3: touch file: only ./smt-lab is tried"))
+        self.assertEqual((status, said.splitlines()[0]), (1, "README.md:3: touch file: only ./smt-lab and tools/lab are tried"))
+
+    def test_pipes_and_files(self) -> None:
+        lines = ("$ ./smt-lab a b > made.txt", "$ tools/lab made.txt", "a", "b", "$ ./smt-lab c d | tools/lab -", "c", "d")
+        self.assertEqual(tried(block(*lines))[1], "3 of 3 commands print what the documents show\n")
+        self.assertEqual(tried(block("$ ./smt-lab a | touch file", "a"))[0], 1)
+        self.assertEqual(tried(block("$ ./smt-lab a |", "a"))[0], 1)
+
+    def test_a_c_file_without_a_compiler(self) -> None:
+        document = block("$ ./smt-lab a", "a", "$ tools/lab one.c", "$ ./smt-lab b", "c")
+        with mock.patch("try_docs.COMPILER", ("no-such-compiler",)):
+            status, said = tried(document)
+        self.assertEqual(status, 0)
+        self.assertEqual(said, "README.md:5: not tried, nor what comes after it: it needs no-such-compiler on PATH\n"
+                               "1 of 1 commands print what the documents show\n")
 
     def test_no_command_at_all(self) -> None:
         self.assertEqual(tried("Text.\n\n    $ ./smt-lab one\n")[0], 1)

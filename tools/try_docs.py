@@ -6,7 +6,9 @@ usage: tools/try_docs.py PROGRAM [FOLDER]
 
 A command stands in a block that is fenced as `console`, on a line that begins with `$ `; what it prints stands below it,
 up to the next command or the block's end. A line `..` there stands for any number of lines. Commands run in the top folder,
-with PROGRAM in place of `./smt-lab`, and no other command is tried. What is quoted from a file of the folder stands in a
+with PROGRAM in place of `./smt-lab`; `tools/lab` is tried too, and no other command. Pipes join them, and what `> FILE`
+writes stands in a folder of its own, where the later commands of the document find it. A command with a C file needs clang,
+lld and make: where one is missing, a line says so, and the rest of the document's commands isn't tried. What is quoted from a file of the folder stands in a
 block that is fenced with a language and a path, as `rust PATH` or `toml PATH`, and has to stand in that file, line by line,
 with whatever indentation. A path between backticks has to be one of the folder, or the end of one, and a name between
 backticks has to stand somewhere in its crates, tools or examples. It prints a line for each command that differs and each
@@ -17,19 +19,24 @@ import glob
 import os
 import re
 import shlex
+import shutil
 import subprocess
 import sys
+import tempfile
 from typing import Iterator, List, NamedTuple, Set, Tuple
 
 TOP = os.path.dirname(os.path.dirname(os.path.abspath(__file__)))
 DOCUMENTS = ("README.md", "docs/*.md", "examples/**/*.md", "crates/*/README.md")
 SELF = "./smt-lab"
+LAB = "tools/lab"
+# What a command with a C file needs on PATH.
+COMPILER = ("make", "clang", "ld.lld")
 NAMING = ("crates", "tools", "examples", "docs")
 PATH = re.compile(r"[\w./-]+\.(?:rt|antt|md|py|edit|toml|report|txt|s|S|c|ld)|[\w.-]+(?:/[\w.-]+)+/?")
 NAME = re.compile(r"[A-Za-z_][\w'-]*(?:(?:::|\.)[A-Za-z_][\w'-]*)*")
 # Names that documents tell of and the folder doesn't have: of other programs and libraries, of the paper, and those of the
 # recipes in docs/architecture.md, which were tried on a copy.
-ELSEWHERE = {"clang", "lld", "gcc-riscv64-unknown-elf", "__muldi3", "__divdi3", "items-with_items", "alg.num1.num2", "_tests",
+ELSEWHERE = {"clang", "lld", "gcc-riscv64-unknown-elf", "__muldi3", "__divdi3", "items-with_items", "alg.num1.num2", "_tests", "out/smt_lab", "out/draft",
              "FIXED", "YOUNGEST_FIRST", "andn", "fetch_width", "crates/NAME/must-fail/", "proofs/../Answers.antt"}
 
 
@@ -148,16 +155,68 @@ def is_alike(wanted: List[str], printed: List[str]) -> bool:
     return any(is_alike(tail, printed[start:]) for start in range(gap, len(printed) + 1))
 
 
-def differs(it: Shown, program: str, folder: str) -> str:
-    """What is wrong with a command, or nothing."""
-    words = shlex.split(it.command, comments=True)
-    if not words or words[0] != SELF:
-        return f"only {SELF} is tried"
-    ran = subprocess.run([program] + words[1:], cwd=folder, capture_output=True, text=True, errors="replace", check=False)
-    printed = (ran.stdout + ran.stderr).splitlines()
-    if is_alike(it.lines, printed):
-        return ""
-    return "prints\n" + "\n".join(f"    {line}" for line in printed)
+class Room:
+    """A folder for the files that the commands of one document write."""
+
+    def __init__(self, program: str, folder: str, room: str) -> None:
+        self.program, self.folder, self.room = program, folder, room
+
+    def parts_of(self, command: str) -> List[List[str]]:
+        """The words of each part of a command that a pipe divides."""
+        words = shlex.split(command, comments=True)
+        bounds = [-1, *(place for place, it in enumerate(words) if it == "|"), len(words)]
+        return [words[start + 1:end] for start, end in zip(bounds, bounds[1:])]
+
+    def run_part(self, words: List[str], given: str) -> Tuple[str, str]:
+        """What a part writes to its output, and to standard error."""
+        words = [os.path.join(self.room, it) if os.path.isfile(os.path.join(self.room, it)) else it for it in words]
+        first = [self.program] if words[0] == SELF else [sys.executable, os.path.join(self.folder, LAB)]
+        ran = subprocess.run(first + words[1:], cwd=self.folder, input=given, capture_output=True, text=True, errors="replace",
+                             check=False)
+        return ran.stdout, ran.stderr
+
+    def differs(self, it: Shown) -> str:
+        """What is wrong with a command, or nothing."""
+        parts = self.parts_of(it.command)
+        written = ""
+        if len(parts[-1]) > 2 and parts[-1][-2] == ">":
+            written = parts[-1].pop()
+            parts[-1].pop()
+        if not all(parts) or any(words[0] not in (SELF, LAB) for words in parts):
+            return f"only {SELF} and {LAB} are tried"
+        out, told = "", ""
+        for words in parts:
+            out, said = self.run_part(words, out)
+            told += said
+        if written:
+            with open(os.path.join(self.room, os.path.basename(written)), "w", encoding="utf-8") as file:
+                file.write(out)
+            out = ""
+        printed = (out + told).splitlines()
+        if is_alike(it.lines, printed):
+            return ""
+        return "prints\n" + "\n".join(f"    {line}" for line in printed)
+
+
+def is_untried(it: Shown) -> bool:
+    """Whether a command needs a compiler that isn't here."""
+    return re.search(r"\.c\b", it.command) is not None and not all(map(shutil.which, COMPILER))
+
+
+def ready(shown: List[Shown]) -> List[Shown]:
+    """The commands of one document up to the first that can't be tried here."""
+    for place, it in enumerate(shown):
+        if is_untried(it):
+            print(f"{it.place}: not tried, nor what comes after it: it needs {', '.join(COMPILER)} on PATH")
+            return shown[:place]
+    return shown
+
+
+def tried(shown: List[Shown], program: str, folder: str) -> List[Tuple[Shown, str]]:
+    """The commands of one document that differ, and how."""
+    with tempfile.TemporaryDirectory(prefix="try-") as room:
+        here = Room(program, folder, room)
+        return [(it, said) for it in shown for said in [here.differs(it)] if said]
 
 
 def main(words: List[str]) -> int:
@@ -168,6 +227,7 @@ def main(words: List[str]) -> int:
     program = os.path.abspath(words[0])
     folder = os.path.abspath(words[1]) if len(words) == 2 else TOP
     found: List[Shown] = []
+    wrong: List[Tuple[Shown, str]] = []
     quoted: List[Shown] = []
     unknown: List[Shown] = []
     names = Names(folder)
@@ -175,10 +235,11 @@ def main(words: List[str]) -> int:
         for path in sorted(glob.glob(f"{folder}/{pattern}", recursive=True)):
             with open(path, encoding="utf-8") as file:
                 text = file.read()
-            found += shown_in(os.path.relpath(path, folder), text)
+            shown = ready(shown_in(os.path.relpath(path, folder), text))
+            found += shown
+            wrong += tried(shown, program, folder)
             quoted += quoted_in(os.path.relpath(path, folder), text)
             unknown += [it for it in named_in(os.path.relpath(path, folder), text) if not names.has(it.command, os.path.dirname(path))]
-    wrong = [(it, said) for it in found for said in [differs(it, program, folder)] if said]
     for it, said in wrong:
         print(f"{it.place}: {it.command}: {said}")
     lost = [it for it in quoted if not is_quoted(it, folder)]

@@ -8,6 +8,7 @@ for each case that differs; the status is 0 where none does.
 """
 
 import os
+import re
 import subprocess
 import sys
 import tempfile
@@ -19,7 +20,7 @@ PLANS = os.path.join(os.path.dirname(os.path.dirname(os.path.abspath(__file__)))
 
 
 def kept(name: str) -> str:
-    """A report that is kept beside its plan."""
+    """A plan, or a report that is kept beside its plan."""
     with open(os.path.join(PLANS, name), encoding="utf-8") as file:
         return file.read()
 
@@ -57,12 +58,38 @@ memory e3b0c44298fc1c149afbf4c8996fb92427ae41e4649b934ca495991b7852b855
 marks 0 0 0 0 0 0 0 0
 """
 
+BOUNDS = """job 0 needs 24240 limit 400
+job 1 needs 24240 limit 400
+job 2 needs 48240 limit 400
+job 3 needs 280560 limit 1000
+job 4 open
+job 5 needs 108240 limit 2000
+job 6 needs 24240 limit 0
+job 7 needs 10540 limit 2000
+job 8 needs 270240 limit 2000
+job 9 needs 240240 limit 300
+job 10 needs 240240 limit 300
+job 11 open
+"""
+
+
+def closed(plan: str) -> str:
+    """A plan with limits that suffice, and with another policy in place of BRANCH_FIRST."""
+    return re.sub("limit = [0-9]+", "limit = 1000000", plan).replace("BRANCH_FIRST", "SPEC_LAST")
+
+
+def blocks(report: str) -> str:
+    """A report up to its jobs."""
+    return report[:report.index("job 0 ")]
+
+
 FILES: List[Tuple[Word, bytes]] = [
     ("countdown.s", COUNTDOWN),
     ("halt.s", b".word 0\nhalt\n"),
     ("latin.s", b".word 0 # \xff\n"),
     ("a\nb.s", b"\xc3"),
     ("lone.toml", LONE_ECALL),
+    ("closed.toml", closed(kept("twelve.toml")).encode()),
     ("speed.toml", b"speed = 1\n"),
     ("loop.toml", b"[programs]\n\"l\\u0007p\" = \"nop\\nnop\\nj on\"\n"),
 ]
@@ -94,6 +121,14 @@ CASES = [
     Case(["run", "lone.toml"], 0, REPORT),
     Case(["run", "--workers", "1", "lone.toml"], 0, REPORT),
     Case(["run", os.path.join(PLANS, "twelve.toml")], 0, kept("twelve.report")),
+    Case(["run", "closed.toml"], 0, blocks(kept("twelve.report")) + ".."),
+    Case(["bound", os.path.join(PLANS, "twelve.toml")], 0, BOUNDS),
+    Case(["bound", "lone.toml"], 0, "job 0 needs 3132 limit 1000\n"),
+    Case(["bound", "closed.toml"], 0, "job 0 needs 24240 limit 1000000\n.."),
+    Case(["bound", "speed.toml"], 1, err="refused J1\n"),
+    Case(["bound", "none.toml"], 1, err="refused S1 none.toml\n"),
+    Case(["bound", "lone.toml"], 1, err="refused S2 -\n", out_is_full=True),
+    Case(["bound", "lone.toml", "--workers", "1"], 2, err="error: .."),
     Case(["run", "speed.toml"], 1, err="refused J1\n"),
     Case(["run", "loop.toml"], 1, err="refused J5 l?p A4 line 3\n"),
     Case(["run", "none.toml"], 1, err="refused S1 none.toml\n"),

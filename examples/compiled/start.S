@@ -4,7 +4,7 @@
         .globl  _start
         .type   _start, @function
 _start:
-        la      sp, stack_end           # the end of data; the stack grows down
+        la      sp, stack_end           # below it is the stack, which grows down
         call    main                    # leaves its results in a0 and a1
         ecall                           # stops the context with cause 8
         .size   _start, . - _start
