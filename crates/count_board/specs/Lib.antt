@@ -1,5 +1,5 @@
 pub mod Counts
 pub mod FaultText
-pub mod Rule
+pub mod GreatestCounts
 pub mod Seats
 pub mod Views

@@ -43,7 +43,11 @@ impl Board {
         ensures count { IfOk result (λ r. (seats_of r.0 ≡ seats) × (vec_len r.1 ≡ seats)) }
         ensures seats { IfOk result (λ r. All (λ s. IsSeatOf r.0 s × IsNew s) r.1.items) }
     {
-        Board::made(alloc, opening, seats).map_err(|_| BoardFault::OutOfMemory)
+        let start = Start { opening, seats };
+        let (table, place) = Table::of_words(alloc, &opening, &start)?;
+        let board = Board { table, seats };
+        let dealt = board.deal(alloc, Seat { place })?;
+        Ok((board, dealt))
     }
 
     /// Raises the count of a context to this one, if it is less, and returns the count before. It doesn't wait.
@@ -101,23 +105,6 @@ impl Board {
         ];
         closed.free();
         Ok(counts)
-    }
-
-    fn made(
-        alloc: Global,
-        opening: [u64; 8],
-        seats: usize,
-    ) -> Result<(Board, Vec<Seat>), AllocError>
-        requires some { 0 < seats }
-        ensures opening { IfOk result (λ r. opening_of r.0 ≡ opening) }
-        ensures count { IfOk result (λ r. (seats_of r.0 ≡ seats) × (vec_len r.1 ≡ seats)) }
-        ensures seats { IfOk result (λ r. All (λ s. IsSeatOf r.0 s × IsNew s) r.1.items) }
-    {
-        let start = Start { opening, seats };
-        let (table, place) = Table::of_words(alloc, &opening, &start)?;
-        let board = Board { table, seats };
-        let dealt = board.deal(alloc, Seat { place })?;
-        Ok((board, dealt))
     }
 
     // The first seat stands for all. Each but the last is cut off it.

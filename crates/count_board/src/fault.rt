@@ -1,4 +1,5 @@
 //! Why a board is not made.
+use std::alloc::AllocError;
 use std::error::Error;
 use std::fmt;
 
@@ -22,3 +23,14 @@ impl fmt::Display for BoardFault {
 }
 
 impl Error for BoardFault {}
+
+impl From<AllocError> for BoardFault {
+    ghost use Rattle.std.specs.Prelude.{◌≡◌};
+    ghost use Rattle.count_board.specs.declared.fault.BoardFault.TheVariants.{OutOfMemory};
+
+    ghost from_gives = { λ _ e. e ≡ OutOfMemory };
+
+    fn from(_refused: AllocError) -> BoardFault {
+        BoardFault::OutOfMemory
+    }
+}

@@ -1,6 +1,6 @@
 //! The rule of a board, and what each step tells.
 ghost use Rattle.count_board.specs.Views.{fresh, spent, rest, one, both};
-ghost use Rattle.count_board.specs.Rule.{Ruled, Raised, Looked, Arrived};
+ghost use Rattle.count_board.specs.GreatestCounts.{HasGreatestCounts, RaisesWord, SeesWord, StandsForNone};
 
 use crate::known::{Known, Start};
 use atomic_table::{Join, Play, Split, TableRule};
@@ -9,7 +9,7 @@ use atomic_table::{Join, Play, Split, TableRule};
 pub struct Greatest;
 
 impl TableRule<(), Known, Start> for Greatest {
-    ghost holds = { Ruled };
+    ghost holds = { HasGreatestCounts };
 
     ghost first = { λ key. fresh key.seats };
 }
@@ -18,21 +18,21 @@ impl TableRule<(), Known, Start> for Greatest {
 pub struct Raise;
 
 impl Play<(), Known> for Raise {
-    ghost then = { Raised };
+    ghost then = { RaisesWord };
 }
 
 /// A count is seen.
 pub struct Look;
 
 impl Play<(), Known> for Look {
-    ghost then = { Looked };
+    ghost then = { SeesWord };
 }
 
 /// A seat arrives that stands for none.
 pub struct Arrive;
 
 impl Play<(), Known> for Arrive {
-    ghost then = { Arrived };
+    ghost then = { StandsForNone };
 }
 
 /// One seat is cut off.

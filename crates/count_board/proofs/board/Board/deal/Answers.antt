@@ -8,7 +8,7 @@ use Rattle.count_board.specs.declared.known.Known.{Known}
 use Rattle.count_board.proofs.Kept.{splits}
 use Rattle.std.proofs.lemmas.List.Elements.{All-push}
 use Rattle.atomic_table.specs.Table.{Splits}
-use Rattle.count_board.specs.Rule.{Ruled}
+use Rattle.count_board.specs.GreatestCounts.{HasGreatestCounts}
 use Rattle.count_board.proofs.board.Board.deal.Goals as goal
 
 abbrev IsDealt : Board → Seat → Type 0
@@ -24,7 +24,7 @@ split_seat-place-requires c =
     let key = c.args.self.now.table.shared.key in
     let more = c.loop-test.true in
     let few = c.loop.auto.counter in
-    (i.board, omega arith, subst (λ (v : Known). Splits (Ruled key) c.loop.first.place.id v (rest v) (one v)) (sym (ap (λ m. m.0) i.first)) (splits key _ (c.args.self.now.seats - (c.loop.counter - 1)) (omega arith)))
+    (i.board, omega arith, subst (λ (v : Known). Splits (HasGreatestCounts key) c.loop.first.place.id v (rest v) (one v)) (sym (ap (λ m. m.0) i.first)) (splits key _ (c.args.self.now.seats - (c.loop.counter - 1)) (omega arith)))
 
 pub loop-preserved : goal.loop-preserved
 loop-preserved c =

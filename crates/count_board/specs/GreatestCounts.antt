@@ -9,44 +9,44 @@ use Rattle.count_board.specs.Counts.{greatest_at}
 use Rattle.count_board.specs.Views.{spent, raise, look}
 
 -- for how many seats the views stand
-abbrev pub parts_of : List Known → ℕ
-parts_of [] = 0
-parts_of (v ∷ vs) = v.parts + parts_of vs
+abbrev pub seat_count : List Known → ℕ
+seat_count [] = 0
+seat_count (v ∷ vs) = v.parts + seat_count vs
 
 -- the greatest count that some seat raised at the context i is n
 abbrev pub IsRaised : List Known → ℕ → ℕ → Type 0
 IsRaised views i n = (j : ℕ) × (v : Known) × (get_elem? views j ≡ some v) × (greatest_at i v.raised ≡ n)
 
 -- a view of no seat knows nothing, and no view has raised or seen more than the words
-pub record Fits (words : List ℕ) (v : Known) : Type 0 where
+pub record IsWithin (words : List ℕ) (v : Known) : Type 0 where
   pub idle : v.parts ≡ 0 → (v.raised ≡ []) × (v.seen ≡ [])
   pub raised : (i : ℕ) → greatest_at i v.raised ≤ slice_index words i
   pub seen : (i : ℕ) → greatest_at i v.seen ≤ slice_index words i
 
 -- each of eight words is at least the opening count, and is that or what some seat raised
-pub record Ruled (key : Start) (s : State (Unit {0}) Known) : Type 0 where
+pub record HasGreatestCounts (key : Start) (s : State (Unit {0}) Known) : Type 0 where
   pub wide : length s.words ≡ 8
-  pub parts : parts_of s.views ≡ key.seats
+  pub parts : seat_count s.views ≡ key.seats
   pub opening : (i : ℕ) → i < 8 → slice_index key.opening i ≤ slice_index s.words i
   pub reached : (i : ℕ) → i < 8 → (slice_index s.words i ≡ slice_index key.opening i) ⊎ IsRaised s.views i (slice_index s.words i)
-  pub fits : (j : ℕ) (v : Known) → get_elem? s.views j ≡ some v → Fits s.words v
+  pub within : (j : ℕ) (v : Known) → get_elem? s.views j ≡ some v → IsWithin s.words v
 
 -- what a seat knows, and the slots that it holds, of which there are none
-abbrev pub Place : Type 0
-Place = Me (Unit {0}) Known
+abbrev pub SeatState : Type 0
+SeatState = Me (Unit {0}) Known
 
 -- the word n that was found is at least what the seat had raised or seen
-abbrev pub IsAbove : ℕ → Place → ℕ → Type 0
+abbrev pub IsAbove : ℕ → SeatState → ℕ → Type 0
 IsAbove i v n = (greatest_at i v.0.raised ≤ n) × (greatest_at i v.0.seen ≤ n)
 
 -- the seat raised the word of a context
-abbrev pub Raised : Step (Unit {0}) → Place → ℕ → Place → Type 0
-Raised s v n w = IsAbove s.word v n × (w ≡ (raise s.word s.first n v.0, v.1))
+abbrev pub RaisesWord : Step (Unit {0}) → SeatState → ℕ → SeatState → Type 0
+RaisesWord s v n w = IsAbove s.word v n × (w ≡ (raise s.word s.first n v.0, v.1))
 
 -- the seat saw the word of a context
-abbrev pub Looked : Step (Unit {0}) → Place → ℕ → Place → Type 0
-Looked s v n w = IsAbove s.word v n × (w ≡ (look s.word n v.0, v.1))
+abbrev pub SeesWord : Step (Unit {0}) → SeatState → ℕ → SeatState → Type 0
+SeesWord s v n w = IsAbove s.word v n × (w ≡ (look s.word n v.0, v.1))
 
 -- a seat arrived that stands for none
-abbrev pub Arrived : Step (Unit {0}) → Place → ℕ → Place → Type 0
-Arrived s v n w = w ≡ (spent, [])
+abbrev pub StandsForNone : Step (Unit {0}) → SeatState → ℕ → SeatState → Type 0
+StandsForNone s v n w = w ≡ (spent, [])
