@@ -2,7 +2,7 @@
 use Rattle.std.proofs.Common.{◌≡◌, ◌≢◌, ℕ, ◌≤◌, max, Bool, true, false, cond, ◌&&◌, eqb, eq-eqb, ne_eqb, eqb-true, true≢false, OnOk, IfOk, Result, Ok, Err, List, [], ◌∷◌, ◌++◌, refl, sym, ap, ◌∙◌, arith}
 use Rattle.checkpoint_book.specs.declared.call.Call.{Call}
 use Rattle.checkpoint_book.specs.declared.call.Call.TheVariants.{Merge, Read}
-use Rattle.checkpoint_book.specs.History.{best, is_legal, by, own, greatest}
+use Rattle.checkpoint_book.specs.History.{best, by, greatest, is_legal, own}
 
 pub best_merge : (n p k : ℕ) (cs : List Call) → best n (cs ++ Merge p k ∷ []) ≡ max (best n cs) k
 best_merge n p k [] = refl

@@ -1,142 +1,111 @@
 -- Seats that stand for passes, and what their locks leave.
-use Rattle.std.proofs.Common.{◌≡◌, ℕ, zero, suc, ◌<◌, true, List, [], ◌∷◌, ◌++◌, length, slice_index_or, refl, sym, ap, ◌∙◌, subst, inl, inr, ⊎_elim, arith, All, append_assoc, append-nil}
+use Rattle.std.specs.Prelude.{All, Any}
+use Rattle.std.proofs.Common.{◌≡◌, ℕ, zero, suc, ◌<◌, List, [], ◌∷◌, ◌++◌, length, refl, sym, ap, ◌∙◌, subst, ⊎_elim, inl, inr, arith, append_assoc, append-nil}
+use Rattle.std.proofs.lemmas.List.{map-append, length-map}
+use Rattle.std.proofs.lemmas.List.Elements.{All-nil, All-cons}
+use Rattle.join_law.proofs.Laws.{each_place}
 use Rattle.join_law.specs.declared.places.Eight.{Eight}
 use Rattle.join_law.specs.Eight.{place_of}
 use Rattle.checkpoint.specs.MarkValue.{MarkValue}
-use Rattle.checkpoint.specs.Further.{MarkKin}
 use Rattle.checkpoint_book.specs.declared.call.Call.{Call}
 use Rattle.checkpoint_book.specs.declared.lock.Lock.{Lock}
 use Rattle.checkpoint_book.specs.declared.lock.Seat.{Seat}
-use Rattle.checkpoint_book.specs.Among.{In}
-use Rattle.checkpoint_book.specs.History.{is_legal, best, own, by}
-use Rattle.checkpoint_book.specs.Rule.{Who, Place}
-use Rattle.checkpoint_book.specs.Seats.{StandsFor, IsEnd, who_of, opening_of}
-use Rattle.checkpoint_book.specs.Seats as lock
 use Rattle.checkpoint_book.specs.declared.book.Book.{Book}
 use Rattle.checkpoint_book.specs.declared.book.Pass.{Pass}
 use Rattle.checkpoint_book.specs.declared.book.Closed.{Closed}
-use Rattle.checkpoint_book.specs.Passes.{calls_at, opening_at, IsPassOf, IsNewPass, AreNewPasses}
-use Rattle.checkpoint_book.specs.Closing.{who_at, AreSeatsFor, IsClosedAt, IsClosed}
+use Rattle.checkpoint_book.specs.Among.{In}
+use Rattle.checkpoint_book.specs.History.{by}
+use Rattle.checkpoint_book.specs.Views.{PassCalls}
+use Rattle.checkpoint_book.specs.Steps.{SeatState}
+use Rattle.checkpoint_book.specs.LockSeats.{StandsFor, StandsForAll, lock_passes, seat_passes}
+use Rattle.checkpoint_book.specs.Passes.{AtEachLock, calls_at, opening_at, IsPassOf, IsNewPass, AreNewPasses}
+use Rattle.checkpoint_book.specs.Closing.{pass_calls_at, StandForPasses, StandForAll, IsClosedLock, AreClosedLocks, IsClosedAt, IsClosed}
 
-pub who_is : (l : Lock) (who : List Who) (s : Seat) → StandsFor l who s → who_of s ≡ who
-who_is l who s h = ap (λ (m : Place). m.0.who) h.me
+-- a fact of each lock, by its context
+at_each : (P : ℕ → Lock → Seat → Type 0) (b : Book) (s : Eight Seat) → AtEachLock P b s → (i : ℕ) → i < 8 → P i (place_of b.locks i) (place_of s i)
+at_each P b s h = each_place (λ i. P i (place_of b.locks i) (place_of s i)) h.at_0 h.at_1 h.at_2 h.at_3 h.at_4 h.at_5 h.at_6 h.at_7
 
-pub stands : (l : Lock) (who : List Who) (s : Seat) → StandsFor l who s → StandsFor l (who_of s) s
-stands l who s h = subst (λ w. StandsFor l w s) (sym (who_is l who s h)) h
+from_each : (P : ℕ → Lock → Seat → Type 0) (b : Book) (s : Eight Seat) → ((i : ℕ) → i < 8 → P i (place_of b.locks i) (place_of s i)) → AtEachLock P b s
+from_each P b s h = record { at_0 = h 0 (omega arith); at_1 = h 1 (omega arith); at_2 = h 2 (omega arith); at_3 = h 3 (omega arith); at_4 = h 4 (omega arith); at_5 = h 5 (omega arith); at_6 = h 6 (omega arith); at_7 = h 7 (omega arith) }
 
-pub stands_for_more : (l : Lock) (who : List Who) (s s' : Seat) (y : Who) → StandsFor l who s → StandsFor l (who_of s ++ y ∷ []) s' → StandsFor l (who ++ y ∷ []) s'
-stands_for_more l who s s' y h k = subst (λ w. StandsFor l (w ++ y ∷ []) s') (who_is l who s h) k
+seat_passes_are : (l : Lock) (passes : List PassCalls) (s : Seat) → StandsFor l passes s → seat_passes s ≡ passes
+seat_passes_are l passes s h = ap (λ (m : SeatState). m.0.passes) h.state
 
-pub who_at-push : (i : ℕ) (ps : List Pass) (p : Pass) → who_at i (ps ++ p ∷ []) ≡ who_at i ps ++ (p.number, calls_at i p) ∷ []
-who_at-push i [] p = refl
-who_at-push i (q ∷ ps) p = ap (λ l. (q.number, calls_at i q) ∷ l) (who_at-push i ps p)
+-- at a context, a seat stands for one pass more
+pub stands_for_more : (l : Lock) (i : ℕ) (ps : List Pass) (p : Pass) (s s' : Seat) → StandsFor l (pass_calls_at i ps) s → StandsFor l (seat_passes s ++ (p.number, calls_at i p) ∷ []) s' → StandsFor l (pass_calls_at i (ps ++ p ∷ [])) s'
+stands_for_more l i ps p s s' h more = subst (λ xs. StandsFor l xs s')
+    (ap (λ xs. xs ++ (p.number, calls_at i p) ∷ []) (seat_passes_are l (pass_calls_at i ps) s h) ∙ sym (map-append (λ (q : Pass). (q.number, calls_at i q)) ps (p ∷ [])))
+    more
 
-pub length-who_at : (i : ℕ) (ps : List Pass) → length (who_at i ps) ≡ length ps
-length-who_at i [] = refl
-length-who_at i (p ∷ ps) = ap suc (length-who_at i ps)
-
--- a seat at a context stands for one pass more
-pub at_context : (l : Lock) (i : ℕ) (ps : List Pass) (p : Pass) (s s' : Seat) → StandsFor l (who_at i ps) s → StandsFor l (who_of s ++ (p.number, calls_at i p) ∷ []) s' → StandsFor l (who_at i (ps ++ p ∷ [])) s'
-at_context l i ps p s s' h k = subst (λ w. StandsFor l w s') (sym (who_at-push i ps p)) (stands_for_more l (who_at i ps) s s' (p.number, calls_at i p) h k)
-
--- what a lock asks at the end
-pub asks : (l : Lock) (i n : ℕ) (ps : List Pass) (s : Seat) → StandsFor l (who_at i ps) s → length ps ≡ n → lock.passes_of l ≡ n → StandsFor l (who_of s) s × (length (who_of s) ≡ lock.passes_of l)
-asks l i n ps s h many all = (stands l (who_at i ps) s h, ap length (who_is l (who_at i ps) s h) ∙ (length-who_at i ps ∙ (many ∙ sym all)))
-
-in_who_at : (i : ℕ) (ps : List Pass) (p : Pass) → In ps p → In (who_at i ps) (p.number, calls_at i p)
-in_who_at i [] p h = absurd h
-in_who_at i (q ∷ ps) p h = ⊎_elim (λ (e : q ≡ p). inl (ap (λ (r : Pass). (r.number, calls_at i r)) e)) (λ t. inr (in_who_at i ps p t)) h
-
-of_who_at : (i : ℕ) (ps : List Pass) (x : Who) → In (who_at i ps) x → (p : Pass) × In ps p × (x.0 ≡ p.number)
-of_who_at i [] x h = absurd h
-of_who_at i (q ∷ ps) x h = ⊎_elim (λ (e : (q.number, calls_at i q) ≡ x). (q, inl refl, sym (ap (λ (y : Who). y.0) e))) (λ t. let r = of_who_at i ps x t in (r.0, inr r.1, r.2)) h
-
--- what a lock leaves, in the words of passes
-pub record IsLeft (opening : MarkValue) (i : ℕ) (ps : List Pass) (mark : MarkValue) (history : List Call) : Type 0 where
-  pub legal : is_legal opening.count history ≡ true
-  pub best : mark.count ≡ best opening.count history
-  pub kin : MarkKin opening mark
-  pub own : (p : Pass) → In ps p → own p.number history ≡ calls_at i p
-  pub no_others : (c : Call) → In history c → (p : Pass) × In ps p × (by c ≡ p.number)
-
--- what is left at a context
-pub closed_at : (l : Lock) (i : ℕ) (ps : List Pass) (s : Seat) (mark : MarkValue) (history : List Call) → StandsFor l (who_at i ps) s → IsEnd (opening_of l) (who_of s) mark history → IsLeft (opening_of l) i ps mark history
-closed_at l i ps s mark history h e =
-    let who = who_is l (who_at i ps) s h in record {
-      legal = e.legal;
-      best = e.best;
-      kin = e.kin;
-      own = λ p k. sym (e.own (p.number, calls_at i p) (subst (λ w. In w (p.number, calls_at i p)) (sym who) (in_who_at i ps p k)));
-      no_others = λ c k. let o = e.no_others c k in of_who_at i ps (by c, o.0) (subst (λ w. In w (by c, o.0)) who o.1);
+-- a seat that stands for as many passes as its lock is for stands for all
+stands_for_all : (l : Lock) (i n : ℕ) (ps : List Pass) (s : Seat) → length ps ≡ n → lock_passes l ≡ n → StandsFor l (pass_calls_at i ps) s → StandsForAll l s
+stands_for_all l i n ps s many all h =
+    let are = seat_passes_are l (pass_calls_at i ps) s h in record {
+      own = subst (λ xs. StandsFor l xs s) (sym are) h;
+      all = ap length are ∙ (length-map ps (λ (q : Pass). (q.number, calls_at i q)) ∙ (many ∙ sym all));
     }
 
--- a mark is aligned, since it is kin of the opening mark
-aligned_at : (b : Book) (i : ℕ) (ps : List Pass) (mark : MarkValue) (history : List Call) → i < 8 → IsLeft (opening_at i b) i ps mark history → IsClosedAt b i ps mark history
-aligned_at b i ps mark history inside e =
-    let own = b.aligned i inside in
-    record {
+pub stand_for_all : (b : Book) (ps : List Pass) (s : Eight Seat) → StandForPasses b ps s → length ps ≡ b.passes → StandForAll b s
+stand_for_all b ps s h many = from_each (λ i l s. StandsForAll l s) b s
+    (λ i inside. stands_for_all (place_of b.locks i) i b.passes ps (place_of s i) many (b.counted i inside) (at_each (λ i l s. StandsFor l (pass_calls_at i ps) s) b s h i inside))
+
+all_in : {X : Type 0} (P : X → Type 0) (xs : List X) → ((x : X) → In xs x → P x) → All P xs
+all_in P [] h = All-nil P
+all_in P (x ∷ xs) h = All-cons P x xs (h x (inl refl)) (all_in P xs (λ y k. h y (inr k)))
+
+pass_calls_in : (i : ℕ) (ps : List Pass) (p : Pass) → In ps p → In (pass_calls_at i ps) (p.number, calls_at i p)
+pass_calls_in i [] p h = absurd h
+pass_calls_in i (q ∷ ps) p h = ⊎_elim (λ (e : q ≡ p). inl (ap (λ (r : Pass). (r.number, calls_at i r)) e)) (λ t. inr (pass_calls_in i ps p t)) h
+
+pass_of : (i : ℕ) (ps : List Pass) (x : PassCalls) → In (pass_calls_at i ps) x → Any (λ p. x.0 ≡ p.number) ps
+pass_of i [] x h = absurd h
+pass_of i (p ∷ ps) x h = ⊎_elim
+    (λ (e : (p.number, calls_at i p) ≡ x). (0, p, omega arith, refl, sym (ap (λ (y : PassCalls). y.0) e)))
+    (λ t. let r = pass_of i ps x t in (suc r.0, r.1, (let inside = r.2 in omega arith), r.3, r.4))
+    h
+
+-- what is left at a context, in the words of passes; the mark is aligned, since it is kin to the opening mark
+closed_at : (b : Book) (i : ℕ) (ps : List Pass) (s : Seat) (mark : MarkValue) (history : List Call) → i < 8 → StandsFor (place_of b.locks i) (pass_calls_at i ps) s → IsClosedLock (opening_at i b) (seat_passes s) mark history → IsClosedAt b i ps mark history
+closed_at b i ps s mark history inside h e =
+    let are = seat_passes_are (place_of b.locks i) (pass_calls_at i ps) s h in
+    let opening = b.aligned i inside in record {
       legal = e.legal;
-      own = e.own;
-      no_others = e.no_others;
+      own = all_in _ ps (λ p k. sym (e.own (p.number, calls_at i p) (subst (λ xs. In xs (p.number, calls_at i p)) (sym are) (pass_calls_in i ps p k))));
+      no_others = all_in _ history (λ c k. let o = e.no_others c k in pass_of i ps (by c, o.0) (subst (λ xs. In xs (by c, o.0)) are o.1));
       best = e.best;
-      aligned = record { of_origin = sym e.kin.origin ∙ own.of_origin; of_context = sym e.kin.context ∙ own.of_context };
+      aligned = record { of_origin = sym e.kin.origin ∙ opening.of_origin; of_context = sym e.kin.context ∙ opening.of_context };
     }
 
--- what is left at all contexts
-pub closed : (b : Book) (ps : List Pass) (c : Closed)
-    → IsLeft (opening_at 0 b) 0 ps c.marks.c0 c.histories.c0.items → IsLeft (opening_at 1 b) 1 ps c.marks.c1 c.histories.c1.items → IsLeft (opening_at 2 b) 2 ps c.marks.c2 c.histories.c2.items → IsLeft (opening_at 3 b) 3 ps c.marks.c3 c.histories.c3.items
-    → IsLeft (opening_at 4 b) 4 ps c.marks.c4 c.histories.c4.items → IsLeft (opening_at 5 b) 5 ps c.marks.c5 c.histories.c5.items → IsLeft (opening_at 6 b) 6 ps c.marks.c6 c.histories.c6.items → IsLeft (opening_at 7 b) 7 ps c.marks.c7 c.histories.c7.items
-    → IsClosed b ps c
-closed b ps c p0 p1 p2 p3 p4 p5 p6 p7 zero h = aligned_at b 0 ps _ _ h p0
-closed b ps c p0 p1 p2 p3 p4 p5 p6 p7 (suc zero) h = aligned_at b 1 ps _ _ h p1
-closed b ps c p0 p1 p2 p3 p4 p5 p6 p7 (suc (suc zero)) h = aligned_at b 2 ps _ _ h p2
-closed b ps c p0 p1 p2 p3 p4 p5 p6 p7 (suc (suc (suc zero))) h = aligned_at b 3 ps _ _ h p3
-closed b ps c p0 p1 p2 p3 p4 p5 p6 p7 (suc (suc (suc (suc zero)))) h = aligned_at b 4 ps _ _ h p4
-closed b ps c p0 p1 p2 p3 p4 p5 p6 p7 (suc (suc (suc (suc (suc zero))))) h = aligned_at b 5 ps _ _ h p5
-closed b ps c p0 p1 p2 p3 p4 p5 p6 p7 (suc (suc (suc (suc (suc (suc zero)))))) h = aligned_at b 6 ps _ _ h p6
-closed b ps c p0 p1 p2 p3 p4 p5 p6 p7 (suc (suc (suc (suc (suc (suc (suc zero))))))) h = aligned_at b 7 ps _ _ h p7
-closed b ps c p0 p1 p2 p3 p4 p5 p6 p7 (suc (suc (suc (suc (suc (suc (suc (suc n)))))))) h = absurd (omega arith)
+pub closed : (b : Book) (ps : List Pass) (s : Eight Seat) (c : Closed) → StandForPasses b ps s → AreClosedLocks b s c → IsClosed b ps c
+closed b ps s c h left = λ i inside. closed_at b i ps (place_of s i) (place_of c.marks i) (place_of c.histories i).items inside (at_each (λ i l s. StandsFor l (pass_calls_at i ps) s) b s h i inside) (left i inside)
 
--- one pass more was cut off
-pub cut_one : (b : Book) (n m : ℕ) (ps : List Pass) (p : Pass) → AreNewPasses b n (suc m) ps → IsNewPass b m p → AreNewPasses b n m (ps ++ p ∷ [])
-cut_one b n m [] p h new = (m, h, new, refl)
-cut_one b n m (q ∷ ps) p h new = (h.0, h.1, h.2, cut_one b h.0 m ps p h.3 new)
+-- what is left at each context, from what each lock leaves
+pub each_closed : (b : Book) (s : Eight Seat) (c : Closed)
+    → IsClosedLock (opening_at 0 b) (seat_passes s.c0) c.marks.c0 c.histories.c0.items → IsClosedLock (opening_at 1 b) (seat_passes s.c1) c.marks.c1 c.histories.c1.items
+    → IsClosedLock (opening_at 2 b) (seat_passes s.c2) c.marks.c2 c.histories.c2.items → IsClosedLock (opening_at 3 b) (seat_passes s.c3) c.marks.c3 c.histories.c3.items
+    → IsClosedLock (opening_at 4 b) (seat_passes s.c4) c.marks.c4 c.histories.c4.items → IsClosedLock (opening_at 5 b) (seat_passes s.c5) c.marks.c5 c.histories.c5.items
+    → IsClosedLock (opening_at 6 b) (seat_passes s.c6) c.marks.c6 c.histories.c6.items → IsClosedLock (opening_at 7 b) (seat_passes s.c7) c.marks.c7 c.histories.c7.items
+    → AreClosedLocks b s c
+each_closed b s c = each_place (λ i. IsClosedLock (opening_at i b) (seat_passes (place_of s i)) (place_of c.marks i) (place_of c.histories i).items)
+
+-- one pass more got its own seats
+pub one_more : (b : Book) (n m : ℕ) (ps : List Pass) (p : Pass) → AreNewPasses b n (suc m) ps → IsNewPass b m p → AreNewPasses b n m (ps ++ p ∷ [])
+one_more b n m [] p h new = (m, h, new, refl)
+one_more b n m (q ∷ ps) p h new = (h.0, h.1, h.2, one_more b h.0 m ps p h.3 new)
 
 -- each of the new passes is one of the book's
 pub all_own : (b : Book) (n m : ℕ) (ps : List Pass) → AreNewPasses b n m ps → All (IsPassOf b) ps
-all_own b n m [] h = λ k d l. absurd (omega arith)
-all_own b n m (p ∷ ps) h = let rest = all_own b h.0 m ps h.3 in λ k d l. at k d l h.2.own rest
-  where
-    at : (k : ℕ) (d : Pass) → k < length (p ∷ ps) → IsPassOf b p → All (IsPassOf b) ps → IsPassOf b (slice_index_or (p ∷ ps) k d)
-    at zero d l here rest = here
-    at (suc k) d l here rest = rest k d (omega arith)
-
-pub first_is : (b : Book) (xs ys : List Pass) (x : Pass) → xs ≡ x ∷ ys → All (IsPassOf b) xs → IsPassOf b x
-first_is b xs ys x e all = (subst (All (IsPassOf b)) e all) 0 x (omega arith)
-
-pub rest_are : (b : Book) (xs ys : List Pass) (x : Pass) → xs ≡ x ∷ ys → All (IsPassOf b) xs → All (IsPassOf b) ys
-rest_are b xs ys x e all = λ k d l. (subst (All (IsPassOf b)) e all) (suc k) d (omega arith)
+all_own b n m [] h = All-nil (IsPassOf b)
+all_own b n m (p ∷ ps) h = All-cons (IsPassOf b) p ps h.2.own (all_own b h.0 m ps h.3)
 
 pub none_left : (xs : List Pass) → length xs ≡ 0 → xs ≡ []
 none_left [] e = refl
 none_left (x ∷ xs) e = absurd (omega arith)
 
 -- the pass that comes is the next of all
-pub goes_on : (b : Book) (s s' : Eight Seat) (rest rest' all : List Pass) (x : Pass) → rest ≡ x ∷ rest' → ((ps : List Pass) × AreSeatsFor b ps s × (ps ++ rest ≡ all)) → ((ps : List Pass) → AreSeatsFor b ps s → AreSeatsFor b (ps ++ x ∷ []) s')
-    → ((ps : List Pass) × AreSeatsFor b ps s' × (ps ++ rest' ≡ all))
+pub goes_on : (b : Book) (s s' : Eight Seat) (rest rest' all : List Pass) (x : Pass) → rest ≡ x ∷ rest' → ((ps : List Pass) × StandForPasses b ps s × (ps ++ rest ≡ all)) → ((ps : List Pass) → StandForPasses b ps s → StandForPasses b (ps ++ x ∷ []) s')
+    → ((ps : List Pass) × StandForPasses b ps s' × (ps ++ rest' ≡ all))
 goes_on b s s' rest rest' all x e h f = (h.0 ++ x ∷ [], f h.0 h.1, append_assoc h.0 (x ∷ []) rest' ∙ (ap (λ l. h.0 ++ l) (sym e) ∙ h.2))
 
-pub all_done : (b : Book) (s : Eight Seat) (rest all : List Pass) → rest ≡ [] → ((ps : List Pass) × AreSeatsFor b ps s × (ps ++ rest ≡ all)) → AreSeatsFor b all s
-all_done b s rest all e h = subst (λ ps. AreSeatsFor b ps s) (sym (append-nil h.0) ∙ (ap (λ l. h.0 ++ l) (sym e) ∙ h.2)) h.1
-
--- the openings, context by context
-pub openings : (ls : Eight Lock) (o : Eight MarkValue) → opening_of ls.c0 ≡ o.c0 → opening_of ls.c1 ≡ o.c1 → opening_of ls.c2 ≡ o.c2 → opening_of ls.c3 ≡ o.c3 → opening_of ls.c4 ≡ o.c4 → opening_of ls.c5 ≡ o.c5 → opening_of ls.c6 ≡ o.c6 → opening_of ls.c7 ≡ o.c7 → (i : ℕ) → i < 8 → opening_of (place_of ls i) ≡ place_of o i
-openings ls o p0 p1 p2 p3 p4 p5 p6 p7 zero h = p0
-openings ls o p0 p1 p2 p3 p4 p5 p6 p7 (suc zero) h = p1
-openings ls o p0 p1 p2 p3 p4 p5 p6 p7 (suc (suc zero)) h = p2
-openings ls o p0 p1 p2 p3 p4 p5 p6 p7 (suc (suc (suc zero))) h = p3
-openings ls o p0 p1 p2 p3 p4 p5 p6 p7 (suc (suc (suc (suc zero)))) h = p4
-openings ls o p0 p1 p2 p3 p4 p5 p6 p7 (suc (suc (suc (suc (suc zero))))) h = p5
-openings ls o p0 p1 p2 p3 p4 p5 p6 p7 (suc (suc (suc (suc (suc (suc zero)))))) h = p6
-openings ls o p0 p1 p2 p3 p4 p5 p6 p7 (suc (suc (suc (suc (suc (suc (suc zero))))))) h = p7
-openings ls o p0 p1 p2 p3 p4 p5 p6 p7 (suc (suc (suc (suc (suc (suc (suc (suc n)))))))) h = absurd (omega arith)
+pub all_done : (b : Book) (s : Eight Seat) (rest all : List Pass) → rest ≡ [] → ((ps : List Pass) × StandForPasses b ps s × (ps ++ rest ≡ all)) → StandForPasses b all s
+all_done b s rest all e h = subst (λ ps. StandForPasses b ps s) (sym (append-nil h.0) ∙ (ap (λ l. h.0 ++ l) (sym e) ∙ h.2)) h.1

@@ -1,5 +1,5 @@
 -- Calls in their order, what they lead to, and which readings are right.
-use Rattle.std.specs.Prelude.{ℕ, max, Bool, true, ◌==◌, ◌&&◌, if◌then◌else◌, List, [], ◌∷◌}
+use Rattle.std.specs.Prelude.{◌≡◌, ◌⊎◌, ℕ, max, Bool, true, ◌==◌, ◌&&◌, if◌then◌else◌, List, [], ◌∷◌, ◌++◌}
 use Rattle.checkpoint_book.specs.declared.call.Call.{Call}
 use Rattle.checkpoint_book.specs.declared.call.Call.TheVariants.{Merge, Read}
 
@@ -30,3 +30,7 @@ abbrev pub greatest : List Call → ℕ
 greatest [] = 0
 greatest (Merge p k ∷ cs) = max k (greatest cs)
 greatest (Read p k ∷ cs) = max k (greatest cs)
+
+-- a history is what it was, or has one call of the pass more
+abbrev pub AddsAtMostOne : ℕ → List Call → List Call → Type 0
+AddsAtMostOne p old new = (new ≡ old) ⊎ ((c : Call) × (by c ≡ p) × (new ≡ old ++ c ∷ []))

@@ -1,8 +1,11 @@
 pub mod Among
 pub mod Closing
 pub mod FaultText
+pub mod Foreign
 pub mod History
+pub mod LockSeats
+pub mod Locks
+pub mod OneHistory
 pub mod Passes
-pub mod Rule
-pub mod Seats
-pub mod Sized
+pub mod Steps
+pub mod Views

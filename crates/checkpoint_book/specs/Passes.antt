@@ -5,21 +5,26 @@ use Rattle.join_law.specs.Eight.{place_of}
 use Rattle.checkpoint.specs.MarkValue.{MarkValue}
 use Rattle.origin_set.specs.OriginValue.{OriginValue}
 use Rattle.checkpoint_book.specs.declared.call.Call.{Call}
+use Rattle.checkpoint_book.specs.declared.lock.Lock.{Lock}
 use Rattle.checkpoint_book.specs.declared.lock.Seat.{Seat}
-use Rattle.checkpoint_book.specs.Seats.{IsSeatOf, IsDealer, calls_of, opening_of}
+use Rattle.checkpoint_book.specs.LockSeats.{IsSeatOf, StandsForNew, calls_of, opening_of}
 use Rattle.checkpoint_book.specs.declared.book.Book.{Book}
 use Rattle.checkpoint_book.specs.declared.book.Pass.{Pass}
 
--- each seat is one of its lock, for this pass
-pub record IsPassOf (b : Book) (p : Pass) : Type 0 where
-  pub at_0 : IsSeatOf b.locks.c0 p.number p.seats.c0
-  pub at_1 : IsSeatOf b.locks.c1 p.number p.seats.c1
-  pub at_2 : IsSeatOf b.locks.c2 p.number p.seats.c2
-  pub at_3 : IsSeatOf b.locks.c3 p.number p.seats.c3
-  pub at_4 : IsSeatOf b.locks.c4 p.number p.seats.c4
-  pub at_5 : IsSeatOf b.locks.c5 p.number p.seats.c5
-  pub at_6 : IsSeatOf b.locks.c6 p.number p.seats.c6
-  pub at_7 : IsSeatOf b.locks.c7 p.number p.seats.c7
+-- a fact of each context, its lock and a seat
+pub record AtEachLock (P : ℕ → Lock → Seat → Type 0) (b : Book) (s : Eight Seat) : Type 0 where
+  pub at_0 : P 0 b.locks.c0 s.c0
+  pub at_1 : P 1 b.locks.c1 s.c1
+  pub at_2 : P 2 b.locks.c2 s.c2
+  pub at_3 : P 3 b.locks.c3 s.c3
+  pub at_4 : P 4 b.locks.c4 s.c4
+  pub at_5 : P 5 b.locks.c5 s.c5
+  pub at_6 : P 6 b.locks.c6 s.c6
+  pub at_7 : P 7 b.locks.c7 s.c7
+
+-- the pass is one of those that the book's `new` gave: it has a seat at each lock
+abbrev pub IsPassOf : Book → Pass → Type 0
+IsPassOf b p = AtEachLock (λ i l s. IsSeatOf l p.number s) b p.seats
 
 -- the calls of a pass at a context
 abbrev pub calls_at : ℕ → Pass → List Call
@@ -47,27 +52,20 @@ pub record IsSameBut (i : ℕ) (old new : Pass) : Type 0 where
   pub others : (j : ℕ) → j < 8 → j ≢ i → calls_at j new ≡ calls_at j old
 
 -- the seats stand for the passes below n, which have made no calls
-pub record AreDealers (b : Book) (n : ℕ) (s : Eight Seat) : Type 0 where
-  pub at_0 : IsDealer b.locks.c0 n s.c0
-  pub at_1 : IsDealer b.locks.c1 n s.c1
-  pub at_2 : IsDealer b.locks.c2 n s.c2
-  pub at_3 : IsDealer b.locks.c3 n s.c3
-  pub at_4 : IsDealer b.locks.c4 n s.c4
-  pub at_5 : IsDealer b.locks.c5 n s.c5
-  pub at_6 : IsDealer b.locks.c6 n s.c6
-  pub at_7 : IsDealer b.locks.c7 n s.c7
+abbrev pub StandForNew : Book → ℕ → Eight Seat → Type 0
+StandForNew b n s = AtEachLock (λ i l s. StandsForNew l n s) b s
 
 -- the pass has made no calls
 abbrev pub HasNoCalls : Pass → Type 0
 HasNoCalls p = (i : ℕ) → i < 8 → calls_at i p ≡ []
 
--- a pass that was cut off
+-- the pass with this number, as `new` gives it
 pub record IsNewPass (b : Book) (n : ℕ) (p : Pass) : Type 0 where
   pub own : IsPassOf b p
   pub number : p.number ≡ n
   pub calls : HasNoCalls p
 
--- passes that were cut off, the last first, from below n down to m
+-- the passes with the numbers below n down to m, as `new` gives them
 abbrev pub AreNewPasses : Book → ℕ → ℕ → List Pass → Type 0
 AreNewPasses b n m [] = n ≡ m
 AreNewPasses b n m (p ∷ ps) = (k : ℕ) × (n ≡ suc k) × IsNewPass b k p × AreNewPasses b k m ps

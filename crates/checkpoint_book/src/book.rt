@@ -1,8 +1,7 @@
 //! A book, its passes, and what it leaves.
 ghost use Rattle.std.specs.Prelude.{◌≡◌, ◌<◌, ℕ};
-ghost use Rattle.checkpoint_book.specs.Seats.{passes_of};
 ghost use Rattle.join_law.specs.Eight.{place_of};
-ghost use Rattle.checkpoint_book.specs.Sized.{HavePasses, AreAligned};
+ghost use Rattle.checkpoint_book.specs.Locks.{HavePasses, AreAligned};
 
 use crate::{Call, Lock, Seat};
 use checkpoint::Shared;

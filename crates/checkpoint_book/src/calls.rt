@@ -1,8 +1,9 @@
 //! Merges and readings.
-ghost use Rattle.std.specs.Prelude.{◌≡◌, ◌≢◌, ◌↔◌, ◌<◌, ◌≤◌, ℕ, [], ◌∷◌, ◌++◌, OnOk, OnErr, IfErr, IfOk, IsErrAnd, Err};
+ghost use Rattle.std.specs.Prelude.{◌≡◌, ◌≢◌, ◌↔◌, ◌⊎◌, ◌<◌, ◌≤◌, [], ◌∷◌, ◌++◌, OnOk, IfErr, IfOk, IsErrAnd};
 ghost use Rattle.checkpoint_book.specs.declared.call.Call.TheVariants.{Merge, Read};
 ghost use Rattle.checkpoint_book.specs.History.{greatest};
 ghost use Rattle.checkpoint_book.specs.declared.fault.BookFault.TheVariants.{ForeignOrigin, OutOfMemory};
+ghost use Rattle.checkpoint_book.specs.Foreign.{RefusesForeign};
 ghost use Rattle.checkpoint.specs.Aligned.{IsMarkOf};
 ghost use Rattle.checkpoint.specs.Further.{MarkKin};
 ghost use Rattle.checkpoint_book.specs.Passes.{IsPassOf, calls_at, opening_at, origin_of, number_of, IsSameBut};
@@ -27,6 +28,7 @@ impl Book {
         ensures own { IsPassOf self.now pass.new }
         ensures others { IsSameBut mark.context pass.old pass.new }
         ensures foreign { IsErrAnd result (λ e. e.1 ≡ ForeignOrigin) ↔ (mark.origin ≢ origin_of self.now) }
+        ensures origin { IsErrAnd result (λ e. e.1 ≡ ForeignOrigin) ⊎ (mark.origin ≡ origin_of self.now) }
         ensures ok { OnOk result (calls_at mark.context pass.new ≡ calls_at mark.context pass.old ++ Merge (number_of pass.old) mark.count ∷ []) }
         ensures err { IfErr result (λ e. (e.0 ≡ mark) × (calls_at mark.context pass.new ≡ calls_at mark.context pass.old)) }
     {
@@ -34,7 +36,7 @@ impl Book {
         self.merge_at(rt, pass, context, mark)
     }
 
-    // Merges a mark into a context, where that is its own.
+    // Merges a mark into the lock of a context.
     fn merge_at<R: Wait>(
         &self,
         rt: &R,
@@ -46,8 +48,7 @@ impl Book {
         ensures own { IsPassOf self.now pass.new }
         ensures inside { context < 8 }
         ensures others { IsSameBut context pass.old pass.new }
-        ensures kin { OnOk result (MarkKin (opening_at context self.now) mark) }
-        ensures foreign { IfErr result (λ e. (e.1 ≡ ForeignOrigin) ↔ (MarkKin (opening_at context self.now) mark → ⊥)) }
+        ensures foreign { RefusesForeign (opening_at context self.now) mark result }
         ensures ok { OnOk result (calls_at context pass.new ≡ calls_at context pass.old ++ Merge pass.old.number mark.count ∷ []) }
         ensures err { IfErr result (λ e. (e.0 ≡ mark) × (calls_at context pass.new ≡ calls_at context pass.old)) }
     {
@@ -85,6 +86,7 @@ impl Book {
         self.read_at(rt, pass, context)
     }
 
+    // Reads the furthest mark under the lock of a context.
     fn read_at<R: Wait>(&self, rt: &R, pass: &mut Pass, context: Ctx) -> Result<Shared, BookFault>
         requires own { IsPassOf self.now pass.old }
         ensures own { IsPassOf self.now pass.new }

@@ -1,10 +1,8 @@
 //! The end of a book.
-ghost use Rattle.std.specs.Prelude.{◌≡◌, ◌↔◌, ◌<◌, ◌++◌, ◌∷◌, [], ℕ, List, All, IsOk, IfOk, IfErr, length, vec_len};
-ghost use Rattle.join_law.specs.Eight.{place_of};
-ghost use Rattle.checkpoint_book.specs.Seats.{opening_of, passes_of};
+ghost use Rattle.std.specs.Prelude.{◌≡◌, ◌↔◌, ◌++◌, ◌∷◌, [], List, All, IsOk, IfOk, IfErr, vec_len};
 ghost use Rattle.checkpoint_book.specs.declared.book.Pass.{Pass};
 ghost use Rattle.checkpoint_book.specs.Passes.{IsPassOf, passes_in};
-ghost use Rattle.checkpoint_book.specs.Closing.{AreSeatsFor, IsClosed};
+ghost use Rattle.checkpoint_book.specs.Closing.{StandForPasses, StandForAll, AreClosedLocks, IsClosed};
 
 use crate::{Book, Closed, Pass, Seat};
 use join_law::Eight;
@@ -27,12 +25,12 @@ impl Book {
         Ok(self.finish(all))
     }
 
-    // Seats that stand for all these passes.
+    // Seats that stand for these passes.
     fn gather(&self, passes: Vec<Pass>) -> Eight<Seat>
         requires { All (IsPassOf self.now) passes.items }
-        ensures { AreSeatsFor self.now passes.items result }
+        ensures { StandForPasses self.now passes.items result }
     {
-        let mut all = self.nobody();
+        let mut all = self.empty_seats();
         for pass in passes {
             self.absorb(&mut all, pass);
         }
@@ -40,27 +38,27 @@ impl Book {
     }
 
     // Seats that stand for no pass.
-    fn nobody(&self) -> Eight<Seat>
-        ensures { AreSeatsFor self.now [] result }
+    fn empty_seats(&self) -> Eight<Seat>
+        ensures { StandForPasses self.now [] result }
     {
         let locks = &self.locks;
         Eight {
-            c0: locks.c0.nobody(),
-            c1: locks.c1.nobody(),
-            c2: locks.c2.nobody(),
-            c3: locks.c3.nobody(),
-            c4: locks.c4.nobody(),
-            c5: locks.c5.nobody(),
-            c6: locks.c6.nobody(),
-            c7: locks.c7.nobody(),
+            c0: locks.c0.empty_seat(),
+            c1: locks.c1.empty_seat(),
+            c2: locks.c2.empty_seat(),
+            c3: locks.c3.empty_seat(),
+            c4: locks.c4.empty_seat(),
+            c5: locks.c5.empty_seat(),
+            c6: locks.c6.empty_seat(),
+            c7: locks.c7.empty_seat(),
         }
     }
 
     // The seats stand for one pass more.
     fn absorb(&self, all: &mut Eight<Seat>, pass: Pass)
         requires pass { IsPassOf self.now pass }
-        requires all { (ps : List Pass) × AreSeatsFor self.now ps all.old }
-        ensures { (ps : List Pass) → AreSeatsFor self.now ps all.old → AreSeatsFor self.now (ps ++ pass ∷ []) all.new }
+        requires all { (ps : List Pass) × StandForPasses self.now ps all.old }
+        ensures { (ps : List Pass) → StandForPasses self.now ps all.old → StandForPasses self.now (ps ++ pass ∷ []) all.new }
     {
         let Pass { number, seats } = pass;
         let Eight {
@@ -86,8 +84,8 @@ impl Book {
 
     // What the locks leave, where the seats stand for all passes.
     fn finish(self, all: Eight<Seat>) -> Closed
-        requires { (ps : List Pass) × AreSeatsFor self ps all × (length ps ≡ self.passes) }
-        ensures { (ps : List Pass) → AreSeatsFor self ps all → length ps ≡ self.passes → IsClosed self ps result }
+        requires { StandForAll self all }
+        ensures { AreClosedLocks self all result }
     {
         let Book { locks, passes: _ } = self;
         let (n0, h0) = locks.c0.finish(all.c0);

@@ -1,4 +1,5 @@
 //! Why a book is not made, or a mark not merged or read.
+use std::alloc::AllocError;
 use std::error::Error;
 use std::fmt;
 
@@ -25,3 +26,14 @@ impl fmt::Display for BookFault {
 }
 
 impl Error for BookFault {}
+
+impl From<AllocError> for BookFault {
+    ghost use Rattle.std.specs.Prelude.{◌≡◌};
+    ghost use Rattle.checkpoint_book.specs.declared.fault.BookFault.TheVariants.{OutOfMemory};
+
+    ghost from_gives = { λ _ e. e ≡ OutOfMemory };
+
+    fn from(_refused: AllocError) -> BookFault {
+        BookFault::OutOfMemory
+    }
+}

@@ -1,13 +1,15 @@
 //! The calls of a lock.
-ghost use Rattle.std.specs.Prelude.{◌≡◌, ◌↔◌, ◌≤◌, ◌<◌, ℕ, suc, Some, None, [], ◌∷◌, ◌++◌, OnOk, OnErr, IfOk, IfErr, length, List};
+ghost use Rattle.std.specs.Prelude.{◌≡◌, ◌≤◌, suc, [], ◌∷◌, ◌++◌, OnOk, IfOk, IfErr, List};
 ghost use Rattle.checkpoint_book.specs.declared.call.Call.TheVariants.{Merge, Read};
 ghost use Rattle.checkpoint_book.specs.declared.call.Call.{Call};
 ghost use Rattle.checkpoint.specs.Further.{MarkKin};
-ghost use Rattle.checkpoint_book.specs.declared.fault.BookFault.TheVariants.{ForeignOrigin, OutOfMemory};
+ghost use Rattle.checkpoint_book.specs.declared.fault.BookFault.TheVariants.{OutOfMemory};
+ghost use Rattle.checkpoint_book.specs.Foreign.{RefusesForeign};
 ghost use Rattle.checkpoint_book.specs.Among.{In};
-ghost use Rattle.checkpoint_book.specs.History.{best, own, greatest, by};
-ghost use Rattle.checkpoint_book.specs.Rule.{Adds, Who};
-ghost use Rattle.checkpoint_book.specs.Seats.{IsSeatOf, IsHolder, IsDealer, StandsFor, IsEnd, who_of, calls_of, found_of, opening_of, passes_of};
+ghost use Rattle.checkpoint_book.specs.History.{own, greatest, by, AddsAtMostOne};
+ghost use Rattle.checkpoint_book.specs.Views.{PassCalls};
+ghost use Rattle.checkpoint_book.specs.LockSeats.{IsSeatOf, IsHolder, StandsForNew, StandsFor, StandsForAll, seat_passes, calls_of, found_history, opening_of, lock_passes};
+ghost use Rattle.checkpoint_book.specs.Closing.{IsClosedLock};
 
 use crate::known::Start;
 use crate::rule::{Arrive, Give, Parting, Take, Together};
@@ -25,7 +27,7 @@ impl Lock {
         requires own { IsSeatOf self.now pass seat.old }
         ensures held { IsHolder self.now pass seat.new }
         ensures opening { result.opening.value ≡ opening_of self.now }
-        ensures found { found_of seat.new ≡ result.history.items }
+        ensures found { found_history seat.new ≡ result.history.items }
         ensures calls { (calls_of seat.new ≡ calls_of seat.old) × (calls_of seat.old ≡ own pass result.history.items) }
     {
         for _ in rt.forever() {
@@ -50,7 +52,7 @@ impl Lock {
     fn give(&self, seat: &mut Seat, pass: u64, page: Page)
         requires held { IsHolder self.now pass seat.old }
         requires opening { page.opening.value ≡ opening_of self.now }
-        requires adds { Adds pass (found_of seat.old) page.history.items }
+        requires adds { AddsAtMostOne pass (found_history seat.old) page.history.items }
         ensures own { IsSeatOf self.now pass seat.new }
         ensures calls { calls_of seat.new ≡ own pass page.history.items }
     {
@@ -68,8 +70,7 @@ impl Lock {
     ) -> Result<(), (Shared, BookFault)>
         requires own { IsSeatOf self.now pass seat.old }
         ensures own { IsSeatOf self.now pass seat.new }
-        ensures kin { OnOk result (MarkKin (opening_of self.now) mark) }
-        ensures foreign { IfErr result (λ e. (e.1 ≡ ForeignOrigin) ↔ (MarkKin (opening_of self.now) mark → ⊥)) }
+        ensures foreign { RefusesForeign (opening_of self.now) mark result }
         ensures ok { OnOk result (calls_of seat.new ≡ calls_of seat.old ++ Merge pass mark.count ∷ []) }
         ensures err { IfErr result (λ e. (e.0 ≡ mark) × (calls_of seat.new ≡ calls_of seat.old)) }
     {
@@ -96,7 +97,7 @@ impl Lock {
 
     /// A lock, and a seat that stands for all passes.
     pub fn new(alloc: Global, opening: Shared, passes: usize) -> Result<(Lock, Seat), AllocError>
-        ensures { IfOk result (λ r. (opening_of r.0 ≡ opening) × (passes_of r.0 ≡ passes) × IsDealer r.0 passes r.1) }
+        ensures { IfOk result (λ r. (opening_of r.0 ≡ opening) × (lock_passes r.0 ≡ passes) × StandsForNew r.0 passes r.1) }
     {
         let mut slots = Vec::with_capacity(alloc, 1)?;
         let start = Start {
@@ -110,19 +111,19 @@ impl Lock {
         }
     }
 
-    /// Cuts the seat of the last pass off.
-    pub fn part(&self, dealer: &mut Seat, last: usize) -> Seat
-        requires { IsDealer self.now (suc last) dealer.old }
-        ensures rest { IsDealer self.now last dealer.new }
+    /// Splits the seat of the last pass off.
+    pub fn split_off(&self, rest: &mut Seat, last: usize) -> Seat
+        requires { StandsForNew self.now (suc last) rest.old }
+        ensures rest { StandsForNew self.now last rest.new }
         ensures seat { IsSeatOf self.now last result × (calls_of result ≡ []) }
     {
         Seat {
-            place: self.table.shared.split_seat::<Parting>(&mut dealer.place),
+            place: self.table.shared.split_seat::<Parting>(&mut rest.place),
         }
     }
 
     /// A seat that stands for no pass.
-    pub fn nobody(&self) -> Seat
+    pub fn empty_seat(&self) -> Seat
         ensures { StandsFor self.now [] result }
     {
         Seat {
@@ -130,11 +131,11 @@ impl Lock {
         }
     }
 
-    /// A seat stands for one pass more.
+    /// The seat stands for one pass more.
     pub fn absorb(&self, all: &mut Seat, seat: Seat, pass: u64)
         requires seat { IsSeatOf self.now pass seat }
-        requires all { StandsFor self.now (who_of all.old) all.old }
-        ensures { StandsFor self.now (who_of all.old ++ (pass, calls_of seat) ∷ []) all.new }
+        requires all { StandsFor self.now (seat_passes all.old) all.old }
+        ensures { StandsFor self.now (seat_passes all.old ++ (pass, calls_of seat) ∷ []) all.new }
     {
         self.table
             .shared
@@ -143,10 +144,10 @@ impl Lock {
 
     /// The page, where the seat stands for all passes.
     pub fn close(self, all: Seat) -> Page
-        requires all { StandsFor self (who_of all) all × (length (who_of all) ≡ passes_of self) }
+        requires { StandsForAll self all }
         ensures opening { result.opening.value ≡ opening_of self }
-        ensures calls { (x : Who) → In (who_of all) x → x.1 ≡ own x.0 result.history.items }
-        ensures no_others { (c : Call) → In result.history.items c → (calls : List Call) × In (who_of all) (by c, calls) }
+        ensures calls { (p : PassCalls) → In (seat_passes all) p → p.1 ≡ own p.0 result.history.items }
+        ensures no_others { (c : Call) → In result.history.items c → (calls : List Call) × In (seat_passes all) (by c, calls) }
     {
         let Lock { table } = self;
         let mut closed = table.close_with(all.place);
@@ -155,10 +156,10 @@ impl Lock {
         page
     }
 
-    /// What is left, where the seat stands for all passes.
+    /// The mark and the history, where the seat stands for all passes.
     pub fn finish(self, all: Seat) -> (Shared, Vec<Call>)
-        requires all { StandsFor self (who_of all) all × (length (who_of all) ≡ passes_of self) }
-        ensures { IsEnd (opening_of self) (who_of all) result.0 result.1.items }
+        requires { StandsForAll self all }
+        ensures { IsClosedLock (opening_of self) (seat_passes all) result.0 result.1.items }
     {
         self.close(all).into_parts()
     }

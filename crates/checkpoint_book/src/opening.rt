@@ -1,8 +1,7 @@
 //! Books and their passes, as they are made.
-ghost use Rattle.std.specs.Prelude.{◌≡◌, ◌<◌, ℕ, suc, IfOk, OnErr, Err, All, vec_len};
+ghost use Rattle.std.specs.Prelude.{◌≡◌, ◌<◌, ℕ, suc, IfOk, IfErr, All, vec_len};
 ghost use Rattle.join_law.specs.Eight.{place_of};
-ghost use Rattle.checkpoint_book.specs.Seats.{opening_of, passes_of, IsDealer};
-ghost use Rattle.checkpoint_book.specs.Passes.{AreDealers, AreNewPasses, IsNewPass, IsPassOf, opening_at, passes_in};
+ghost use Rattle.checkpoint_book.specs.Passes.{StandForNew, AreNewPasses, IsNewPass, IsPassOf, opening_at, passes_in};
 ghost use Rattle.checkpoint.specs.Aligned.{IsAligned};
 ghost use Rattle.checkpoint_book.specs.declared.fault.BookFault.TheVariants.{OutOfMemory};
 
@@ -27,64 +26,47 @@ impl Book {
         ensures count { IfOk result (λ r. (passes_in r.0 ≡ passes) × (vec_len r.1 ≡ passes)) }
         ensures own { IfOk result (λ r. All (IsPassOf r.0) r.1.items) }
         ensures passes { IfOk result (λ r. AreNewPasses r.0 passes 0 r.1.items) }
-        ensures err { OnErr result (result ≡ Err OutOfMemory) }
+        ensures err { IfErr result (λ e. e ≡ OutOfMemory) }
     {
-        match Book::opened(alloc, opening, passes) {
-            Ok(opened) => Ok(opened),
-            Err(_) => Err(BookFault::OutOfMemory),
-        }
-    }
-
-    fn opened(
-        alloc: Global,
-        opening: Eight<Shared>,
-        passes: usize,
-    ) -> Result<(Book, Vec<Pass>), AllocError>
-        requires aligned { IsAligned opening }
-        ensures opening { IfOk result (λ r. (i : ℕ) → i < 8 → opening_at i r.0 ≡ place_of opening i) }
-        ensures count { IfOk result (λ r. (passes_in r.0 ≡ passes) × (vec_len r.1 ≡ passes)) }
-        ensures own { IfOk result (λ r. All (IsPassOf r.0) r.1.items) }
-        ensures passes { IfOk result (λ r. AreNewPasses r.0 passes 0 r.1.items) }
-    {
-        let (book, dealers) = made(alloc, opening, passes)?;
-        let dealt = book.deal(alloc, dealers)?;
+        let (book, all) = book_and_seats(alloc, opening, passes)?;
+        let dealt = book.deal(alloc, all)?;
         Ok((book, dealt))
     }
 
-    // Cuts all passes off, the last one first.
-    fn deal(&self, alloc: Global, dealers: Eight<Seat>) -> Result<Vec<Pass>, AllocError>
-        requires { AreDealers self.now self.now.passes dealers }
+    // Gives each pass its own seats, the last one first.
+    fn deal(&self, alloc: Global, all: Eight<Seat>) -> Result<Vec<Pass>, AllocError>
+        requires { StandForNew self.now self.now.passes all }
         ensures count { IfOk result (λ v. vec_len v ≡ self.now.passes) }
         ensures own { IfOk result (λ v. All (IsPassOf self.now) v.items) }
         ensures passes { IfOk result (λ v. AreNewPasses self.now self.now.passes 0 v.items) }
     {
         let mut dealt = Vec::with_capacity(alloc, self.passes)?;
-        let mut dealers = dealers;
+        let mut rest = all;
         let mut last = self.passes;
         while last > 0 {
             last -= 1;
-            let pass = self.part(&mut dealers, last);
+            let pass = self.split_off(&mut rest, last);
             dealt.push_reserved(pass);
         }
         Ok(dealt)
     }
 
-    // Cuts the last pass off.
-    fn part(&self, dealers: &mut Eight<Seat>, last: usize) -> Pass
-        requires { AreDealers self.now (suc last) dealers.old }
-        ensures rest { AreDealers self.now last dealers.new }
+    // Splits the last pass off.
+    fn split_off(&self, rest: &mut Eight<Seat>, last: usize) -> Pass
+        requires { StandForNew self.now (suc last) rest.old }
+        ensures rest { StandForNew self.now last rest.new }
         ensures pass { IsNewPass self.now last result }
     {
         let locks = &self.locks;
         let seats = Eight {
-            c0: locks.c0.part(&mut dealers.c0, last),
-            c1: locks.c1.part(&mut dealers.c1, last),
-            c2: locks.c2.part(&mut dealers.c2, last),
-            c3: locks.c3.part(&mut dealers.c3, last),
-            c4: locks.c4.part(&mut dealers.c4, last),
-            c5: locks.c5.part(&mut dealers.c5, last),
-            c6: locks.c6.part(&mut dealers.c6, last),
-            c7: locks.c7.part(&mut dealers.c7, last),
+            c0: locks.c0.split_off(&mut rest.c0, last),
+            c1: locks.c1.split_off(&mut rest.c1, last),
+            c2: locks.c2.split_off(&mut rest.c2, last),
+            c3: locks.c3.split_off(&mut rest.c3, last),
+            c4: locks.c4.split_off(&mut rest.c4, last),
+            c5: locks.c5.split_off(&mut rest.c5, last),
+            c6: locks.c6.split_off(&mut rest.c6, last),
+            c7: locks.c7.split_off(&mut rest.c7, last),
         };
         Pass {
             number: last as u64,
@@ -93,15 +75,15 @@ impl Book {
     }
 }
 
-// The locks, and a seat of each that stands for all passes.
-fn made(
+// A book of locks, and a seat of each that stands for all passes.
+fn book_and_seats(
     alloc: Global,
     opening: Eight<Shared>,
     passes: usize,
 ) -> Result<(Book, Eight<Seat>), AllocError>
     requires aligned { IsAligned opening }
     ensures opening { IfOk result (λ r. (i : ℕ) → i < 8 → opening_at i r.0 ≡ place_of opening i) }
-    ensures dealers { IfOk result (λ r. (r.0.passes ≡ passes) × AreDealers r.0 passes r.1) }
+    ensures seats { IfOk result (λ r. (r.0.passes ≡ passes) × StandForNew r.0 passes r.1) }
 {
     let Eight {
         c0: m0,
@@ -131,7 +113,7 @@ fn made(
         c6: l6,
         c7: l7,
     };
-    let dealers = Eight {
+    let all = Eight {
         c0: s0,
         c1: s1,
         c2: s2,
@@ -141,5 +123,5 @@ fn made(
         c6: s6,
         c7: s7,
     };
-    Ok((Book { locks, passes }, dealers))
+    Ok((Book { locks, passes }, all))
 }

@@ -1,7 +1,8 @@
 //! What lies under a lock: the mark and the calls that led to it.
-ghost use Rattle.std.specs.Prelude.{◌≡◌, ◌↔◌, ◌≤◌, true, [], ◌∷◌, ◌++◌, IfOk, IfErr, OnOk, OnErr};
+ghost use Rattle.std.specs.Prelude.{◌≡◌, true, [], ◌∷◌, ◌++◌, IfOk, IfErr, OnOk};
 ghost use Rattle.checkpoint.specs.Further.{MarkKin};
-ghost use Rattle.checkpoint_book.specs.declared.fault.BookFault.TheVariants.{ForeignOrigin, OutOfMemory};
+ghost use Rattle.checkpoint_book.specs.declared.fault.BookFault.TheVariants.{OutOfMemory};
+ghost use Rattle.checkpoint_book.specs.Foreign.{RefusesForeign};
 ghost use Rattle.checkpoint_book.specs.History.{best, is_legal};
 ghost use Rattle.checkpoint_book.specs.declared.call.Call.TheVariants.{Merge, Read};
 
@@ -36,8 +37,7 @@ impl Page {
     /// Adds a merge. At `Err` nothing changed, and the mark comes back.
     pub(crate) fn merge(&mut self, pass: u64, mark: Shared) -> Result<(), (Shared, BookFault)>
         ensures opening { self.new.opening ≡ self.old.opening }
-        ensures kin { OnOk result (MarkKin self.old.opening.value mark) }
-        ensures foreign { IfErr result (λ e. (e.1 ≡ ForeignOrigin) ↔ (MarkKin self.old.opening.value mark → ⊥)) }
+        ensures foreign { RefusesForeign self.old.opening.value mark result }
         ensures ok { OnOk result (self.new.history.items ≡ self.old.history.items ++ Merge pass mark.count ∷ []) }
         ensures err { IfErr result (λ e. (e.0 ≡ mark) × (self.new.history.items ≡ self.old.history.items)) }
     {

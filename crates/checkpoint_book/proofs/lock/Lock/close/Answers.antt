@@ -2,8 +2,9 @@ use Rattle.std.proofs.Common.{sym, ap, ◌∙◌, subst, ◌≡◌, Option, Some
 use Rattle.atomic_table.specs.Table.{Seen, Final}
 use Rattle.checkpoint_book.specs.declared.page.Page.{Page}
 use Rattle.checkpoint_book.specs.History.{own}
-use Rattle.checkpoint_book.specs.Rule.{Locked, Place}
-use Rattle.checkpoint_book.specs.Seats.{who_of}
+use Rattle.checkpoint_book.specs.OneHistory.{HasOneHistory}
+use Rattle.checkpoint_book.specs.Steps.{SeatState}
+use Rattle.checkpoint_book.specs.LockSeats.{seat_passes}
 use Rattle.std.specs.Slots.{slots_items}
 use Rattle.std.proofs.Common.{IsSome}
 use Rattle.checkpoint_book.specs.Among.{In}
@@ -16,11 +17,10 @@ use Rattle.checkpoint_book.proofs.lock.Lock.close.Goals.{After-take, After-free}
 abbrev key_of : After-take → Start
 key_of c = c.args.self.table.shared.key
 
-settled : (c : After-take) → Settled (key_of c) (who_of c.args.all) (slots_items c.close_with-closed.result.slots)
+settled : (c : After-take) → Settled (key_of c) (seat_passes c.args.all) (slots_items c.close_with-closed.result.slots)
 settled c =
-    let a = c.requires.all in
-    settles (key_of c) c.args.all.place.id c.args.all.place.me.0.opening (who_of c.args.all) (slots_items c.close_with-closed.result.words) (slots_items c.close_with-closed.result.slots) a.1
-    (subst (λ (m : Place). Final (Seen (Locked (key_of c)) c.args.all.place.id m.0) (slots_items c.close_with-closed.result.words) (slots_items c.close_with-closed.result.slots)) a.0.me c.close_with-closed.ensures.values.2)
+    settles (key_of c) c.args.all.place.id c.args.all.place.me.0.opening (seat_passes c.args.all) (slots_items c.close_with-closed.result.words) (slots_items c.close_with-closed.result.slots) c.requires.all
+    (subst (λ (m : SeatState). Final (Seen (HasOneHistory (key_of c)) c.args.all.place.id m.0) (slots_items c.close_with-closed.result.words) (slots_items c.close_with-closed.result.slots)) c.requires.own.state c.close_with-closed.ensures.values.2)
 
 taken : (c : After-take) → c.take.result ≡ Some (settled c).page
 taken c = some-injective _ _ (sym c.take.ensures.value ∙ (settled c).there)

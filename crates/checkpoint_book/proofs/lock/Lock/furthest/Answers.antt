@@ -1,7 +1,7 @@
 use Rattle.std.proofs.Common.{sym, ◌∙◌, ◌≤◌, ℕ, refl, subst}
 use Rattle.checkpoint_book.specs.declared.call.Call.TheVariants.{Read}
 use Rattle.checkpoint_book.specs.History.{greatest}
-use Rattle.checkpoint_book.specs.Seats.{calls_of}
+use Rattle.checkpoint_book.specs.LockSeats.{calls_of}
 use Rattle.checkpoint_book.proofs.Histories.{own_added, if_ok, reading_above}
 use Rattle.checkpoint_book.proofs.lock.Lock.furthest.Goals as goal
 
