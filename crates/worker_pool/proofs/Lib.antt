@@ -1,0 +1,9 @@
+pub mod Kept
+pub mod Thieves
+pub mod Results
+pub mod Logs
+pub mod Owners
+pub mod Steps
+pub mod NewRuns
+pub mod Sorted
+pub mod Together
