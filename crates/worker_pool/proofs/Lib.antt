@@ -2,6 +2,7 @@ pub mod Kept
 pub mod Thieves
 pub mod Results
 pub mod Logs
+pub mod Shifts
 pub mod Owners
 pub mod Steps
 pub mod NewRuns

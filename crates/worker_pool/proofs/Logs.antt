@@ -1,25 +1,11 @@
--- What a worker did, with one job more.
-use Rattle.std.proofs.Common.{◌≡◌, ℕ, suc, ◌+◌, List, [], ◌∷◌, ◌++◌, Option, length, refl, sym, ap, ◌∙◌, subst, arith, append_assoc, append-nil}
+-- Logs with one job more.
+use Rattle.std.proofs.Common.{◌≡◌, ℕ, ◌+◌, List, [], ◌∷◌, ◌++◌, Option, sym, ap, ◌∙◌, subst, arith, append_assoc, append-nil}
 use Rattle.std.proofs.lemmas.List.Sums.{sum_by_push}
-use Rattle.worker_pool.specs.declared.thief.Thief.{Thief}
-use Rattle.worker_pool.specs.declared.kit.Kit.{Kit}
-use Rattle.worker_pool.specs.declared.shift.Shift.{Shift}
 use Rattle.worker_pool.specs.declared.log.Log.{Log}
-use Rattle.worker_pool.specs.Thieves.{taken_in, deques_of}
 use Rattle.worker_pool.specs.Results.{IsSumOfEnds}
 use Rattle.worker_pool.specs.Numbers.{ended, jobs_of}
-use Rattle.worker_pool.specs.Kits.{seats_of}
 use Rattle.worker_pool.specs.Logs.{IsLogOf}
-use Rattle.worker_pool.specs.Shifts.{IsShiftOf}
 use Rattle.std.proofs.lemmas.List.{map_push}
-
-pub length-deques_of : (row : List Thief) → length (deques_of row) ≡ length row
-length-deques_of [] = refl
-length-deques_of (t ∷ ts) = ap suc (length-deques_of ts)
-
--- rows of the same deques are equally long
-pub same_length : (row row' : List Thief) → deques_of row' ≡ deques_of row → length row' ≡ length row
-same_length row row' e = sym (length-deques_of row') ∙ (ap length e ∙ length-deques_of row)
 
 pub ended_push : {N : Type 0} (h : ℕ → ℕ) (ends ends' : List (ℕ × Option N)) (job : ℕ) (end : Option N) → ends' ≡ ends ++ (job, end) ∷ [] → ended h ends' ≡ ended h ends + h job
 ended_push h ends ends' job end e = ap (ended h) e ∙ sum_by_push (λ e. h e.0) ends (job, end)
@@ -42,24 +28,9 @@ module _ {S J N : Type 0} (is_own : S → Type 0) (room_of : S → ℕ) (runs_of
     logged = logged;
   }
 
-  pub shift_of_more : (kit : Kit S) (r r' : Shift S J N) (job : ℕ) (end : Option N) → IsShiftOf is_own room_of runs_of gives is_kin joined kit r → is_own r'.seat → room_of r'.seat + 1 ≡ room_of r.seat → runs_of r'.seat ≡ runs_of r.seat ++ (job, end) ∷ [] → r'.log.ends.items ≡ r.log.ends.items ++ (job, end) ∷ []
-      → deques_of r'.row.items ≡ deques_of r.row.items → ((h : ℕ → ℕ) → taken_in h r'.row.items ≡ taken_in h r.row.items + h job) → IsSumOfEnds gives is_kin joined r'.log.ends.items r'.log.total → IsShiftOf is_own room_of runs_of gives is_kin joined kit r'
-  shift_of_more kit r r' job end d own place runs ends deques taken logged = record {
-    log = log_of_more kit.seat r.seat r'.seat r.log r'.log job end d.log own place runs ends logged;
-    deques = deques ∙ d.deques;
-    taken = λ h. let e = ended_push h r.log.ends.items r'.log.ends.items job end ends in let t = taken h in let o = d.taken h in omega arith;
-  }
-
 -- one job went from those left to the log
 pub next_jobs : {N : Type 0} (es es' : List (ℕ × Option N)) (rest rest' all : List ℕ) (job : ℕ) (end : Option N) → es' ≡ es ++ (job, end) ∷ [] → rest ≡ job ∷ rest' → jobs_of es ++ rest ≡ all → jobs_of es' ++ rest' ≡ all
 next_jobs {N} es es' rest rest' all job end e steps h =
     ap (λ l. jobs_of l ++ rest') e
     ∙ (ap (λ l. l ++ rest') (map_push (λ (x : ℕ × Option N). x.0) es (job, end))
     ∙ (append_assoc (jobs_of es) (job ∷ []) rest' ∙ (ap (λ l. jobs_of es ++ l) (sym steps) ∙ h)))
-
--- one seat went from those left to the kits
-pub seats_next : {S : Type 0} (kits kits' : List (Kit S)) (rest rest' all : List S) (k : Kit S) → kits' ≡ kits ++ k ∷ [] → rest ≡ k.seat ∷ rest' → seats_of kits ++ rest ≡ all → seats_of kits' ++ rest' ≡ all
-seats_next {S} kits kits' rest rest' all k e steps h =
-    ap (λ l. seats_of l ++ rest') e
-    ∙ (ap (λ l. l ++ rest') (map_push (λ (x : Kit S). x.seat) kits k)
-    ∙ (append_assoc (seats_of kits) (k.seat ∷ []) rest' ∙ (ap (λ l. seats_of kits ++ l) (sym steps) ∙ h)))

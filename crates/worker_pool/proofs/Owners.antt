@@ -11,7 +11,7 @@ use Rattle.atomic_blocks.specs.Lent.{RowsId}
 use Rattle.crossbeam_deque.specs.Handles.{worker_view, worker_deque, worker_flavor, stealer_deque}
 use Rattle.worker_pool.specs.declared.thief.Thief.{Thief}
 use Rattle.worker_pool.specs.Thieves.{deques_of}
-use Rattle.worker_pool.proofs.Logs.{length-deques_of}
+use Rattle.worker_pool.proofs.Thieves.{length-deques_of}
 use Rattle.worker_pool.specs.Owners.{Owner, IsOwner, parts, dealt_in, taken_by, owned}
 use Rattle.worker_pool.specs.Numbers.{numbers}
 

@@ -17,3 +17,7 @@ pub taken_set : (h : ℕ → ℕ) (row : List Thief) (i : ℕ) (old t : Thief) �
 taken_set h row i old t l is =
     let s = sum_by-set (λ (u : Thief). sum_by h (view u.pass).taken) row i t old l in
     let e = ap (λ (u : Thief). sum_by h (view u.pass).taken) is in omega arith
+
+pub length-deques_of : (row : List Thief) → length (deques_of row) ≡ length row
+length-deques_of [] = refl
+length-deques_of (t ∷ ts) = ap suc (length-deques_of ts)

@@ -2,11 +2,12 @@ pub mod Rule
 pub mod Numbers
 pub mod Weights
 pub mod Thieves
+pub mod Owners
+pub mod Supplies
 pub mod Results
 pub mod Logs
 pub mod Kits
 pub mod Shifts
-pub mod Owners
 pub mod Turns
 pub mod Seats
 pub mod Done

@@ -1,18 +1,19 @@
 //! Kits for workers, and workers in threads.
-ghost use Rattle.std.specs.Prelude.{◌≡◌, ◌-◌, ◌<◌, ◌≤◌, ℕ, All, IfOk, length, vec_len, map, slice_index_or};
+ghost use Rattle.std.specs.Prelude.{◌≡◌, ◌<◌, ℕ, All, IfOk, length, vec_len, slice_index_or};
 ghost use Rattle.worker_pool.specs.declared.kit.Kit.{Kit};
 ghost use Rattle.worker_pool.specs.declared.shift.Shift.{Shift};
-ghost use Rattle.worker_pool.specs.Rule.{whole};
-ghost use Rattle.worker_pool.specs.Owners.{IsOwner, dealt_in, taken_by, owned};
+ghost use Rattle.worker_pool.specs.Owners.{IsOwner, owned};
 ghost use Rattle.worker_pool.specs.Results.{AllResultsKin};
-ghost use Rattle.worker_pool.specs.Kits.{IsKit, IsReady, seats_of};
+ghost use Rattle.worker_pool.specs.Kits.{IsKit, IsReady, seats_of, owners_of};
 ghost use Rattle.worker_pool.specs.Shifts.{IsShiftOf};
+ghost use Rattle.worker_pool.specs.Thieves.{IsNewRow};
 
 use crate::gate::Gate;
 use crate::kit::Kit;
-use crate::rows::cut_row;
+use crate::owner::Owner;
 use crate::shift::Shift;
-use crate::thief::Owner;
+use crate::supply::Supply;
+use crate::thief::Thief;
 use crate::work::Work;
 use crate::worker::run_kit;
 use join_law::Join;
@@ -21,25 +22,25 @@ use std::sync::Wait;
 use std::thread;
 use std::thread::Threads;
 
-/// A kit for each seat.
+/// A kit for each seat: an owner and a row.
 pub(crate) fn kits<S: Drop>(
     alloc: Global,
-    owners: &mut Vec<Owner>,
+    owners: Vec<Owner>,
+    rows: Vec<Vec<Thief>>,
     seats: Vec<S>,
 ) -> Result<Vec<Kit<S>>, AllocError>
-    requires many { (vec_len seats ≡ vec_len owners.old) × (vec_len seats ≤ 64) }
-    requires owners { All (IsOwner whole) owners.old.items }
+    requires many { (vec_len owners ≡ vec_len seats) × (vec_len rows ≡ vec_len seats) }
+    requires owners { (p : ℕ) × (0 < p) × All (IsOwner p) owners.items }
+    requires rows { All (IsNewRow (owned owners.items)) rows.items }
     ensures seats { IfOk result (λ v. seats_of v.items ≡ seats.items) }
-    ensures kits { IfOk result (λ v. All (IsKit (owned owners.old.items)) v.items) }
-    ensures same { IfOk result (λ v. owned owners.new.items ≡ owned owners.old.items) }
-    ensures jobs { IfOk result (λ v. (h : ℕ → ℕ) → (dealt_in h owners.new.items ≡ dealt_in h owners.old.items) × (taken_by h owners.new.items ≡ taken_by h owners.old.items)) }
-    ensures parts { IfOk result (λ v. All (IsOwner (whole - vec_len seats)) owners.new.items) }
+    ensures owners { IfOk result (λ v. owners_of v.items ≡ owners.items) }
+    ensures rows { IfOk result (λ v. All (IsKit (owned owners.items)) v.items) }
 {
     let mut kits = Vec::with_capacity(alloc, seats.len())?;
-    for seat in seats {
-        let row = cut_row(alloc, owners)?;
+    for (seat, (owner, row)) in seats.into_iter().zip(owners.into_iter().zip(rows)) {
         let own = kits.len();
-        kits.push_reserved(Kit { seat, row, own });
+        let supply = Supply { owner, row, own };
+        kits.push_reserved(Kit { seat, supply });
     }
     Ok(kits)
 }

@@ -1,13 +1,11 @@
 //! Jobs dealt to deques.
-ghost use Rattle.std.specs.Prelude.{◌≡◌, ◌<◌, ◌≤◌, ◌++◌, ◌∷◌, ℕ, [], All, IfOk, vec_len};
+ghost use Rattle.std.specs.Prelude.{◌≡◌, ◌<◌, ◌≤◌, ℕ, All, IfOk, vec_len};
 ghost use Rattle.std.specs.List.{sum_by};
-ghost use Rattle.crossbeam_deque.specs.Handles.{worker_deque, worker_view, worker_flavor};
-ghost use Rattle.worker_pool.specs.Rule.{whole, hand};
-ghost use Rattle.worker_pool.specs.Owners.{IsOwner, dealt_in, taken_by, parts};
 ghost use Rattle.worker_pool.specs.Numbers.{numbers};
+ghost use Rattle.worker_pool.specs.Owners.{IsOwner, dealt_in, taken_by};
+ghost use Rattle.worker_pool.specs.Rule.{whole};
 
-use crate::rule::Deals;
-use crate::thief::Owner;
+use crate::owner::{Owner, deal_one};
 use std::alloc::{AllocError, Global};
 
 /// So many deques, to which the jobs are dealt in turn.
@@ -39,16 +37,4 @@ fn owners(alloc: Global, workers: usize, capacity: usize) -> Result<Vec<Owner>, 
         owners.push_reserved(owner);
     }
     Ok(owners)
-}
-
-// Deals a job.
-fn deal_one(owner: &mut Owner, job: usize) -> Result<(), AllocError>
-    requires { 0 < parts owner.old }
-    ensures same { (worker_deque owner.new ≡ worker_deque owner.old) × (worker_flavor owner.new ≡ worker_flavor owner.old) }
-    ensures view { IfOk result (λ _. worker_view owner.new ≡ hand (parts owner.old) ((worker_view owner.old).dealt ++ job ∷ []) (worker_view owner.old).taken) }
-{
-    match owner.push_as::<Deals>(job) {
-        Ok(()) => Ok(()),
-        Err(_) => Err(AllocError),
-    }
 }

@@ -2,11 +2,10 @@
 ghost use Rattle.std.specs.Prelude.{◌≡◌, ◌+◌, ℕ, All, IfOk};
 ghost use Rattle.std.specs.List.{sum_by};
 ghost use Rattle.crossbeam_deque.specs.Handles.{worker_view};
-ghost use Rattle.worker_pool.specs.Rule.{whole};
 ghost use Rattle.worker_pool.specs.Owners.{IsOwner, dealt_in, taken_by};
+ghost use Rattle.worker_pool.specs.Rule.{whole};
 
-use crate::rule::Draws;
-use crate::thief::Owner;
+use crate::owner::{Owner, take_first};
 use std::alloc::{AllocError, Global};
 use std::sync::Wait;
 
@@ -35,7 +34,7 @@ fn drain_one<R: Wait>(rt: &R, owner: Owner, left: Vec<usize>) -> Result<Vec<usiz
     let mut left = left;
     for _ in rt.forever() {
         left.reserve(1)?;
-        match owner.pop_as::<Draws>() {
+        match take_first(&mut owner) {
             None => return Ok(left),
             Some(job) => left.push_reserved(job),
         }

@@ -1,42 +1,52 @@
 //! What the workers left.
-ghost use Rattle.std.specs.Prelude.{◌≡◌, ◌+◌, ◌-◌, ◌<◌, ℕ, All, IfOk, vec_len};
-ghost use Rattle.worker_pool.specs.Rule.{whole};
-ghost use Rattle.worker_pool.specs.Owners.{IsOwner, dealt_in, taken_by, owned};
-ghost use Rattle.worker_pool.specs.Shifts.{IsRowOf, turns_of, taken_in_rows};
+ghost use Rattle.std.specs.Prelude.{◌≡◌, IfOk};
+ghost use Rattle.worker_pool.specs.Shifts.{owners_in, rows_in, turns_of};
 
-use crate::rows::absorb_row;
+use crate::owner::Owner;
 use crate::shift::Shift;
-use crate::thief::Owner;
+use crate::supply::Supply;
+use crate::thief::Thief;
 use crate::turn::Turn;
 use std::alloc::{AllocError, Global};
 
-/// Absorbs the rows of all workers. At `Err` a worker lacked memory.
+/// The owners, the rows and the turns of all workers.
+#[derive(Drop)]
+pub(crate) struct Gathered<S: Drop, J: Drop, N: Drop> {
+    pub(crate) owners: Vec<Owner>,
+    pub(crate) rows: Vec<Vec<Thief>>,
+    pub(crate) turns: Vec<Turn<S, J, N>>,
+}
+
+/// Takes what the workers left apart. At `Err` memory was refused, here or to a worker.
 pub(crate) fn gather<S: Drop, J: Drop, N: Drop>(
     alloc: Global,
-    owners: &mut Vec<Owner>,
     shifts: Vec<Shift<S, J, N>>,
-) -> Result<Vec<Turn<S, J, N>>, AllocError>
-    requires rows { All (IsRowOf (owned owners.old.items)) shifts.items }
-    requires few { vec_len shifts < whole }
-    requires parts { All (IsOwner (whole - vec_len shifts)) owners.old.items }
-    ensures turns { IfOk result (λ v. v.items ≡ turns_of shifts.items) }
-    ensures dealt { IfOk result (λ v. (h : ℕ → ℕ) → dealt_in h owners.new.items ≡ dealt_in h owners.old.items) }
-    ensures taken { IfOk result (λ v. (h : ℕ → ℕ) → taken_by h owners.new.items ≡ taken_by h owners.old.items + taken_in_rows h shifts.items) }
-    ensures parts { IfOk result (λ v. All (IsOwner whole) owners.new.items) }
+) -> Result<Gathered<S, J, N>, AllocError>
+    ensures owners { IfOk result (λ g. g.owners.items ≡ owners_in shifts.items) }
+    ensures rows { IfOk result (λ g. g.rows.items ≡ rows_in shifts.items) }
+    ensures turns { IfOk result (λ g. g.turns.items ≡ turns_of shifts.items) }
 {
+    let mut owners = Vec::with_capacity(alloc, shifts.len())?;
+    let mut rows = Vec::with_capacity(alloc, shifts.len())?;
     let mut turns = Vec::with_capacity(alloc, shifts.len())?;
     for shift in shifts {
-        let Shift {
-            seat,
-            row,
-            log,
-            refused,
-        } = shift;
-        if refused {
+        if shift.refused {
             return Err(AllocError);
         }
-        absorb_row(owners, row);
+        let Shift {
+            seat,
+            supply,
+            log,
+            refused: _,
+        } = shift;
+        let Supply { owner, row, own: _ } = supply;
+        owners.push_reserved(owner);
+        rows.push_reserved(row);
         turns.push_reserved(Turn { seat, log });
     }
-    Ok(turns)
+    Ok(Gathered {
+        owners,
+        rows,
+        turns,
+    })
 }

@@ -1,11 +1,10 @@
 //! What a worker begins with.
 
-use crate::thief::Thief;
+use crate::supply::Supply;
 
-/// A seat, a thief for each deque, and which deque is the worker's own.
+/// A seat, and what jobs are taken from.
 #[derive(Drop)]
 pub struct Kit<S: Drop> {
     pub(crate) seat: S,
-    pub(crate) row: Vec<Thief>,
-    pub(crate) own: usize,
+    pub(crate) supply: Supply,
 }

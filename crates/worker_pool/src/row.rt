@@ -1,4 +1,4 @@
-//! A worker's thieves, one for each deque.
+//! A row of thieves, one for each deque.
 ghost use Rattle.std.specs.Prelude.{◌≡◌, ◌+◌, ◌<◌, ℕ, map, length};
 ghost use Rattle.std.specs.List.{sum_by};
 ghost use Rattle.crossbeam_deque.specs.Handles.{stealer_deque};
@@ -21,14 +21,14 @@ fn turned(first: usize, passed: usize, many: usize) -> usize
     }
 }
 
-/// A job of the worker's own deque, or else of another's. There is none where each deque was found empty.
-pub(crate) fn find_job<R: Wait>(rt: &R, row: &mut Vec<Thief>, own: usize) -> Option<usize>
+/// A job of another deque than the own, the next ones first. There is none where each was found empty.
+pub(crate) fn steal_one<R: Wait>(rt: &R, row: &mut Vec<Thief>, own: usize) -> Option<usize>
     requires { own < length row.old.items }
     ensures same { deques_of row.new.items ≡ deques_of row.old.items }
     ensures taken { (h : ℕ → ℕ) → taken_in h row.new.items ≡ taken_in h row.old.items + weight_of h result }
 {
     let many = row.len();
-    let mut passed = 0;
+    let mut passed = 1;
     while passed < many {
         if let Some(job) = row[turned(own, passed, many)].steal(rt) {
             return Some(job);

@@ -10,14 +10,15 @@ use crate::crew::{kits, run_kits};
 use crate::deal::deal;
 use crate::drain::drain;
 use crate::gate::Gate;
-use crate::gather::gather;
+use crate::gather::{Gathered, gather};
+use crate::rows::{absorb_rows, cut_rows};
 use crate::work::Work;
 use join_law::Join;
 use std::alloc::{AllocError, Global};
 use std::sync::Wait;
 use std::thread::Threads;
 
-/// Deals the jobs to the workers' deques and runs each worker in a thread, where one can be made. A worker whose own deque is empty steals.
+/// Deals the jobs to the workers' deques, and runs each worker in a thread, where one can be made.
 pub(crate) fn run_shared<
     J: Join + Send,
     W: Work<J> + Sync,
@@ -48,9 +49,16 @@ where
 {
     know_kin(work, &opening);
     let mut owners = deal(alloc, jobs, workers)?;
-    let kits = kits(alloc, &mut owners, seats)?;
+    let rows = cut_rows(alloc, &mut owners, workers)?;
+    let kits = kits(alloc, owners, rows, seats)?;
     let shifts = run_kits(rt, alloc, work, gate, jobs, kits)?;
-    let turns = gather(alloc, &mut owners, shifts)?;
+    let gathered = gather(alloc, shifts)?;
+    let Gathered {
+        mut owners,
+        rows,
+        turns,
+    } = gathered;
+    absorb_rows(&mut owners, rows);
     let left = drain(rt, alloc, owners)?;
     collect(rt, alloc, work, gate, jobs, opening, left, turns)
 }

@@ -1,16 +1,14 @@
-//! The ends of a deque.
-ghost use Rattle.std.specs.Prelude.{◌≡◌, ◌+◌, ◌++◌, ◌∷◌, ◌<◌, ℕ, [], MatchOption};
+//! A thief of a deque.
+ghost use Rattle.std.specs.Prelude.{◌≡◌, ◌+◌, ℕ, []};
 ghost use Rattle.std.specs.List.{sum_by};
-ghost use Rattle.crossbeam_deque.specs.Handles.{view, IsPassOf, SamePass, stealer_deque};
+ghost use Rattle.crossbeam_deque.specs.Handles.{view, IsPassOf, stealer_deque};
 ghost use Rattle.worker_pool.specs.Weights.{weight_of};
 
 use crate::hand::Hand;
 use crate::rule::{Fair, Steals};
-use crossbeam_deque::{Pass, Steal, Stealer, Worker};
+use crossbeam_deque::{Pass, Steal, Stealer};
 use std::alloc::Global;
 use std::sync::Wait;
-
-pub type Owner = Worker<usize, Global, Hand, Fair>;
 
 /// A stealer with its pass.
 #[derive(Drop)]
@@ -23,7 +21,7 @@ pub struct Thief {
 }
 
 impl Thief {
-    /// Steals a job, unless the deque was found empty.
+    /// Steals the first job of the deque, unless it was found empty.
     pub fn steal<R: Wait>(&mut self, rt: &R) -> Option<usize>
         ensures same { stealer_deque self.new.stealer ≡ stealer_deque self.old.stealer }
         ensures taken { (h : ℕ → ℕ) → sum_by h (view self.new.pass).taken ≡ sum_by h (view self.old.pass).taken + weight_of h result }

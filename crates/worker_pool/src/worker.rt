@@ -9,7 +9,6 @@ ghost use Rattle.worker_pool.specs.declared.kit.Kit.{Kit};
 use crate::gate::Gate;
 use crate::kit::Kit;
 use crate::log::Log;
-use crate::row::find_job;
 use crate::shift::Shift;
 use crate::turn::Turn;
 use crate::work::Work;
@@ -75,51 +74,36 @@ fn run_next<J: Join, W: Work<J>, G: Gate, R: Wait>(
     rt: &R,
     work: &W,
     gate: &G,
-    own: usize,
-    ran: Shift<W::Seat, J, W::Note>,
+    shift: Shift<W::Seat, J, W::Note>,
 ) -> (Shift<W::Seat, J, W::Note>, bool)
 where
     W::Seat: Drop,
     W::Note: Drop,
-    requires own { W.is_own work.now ran.seat }
-    requires room { 0 < W.room ran.seat }
-    requires place { own < length ran.row.items }
+    requires own { W.is_own work.now shift.seat }
+    requires room { 0 < W.room shift.seat }
     requires kin { AllResultsKin (W.gives work.now) J.is_kin }
-    requires logged { IsSumOfEnds (W.gives work.now) J.is_kin J.joined ran.log.ends.items ran.log.total }
-    ensures did { (kit : Kit W.Seat) → IsShiftOf (W.is_own work.now) W.room W.runs (W.gives work.now) J.is_kin J.joined kit ran → IsShiftOf (W.is_own work.now) W.room W.runs (W.gives work.now) J.is_kin J.joined kit result.0 }
-    ensures few { ended (λ _. 1) result.0.log.ends.items ≤ ended (λ _. 1) ran.log.ends.items + 1 }
-    ensures place { length result.0.row.items ≡ length ran.row.items }
+    requires logged { IsSumOfEnds (W.gives work.now) J.is_kin J.joined shift.log.ends.items shift.log.total }
+    ensures did { (kit : Kit W.Seat) → IsShiftOf (W.is_own work.now) W.room W.runs (W.gives work.now) J.is_kin J.joined kit shift → IsShiftOf (W.is_own work.now) W.room W.runs (W.gives work.now) J.is_kin J.joined kit result.0 }
+    ensures few { ended (λ _. 1) result.0.log.ends.items ≤ ended (λ _. 1) shift.log.ends.items + 1 }
 {
-    let Shift {
-        mut seat,
-        mut row,
-        mut log,
-        refused,
-    } = ran;
-    if log.ends.reserve(1).is_err() {
-        let ran = Shift {
-            seat,
-            row,
-            log,
-            refused: true,
-        };
-        return (ran, false);
+    let mut shift = shift;
+    if shift.log.ends.reserve(1).is_err() {
+        shift.refused = true;
+        return (shift, false);
     }
-    match find_job(rt, &mut row, own) {
-        None => {
-            let ran = Shift {
-                seat,
-                row,
+    match shift.supply.find_job(rt) {
+        None => (shift, false),
+        Some(job) => {
+            let Shift {
+                mut seat,
+                supply,
                 log,
                 refused,
-            };
-            (ran, false)
-        }
-        Some(job) => {
+            } = shift;
             let log = run_one(rt, work, gate, &mut seat, log, job);
             let ran = Shift {
                 seat,
-                row,
+                supply,
                 log,
                 refused,
             };
@@ -142,29 +126,28 @@ where
     W::Note: Drop,
     requires own { W.is_own work.now kit.seat }
     requires room { jobs ≤ W.room kit.seat }
-    requires place { kit.own < length kit.row.items }
     requires kin { AllResultsKin (W.gives work.now) J.is_kin }
     ensures { IsShiftOf (W.is_own work.now) W.room W.runs (W.gives work.now) J.is_kin J.joined kit result }
 {
-    let Kit { seat, row, own } = kit;
+    let Kit { seat, supply } = kit;
     let log = Log {
         ends: Vec::new(alloc),
         total: None,
     };
-    let mut ran = Shift {
+    let mut shift = Shift {
         seat,
-        row,
+        supply,
         log,
         refused: false,
     };
     for _ in 0..jobs {
-        let (next, more) = run_next(rt, work, gate, own, ran);
-        ran = next;
+        let (next, more) = run_next(rt, work, gate, shift);
+        shift = next;
         if !more {
             break;
         }
     }
-    ran
+    shift
 }
 
 /// Runs jobs in their order.

@@ -1,6 +1,6 @@
 use Rattle.std.proofs.Common.{◌≡◌, ◌-◌, ℕ, length}
 use Rattle.worker_pool.specs.Thieves.{taken_in, deques_of}
-use Rattle.worker_pool.proofs.row.find_job.Given as goal
+use Rattle.worker_pool.proofs.row.steal_one.Given as goal
 
 abbrev pub decreases-loop-passed : goal.decreases-loop-passed
 decreases-loop-passed g l = l.many - l.passed

@@ -1,6 +1,6 @@
 use Rattle.std.proofs.Common.{arith, ◌∙◌, length-set}
 use Rattle.worker_pool.proofs.Thieves.{deques_set, taken_set}
-use Rattle.worker_pool.proofs.row.find_job.Goals as goal
+use Rattle.worker_pool.proofs.row.steal_one.Goals as goal
 
 pub returns-in-Some-clause-same : goal.returns-in-Some-clause-same
 returns-in-Some-clause-same g c = let i = c.loop-passed.invariant in let many = i.many in let at = c.turned.ensures in
