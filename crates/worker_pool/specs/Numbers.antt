@@ -1,4 +1,4 @@
--- Jobs by their numbers.
+-- Jobs by their numbers. A list of jobs is weighed by what each job weighs: two lists that weigh the same, whatever the jobs weigh, have each job equally often
 use Rattle.std.specs.Prelude.{ℕ, zero, suc, List, [], ◌∷◌, Option, map}
 use Rattle.std.specs.List.{sum_by}
 

@@ -12,16 +12,19 @@ use Rattle.worker_pool.specs.declared.rule.Fair.{Fair}
 abbrev pub Owner : Type 0
 Owner = Worker ℕ Global Hand Fair
 
--- the weight of the jobs dealt to deques, and of those that their owners know to be taken
+-- the weight of what owners dealt
 abbrev pub dealt_in : (ℕ → ℕ) → List Owner → ℕ
 dealt_in h owners = sum_by (λ (o : Owner). sum_by h (worker_view o).dealt) owners
 
+-- the weight of what owners took
 abbrev pub taken_by : (ℕ → ℕ) → List Owner → ℕ
 taken_by h owners = sum_by (λ (o : Owner). sum_by h (worker_view o).taken) owners
 
+-- the deques of owners
 abbrev pub owned : List Owner → List (RowsId × Global)
 owned owners = map (λ (o : Owner). worker_deque o) owners
 
+-- the parts of an owner's pass
 abbrev pub parts : Owner → ℕ
 parts o = (worker_view o).parts
 

@@ -18,7 +18,7 @@ use join_law::Join;
 use std::alloc::{AllocError, Global};
 use std::sync::Wait;
 
-/// The seats, the ends as the seats tell them, and the join of the opening and all results.
+/// The seats, the ends in the order of the seats, and the join of the opening and all results.
 #[derive(Drop)]
 pub(crate) struct Sum<S: Drop, J: Drop, N: Drop> {
     pub(crate) seats: Vec<S>,

@@ -5,7 +5,7 @@ ghost use Rattle.worker_pool.specs.Numbers.{numbers, ended, jobs_of, numbered};
 
 use std::alloc::{AllocError, Global};
 
-/// The ends of the jobs from 0 on, of which each stands there once.
+/// The ends of the jobs from 0 on, each of which is there once.
 pub(crate) fn in_order<N: Drop>(
     alloc: Global,
     jobs: usize,
