@@ -1,0 +1,7 @@
+//! The codes of refusals, and what each means.
+#![tactic(auto)]
+
+mod code;
+mod explanation;
+
+pub use code::Code;
