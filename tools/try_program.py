@@ -12,11 +12,14 @@ import re
 import subprocess
 import sys
 import tempfile
-from typing import List, NamedTuple, Sequence, Tuple, Union
+from typing import Dict, List, NamedTuple, Sequence, Tuple, Union
 
 Word = Union[str, bytes]
 
-PLANS = os.path.join(os.path.dirname(os.path.dirname(os.path.abspath(__file__))), "examples", "plans")
+TOP = os.path.dirname(os.path.dirname(os.path.abspath(__file__)))
+PLANS = os.path.join(TOP, "examples", "plans")
+# The longest line of a paragraph that `explain` prints.
+WIDTH = 100
 
 
 def kept(name: str) -> str:
@@ -71,6 +74,12 @@ job 9 needs 240240 limit 300
 job 10 needs 240240 limit 300
 job 11 open
 """
+
+
+def paragraphs() -> Dict[str, str]:
+    """The paragraph of each code, from docs/formats.md."""
+    with open(os.path.join(TOP, "docs", "formats.md"), encoding="utf-8") as file:
+        return dict(re.findall(r"^\*\*([A-Z]\d)\.\*\* (.*)$", file.read(), re.M))
 
 
 def closed(plan: str) -> str:
@@ -145,6 +154,15 @@ CASES = [
     Case(["halt"], 2, err="error: unrecognized subcommand 'halt'\n.."),
     Case(["step", "countdown.s"], 2, err="error: .."),
     Case(["step", "countdown.s", "--count", "1099511627777"], 2, err="error: .."),
+    Case(["explain", "J3"], 0, "The plan has more than 4096 jobs. Make two plans of it.\n"),
+    Case(["explain", "j3"], 0, "The plan has more than 4096 jobs. Make two plans of it.\n"),
+    Case(["explain", "J3"], 1, err="refused S2 -\n", out_is_full=True),
+    Case(["explain"], 2, err="error: .."),
+    Case(["explain", "J1", "J2"], 2, err="error: .."),
+    Case(["explain", "Q9"], 2, err=f"""error: invalid value 'Q9' for '<CODE>'
+  [possible values: {', '.join(paragraphs())}]
+.."""),
+    Case(["explain", "--help"], 0, "Says what a code of a refusal means, and what to do\n.."),
     Case(["asm", b"\xff.s"], 2, err="error: invalid UTF-8 was detected in one or more arguments\n"),
 ]
 
@@ -173,6 +191,18 @@ def differences(program: str, folder: str, case: Case) -> List[str]:
     return found
 
 
+def differing_codes(program: str) -> List[str]:
+    """The codes that the program doesn't explain by their paragraphs of docs/formats.md, whatever their lines."""
+    found = []
+    for code, paragraph in paragraphs().items():
+        ran = subprocess.run([program, "explain", code], stdin=subprocess.DEVNULL, capture_output=True, check=False)
+        written = ran.stdout.decode(errors="replace")
+        lines = written.splitlines()
+        if ran.returncode != 0 or not written.endswith("\n") or " ".join(lines) != paragraph or max(map(len, lines)) > WIDTH:
+            found.append(code)
+    return found
+
+
 def main(words: List[str]) -> int:
     """Tries all cases in a folder with their files."""
     if len(words) != 1:
@@ -191,7 +221,11 @@ def main(words: List[str]) -> int:
             failed += bool(found)
             for line in found:
                 print(f"smt-lab {' '.join(map(repr, case.words))}: {line}")
-    print(f"{len(CASES) - failed} passed, {failed} failed")
+    differing = differing_codes(program)
+    failed += len(differing)
+    for code in differing:
+        print(f"smt-lab explain {code}: not the paragraph of docs/formats.md")
+    print(f"{len(CASES) + len(paragraphs()) - failed} passed, {failed} failed")
     return 1 if failed else 0
 
 

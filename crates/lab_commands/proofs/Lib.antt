@@ -1,6 +1,8 @@
+pub mod CodeNames
 pub mod CommandParts
 pub mod CommandWords
 pub mod GoodRows
+pub mod LabCommands
 pub mod PutOneMore
 pub mod Served
 pub mod StepBlocks

@@ -1,7 +1,7 @@
 //! How the program ends: what it prints on standard error, its status, and the help.
 
 use lab_commands::device::Watched;
-use lab_commands::run::{Failure, explain, status, tell, unread, words};
+use lab_commands::run::{Failure, show_help, status, tell, unread, words};
 use std::alloc::Global;
 use std::process::{Abort, ExitCode};
 use std::str;
@@ -38,8 +38,8 @@ impl Text {
     }
 }
 
-/// What is written to standard output and to standard error, and the status, where the words make no request.
-fn assert_explained(
+/// What is written to standard output and to standard error, and the status, where the words ask for no command.
+fn assert_shown(
     rt: &impl Abort,
     alloc: &Global,
     given: &[&str],
@@ -50,7 +50,7 @@ fn assert_explained(
     let error = words(*alloc, given).err().expect(rt, "a request");
     let name = String::from_str(alloc, "-").expect(rt, "memory");
     let mut sink = Watched::new(Vec::new(alloc), name);
-    let outcome = explain(alloc, error, &mut sink);
+    let outcome = show_help(alloc, error, &mut sink);
     assert!(rt; output.is(&sink.into_inner()));
     assert_ends(rt, alloc, outcome, errors, code);
 }
@@ -68,13 +68,20 @@ fn endings_of_outcomes(rt: HostRuntime) {
 const ABOUT: &str =
     "Simulates a simultaneous multithreading out-of-order RV64I core, cycle by cycle\n";
 
+/// The beginning of what is printed for a code that isn't there.
+const NO_CODE: &str =
+    "error: invalid value 'Q9' for '<CODE>'\n  [possible values: A1, A2, A3, A4, A5, A6, \
+A7, A8, C3, E1, J1, J2, J3, J4, J5, J6, P1, P2, P3, P4, P5, S1, S2]\n";
+
 #[test]
-fn words_are_explained(rt: HostRuntime) {
+fn help_and_wrong_words(rt: HostRuntime) {
     let alloc = rt.alloc();
     let none = Text::Whole("");
     let unknown = Text::Beginning("error: unrecognized subcommand 'halt'\n");
-    assert_explained(&rt, &alloc, &["halt"], none, unknown, 2);
-    assert_explained(&rt, &alloc, &["--help"], Text::Beginning(ABOUT), none, 0);
+    assert_shown(&rt, &alloc, &["halt"], none, unknown, 2);
+    let codes = Text::Beginning(NO_CODE);
+    assert_shown(&rt, &alloc, &["explain", "Q9"], none, codes, 2);
+    assert_shown(&rt, &alloc, &["--help"], Text::Beginning(ABOUT), none, 0);
     let version = Text::Whole("smt-lab 0.1.0\n");
-    assert_explained(&rt, &alloc, &["--version"], version, none, 0);
+    assert_shown(&rt, &alloc, &["--version"], version, none, 0);
 }

@@ -7,6 +7,8 @@ mod blocks;
 #[cfg(test)]
 mod bounds;
 #[cfg(test)]
+mod codes;
+#[cfg(test)]
 mod devices;
 #[cfg(test)]
 mod endings;

@@ -1,6 +1,7 @@
 //! The words of a command line.
 
-use lab_commands::run::{Request, words};
+use lab_commands::run::{Invocation, Request, words};
+use refusal_codes::Code;
 use std::alloc::Global;
 
 /// Words and the request that they make.
@@ -34,7 +35,8 @@ const REQUESTS: &[(&[&str], Request<'_>)] = &[
 fn words_that_make_a_request(rt: HostRuntime) {
     let alloc = rt.alloc();
     for (given, request) in REQUESTS {
-        assert!(rt; words(alloc, *given).ok() == Some(*request));
+        let made = words(alloc, *given).ok();
+        assert!(rt; made == Some(Invocation::Serve(*request)));
     }
     let files = [
         REQUESTS[0].1.file(),
@@ -42,6 +44,22 @@ fn words_that_make_a_request(rt: HostRuntime) {
         REQUESTS[3].1.file(),
     ];
     assert_eq!(rt; files, ["-.s", "mix.toml", "mix.toml"]);
+}
+
+/// Words and the code that they ask for.
+const CODES: &[(&[&str], Code)] = &[
+    (&["explain", "J1"], Code::J1),
+    (&["explain", "s2"], Code::S2),
+    (&["explain", "--", "A8"], Code::A8),
+];
+
+#[test]
+fn words_that_ask_for_a_code(rt: HostRuntime) {
+    let alloc = rt.alloc();
+    for (given, code) in CODES {
+        let made = words(alloc, *given).ok();
+        assert!(rt; made == Some(Invocation::Explain(*code)));
+    }
 }
 
 /// Words that are wrong.
@@ -69,6 +87,12 @@ const WRONG: &[&[&str]] = &[
     &["bound"],
     &["bound", "a", "b"],
     &["bound", "a", "--workers", "1"],
+    &["explain"],
+    &["explain", "Q9"],
+    &["explain", "J"],
+    &["explain", "J1 "],
+    &["explain", ""],
+    &["explain", "J1", "J2"],
 ];
 
 /// Words that ask for help or the version.
@@ -80,6 +104,7 @@ const HELPS: &[&[&str]] = &[
     &["asm", "-h"],
     &["run", "--help"],
     &["bound", "--help"],
+    &["explain", "--help"],
     &["--version"],
     &["-V"],
 ];

@@ -5,12 +5,15 @@
 ghost use Rattle.std.specs.Prelude.{◌≡◌, IfErr, IfOk, codes, false};
 ghost use Rattle.lab_commands.specs.CommandLine.{IsBounded, file_of};
 ghost use Rattle.lab_commands.specs.Commands.{NamesItsDevice};
-ghost use Rattle.lab_commands.specs.Refusals.{UnreadOf};
+ghost use Rattle.lab_commands.specs.Refusals.{UnreadOf, UnwrittenOf};
 ghost use Rattle.lab_commands.specs.Watched.{fails, name_text};
 
 use lab_commands::device::{Sink, Watched};
 use lab_commands::run;
-use lab_commands::run::{Failure, Refusal, Request, explain, serve, status, tell, unread};
+use lab_commands::run::{
+    Failure, Invocation, Refusal, Request, explain, serve, show_help, status, tell, unread,
+};
+use refusal_codes::Code;
 use std::alloc::{AllocError, Global};
 use std::io::Printer;
 use std::process::ExitCode;
@@ -74,6 +77,14 @@ fn answer<'a, R: Files + Print>(
     serve(alloc, *alloc, request, &mut input, &mut output)
 }
 
+/// Writes what a code means to standard output.
+fn meaning<'a, R: Print>(rt: &R, alloc: &'a Global, code: Code) -> Result<(), Refusal<&'a Global>>
+    ensures { IfErr result (UnwrittenOf (codes "-")) }
+{
+    let mut output = standard_output(rt, alloc)?;
+    explain(alloc, code, &mut output)
+}
+
 /// Does what the words of the command line ask for.
 fn obey<'a, R: Env + AllocGlobal + Files + Print>(
     rt: &R,
@@ -81,10 +92,11 @@ fn obey<'a, R: Env + AllocGlobal + Files + Print>(
 ) -> Result<(), Failure<&'a Global>> {
     let words = arguments(rt, alloc)?;
     match run::words(*alloc, words.as_slice()) {
-        Ok(request) => Ok(answer(rt, alloc, request)?),
+        Ok(Invocation::Serve(request)) => Ok(answer(rt, alloc, request)?),
+        Ok(Invocation::Explain(code)) => Ok(meaning(rt, alloc, code)?),
         Err(error) => {
             let mut output = standard_output(rt, alloc)?;
-            explain(alloc, error, &mut output)
+            show_help(alloc, error, &mut output)
         }
     }
 }
