@@ -2,8 +2,9 @@
 
 ghost use Rattle.pool_tests.specs.Desks.{IsFree, places, IsNumber};
 
-use crate::desks::{Desk, desks};
+use crate::desks::Desk;
 use crate::equal::assert_equal;
+use crate::new_desks::desks;
 use std::alloc::AllocError;
 use std::sync::Wait;
 use std::sync::atomic::{AtomicU64, Ordering};

@@ -1,7 +1,6 @@
 //! Tests of jobs that many workers share, through the public calls of `worker_pool`.
 #![tactic(auto)]
 
-#[cfg(test)]
 mod desks;
 #[cfg(test)]
 mod doors;
@@ -9,6 +8,8 @@ mod doors;
 mod equal;
 #[cfg(test)]
 mod meeting;
+#[cfg(test)]
+mod new_desks;
 #[cfg(test)]
 mod refusals;
 #[cfg(test)]

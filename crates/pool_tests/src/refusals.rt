@@ -1,7 +1,8 @@
 //! Workers out of range, a job that is refused, and no job at all.
 
-use crate::desks::{Numbers, desks};
+use crate::desks::Numbers;
 use crate::equal::assert_equal;
+use crate::new_desks::desks;
 use std::sync::Wait;
 use std::sync::atomic::{AtomicU64, Ordering};
 use worker_pool::{Gate, Open, PoolFault, run_all};

@@ -1,7 +1,8 @@
 //! A thousand jobs, whose ends and join are the same for any number of workers.
 
-use crate::desks::{Desk, Numbers, desks};
+use crate::desks::{Desk, Numbers};
 use crate::equal::assert_equal;
+use crate::new_desks::desks;
 use std::alloc::Global;
 use std::process::Abort;
 use std::sync::Wait;

@@ -1,7 +1,7 @@
 use Rattle.std.proofs.Common.{◌≡◌, ◌≤◌, All, vec_len, vec_capacity}
 use Rattle.worker_pool.specs.Seats.{HasRoom}
 use Rattle.pool_tests.specs.Desks.{IsFree, places}
-use Rattle.pool_tests.proofs.desks.desks.Given as goal
+use Rattle.pool_tests.proofs.new_desks.desks.Given as goal
 
 abbrev pub invariant-loop : goal.invariant-loop
 invariant-loop g l = record {
