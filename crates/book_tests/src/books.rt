@@ -1,6 +1,7 @@
-//! Books: what passes merge and read in one thread, a foreign mark, and a book that is closed too early.
+//! Books: what passes merge and read, in one thread and in two, a foreign mark, and a book that is closed too early.
 
 ghost use Rattle.std.specs.Prelude.{◌≡◌, ◌<◌, All};
+ghost use Rattle.std.specs.Thread.{IsSync};
 ghost use Rattle.checkpoint_book.specs.Passes.{IsPassOf};
 
 use crate::equal::assert_equal;
@@ -12,6 +13,7 @@ use origin_set::Origin;
 use std::alloc::Global;
 use std::process::Abort;
 use std::sync::{Arc, Wait};
+use std::thread::{Threads, join};
 
 /// A book that begins at the starts of the origin's contexts, and its passes.
 fn new_book(
@@ -192,6 +194,63 @@ fn a_foreign_mark_is_refused(rt: HostRuntime) {
     refuse(&rt, &book, &mut pass, foreign);
     let left = closed(&rt, rt.alloc(), book, pass);
     assert_left(&rt, left, [0; 8], &[], &[]);
+}
+
+/// A pass that merged a mark.
+fn merged<R: Abort + Wait>(rt: &R, book: &Book, pass: Pass, mark: Shared) -> Pass
+    requires { IsPassOf book.now pass }
+    ensures { IsPassOf book.now result }
+{
+    let mut pass = pass;
+    merge(rt, book, &mut pass, mark);
+    pass
+}
+
+/// Two passes merge a mark each, in a thread of its own.
+fn merge_in_threads<R: Abort + Wait + Threads + Sync>(
+    rt: &R,
+    book: &Book,
+    a: Pass,
+    b: Pass,
+    five: Shared,
+    seven: Shared,
+) -> (Pass, Pass)
+    requires { IsPassOf book.now a × IsPassOf book.now b }
+    ensures { IsPassOf book.now result.0 × IsPassOf book.now result.1 }
+{
+    join(
+        rt,
+        move || -> Pass
+            requires { IsSync R.row × IsPassOf book.now a }
+            ensures { IsPassOf book.entry.now result }
+        { merged(rt, book, a, five) },
+        move || -> Pass
+            requires { IsSync R.row × IsPassOf book.now b }
+            ensures { IsPassOf book.entry.now result }
+        { merged(rt, book, b, seven) },
+    )
+}
+
+/// Two threads merge at one context. Whichever comes first, the further mark is left, and both calls.
+#[test]
+fn threads_share_the_marks(rt: HostRuntime) {
+    let origin = origin_with(&rt, rt.alloc(), 0);
+    let [first, ..] = Ctx::all();
+    let five = mark_at(&rt, rt.alloc(), &origin, first, 5);
+    let seven = mark_at(&rt, rt.alloc(), &origin, first, 7);
+    let (book, a, b) = book_of_two(&rt, rt.alloc(), &origin);
+    drop(origin);
+    let (a, b) = merge_in_threads(&rt, &book, a, b, five, seven);
+    let left = closed_with_both(&rt, rt.alloc(), book, a, b);
+    let history = left.histories.c0.as_slice();
+    let a_came_first = history == [Call::Merge(0, 5), Call::Merge(1, 7)].as_slice();
+    let b_came_first = history == [Call::Merge(1, 7), Call::Merge(0, 5)].as_slice();
+    assert_equal(
+        &rt,
+        (counts_of(&left.marks), a_came_first != b_came_first),
+        ([7, 0, 0, 0, 0, 0, 0, 0], true),
+    );
+    drop(left);
 }
 
 /// A pass merges a mark at each context, of count 1 at context 0 and of one more at each after it.

@@ -1,3 +1,4 @@
+pub mod Crossing
 mod Aligned
 mod Histories
 mod Kept
