@@ -1,0 +1,13 @@
+pub mod FrontLemmas
+pub mod DigitLemmas
+pub mod ReadNumbers
+pub mod CountLemmas
+pub mod PageLemmas
+pub mod PutOneMore
+pub mod BeginningLemmas
+pub mod RegisterLemmas
+pub mod ContextLemmas
+pub mod FormLemmas
+pub mod VersionLemmas
+pub mod WrittenLemmas
+pub mod LineLemmas

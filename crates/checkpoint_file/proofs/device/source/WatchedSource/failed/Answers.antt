@@ -1,0 +1,5 @@
+use Rattle.std.proofs.Common.{refl}
+use Rattle.checkpoint_file.proofs.device.source.WatchedSource.failed.Goals as goal
+
+pub returns : goal.returns
+returns g c = refl

@@ -1,0 +1,16 @@
+pub mod Lines
+pub mod Contexts
+pub mod Texts
+pub mod PageLines
+pub mod Steps
+pub mod ContextLines
+pub mod Devices
+pub mod Watched
+pub mod Limits
+pub mod Versions
+pub mod Reached
+pub mod FileFaults
+pub mod FaultText
+pub mod Written
+pub mod ReadFaults
+pub mod Forms
