@@ -6,8 +6,7 @@ use Rattle.checkpoint_file.specs.ContextLines.{HasContext, HasContexts, HasEight
 use Rattle.checkpoint_file.specs.Contexts.{ContextValue, FitsContext, context_text, page_lines, register_lines}
 use Rattle.checkpoint_file.specs.Lines.{context_line, count_line, word_line}
 use Rattle.checkpoint_file.specs.PageLines.{HasPages, IsNoPage}
-use Rattle.checkpoint_file.specs.Texts.{contexts_text}
-use Rattle.join_law.specs.Eight.{eight_from, place_of}
+use Rattle.join_law.specs.Eight.{place_of}
 use Rattle.join_law.specs.declared.places.Eight.{Eight}
 
 -- what begins with another letter is no page
@@ -61,12 +60,12 @@ context_found number count pc bytes heading counted place registers pages rest l
       fits = record { count = low; pc = word; registers = h.registers; pages = k.in_order };
       counted = refl;
       parts =
-        let e0 : pages ≡ page_lines k.pages ++ rest = k.parts in
-        let e1 : registers ≡ register_lines 1 h.values ++ (page_lines k.pages ++ rest) = h.parts ∙ ap (λ (t : List ℕ). register_lines 1 h.values ++ t) e0 in
-        let e2 = d ∙ ap (λ (t : List ℕ). word_line (codes "pc ") pc ++ t) e1 in
-        let e3 = c ∙ ap (λ (t : List ℕ). count_line count ++ t) e2 in
-        let e4 = b ∙ ap (λ (t : List ℕ). decimal number ++ (10 ∷ t)) e3 in
-        a ∙ ap (λ (t : List ℕ). codes "context " ++ t) e4 ∙ sym (context_parts number context rest);
+          let e0 : pages ≡ page_lines k.pages ++ rest = k.parts in
+          let e1 : registers ≡ register_lines 1 h.values ++ (page_lines k.pages ++ rest) = h.parts ∙ ap (λ (t : List ℕ). register_lines 1 h.values ++ t) e0 in
+          let e2 = d ∙ ap (λ (t : List ℕ). word_line (codes "pc ") pc ++ t) e1 in
+          let e3 = c ∙ ap (λ (t : List ℕ). count_line count ++ t) e2 in
+          let e4 = b ∙ ap (λ (t : List ℕ). decimal number ++ (10 ∷ t)) e3 in
+          a ∙ ap (λ (t : List ℕ). codes "context " ++ t) e4 ∙ sym (context_parts number context rest);
     }
 
 -- ---- contexts one after the other
@@ -110,10 +109,10 @@ eight_found a b c d e f g h bytes next rest x y =
       fits = each contexts h0.fits h1.fits h2.fits h3.fits h4.fits h5.fits h6.fits h7.fits;
       counted = sym (eight_counts _ _ _ _ _ _ _ _ _ _ _ _ _ _ _ _ h0.counted h1.counted h2.counted h3.counted h4.counted h5.counted h6.counted h7.counted);
       parts =
-        eight_lines (context_text 0 h0.context) (context_text 1 h1.context) (context_text 2 h2.context) (context_text 3 h3.context)
+          eight_lines (context_text 0 h0.context) (context_text 1 h1.context) (context_text 2 h2.context) (context_text 3 h3.context)
           (context_text 4 h4.context) (context_text 5 h5.context) (context_text 6 h6.context) (context_text 7 h7.context) bytes x.0 x.2.0 x.2.2.0 x.2.2.2.0 y.0 y.2.0 y.2.2.0 next rest h0.parts h1.parts h2.parts h3.parts x.2.2.2.2 h4.parts h5.parts h6.parts
           (h7.parts ∙ ap (λ (t : List ℕ). context_text 7 h7.context ++ t) y.2.2.2.2)
-        ∙ sym (eight_texts (context_text 0 h0.context) (context_text 1 h1.context) (context_text 2 h2.context) (context_text 3 h3.context)
+          ∙ sym (eight_texts (context_text 0 h0.context) (context_text 1 h1.context) (context_text 2 h2.context) (context_text 3 h3.context)
           (context_text 4 h4.context) (context_text 5 h5.context) (context_text 6 h6.context) (context_text 7 h7.context) rest);
     }
 
@@ -132,9 +131,33 @@ eight_parts counts bytes rest h =
     let n2 = context_text 2 x.c2 ++ n3 in
     let n1 = context_text 1 x.c1 ++ n2 in
     let whole : bytes ≡ context_text 0 x.c0 ++ n1 = h.parts
-      ∙ eight_texts (context_text 0 x.c0) (context_text 1 x.c1) (context_text 2 x.c2) (context_text 3 x.c3)
-          (context_text 4 x.c4) (context_text 5 x.c5) (context_text 6 x.c6) (context_text 7 x.c7) rest in
-    (n1, context_from 0 x.c0.count bytes (context_text 0 x.c0 ++ n1) n1 whole (one_context 0 x.c0 n1 (h.fits 0 (omega arith))),
-    (n2, one_context 1 x.c1 n2 (h.fits 1 (omega arith)), (n3, one_context 2 x.c2 n3 (h.fits 2 (omega arith)), (n4, one_context 3 x.c3 n4 (h.fits 3 (omega arith)),
-    (n5, one_context 4 x.c4 n5 (h.fits 4 (omega arith)), (n6, one_context 5 x.c5 n6 (h.fits 5 (omega arith)), (n7, one_context 6 x.c6 n7 (h.fits 6 (omega arith)),
-    (rest, one_context 7 x.c7 rest (h.fits 7 (omega arith)), refl))))))))
+    ∙ eight_texts (context_text 0 x.c0) (context_text 1 x.c1) (context_text 2 x.c2) (context_text 3 x.c3)
+    (context_text 4 x.c4) (context_text 5 x.c5) (context_text 6 x.c6) (context_text 7 x.c7) rest in (
+      n1,
+      context_from 0 x.c0.count bytes (context_text 0 x.c0 ++ n1) n1 whole (one_context 0 x.c0 n1 (h.fits 0 (omega arith))),
+      (
+        n2,
+        one_context 1 x.c1 n2 (h.fits 1 (omega arith)),
+        (
+          n3,
+          one_context 2 x.c2 n3 (h.fits 2 (omega arith)),
+          (
+            n4,
+            one_context 3 x.c3 n4 (h.fits 3 (omega arith)),
+            (
+              n5,
+              one_context 4 x.c4 n5 (h.fits 4 (omega arith)),
+              (
+                n6,
+                one_context 5 x.c5 n6 (h.fits 5 (omega arith)),
+                (
+                  n7,
+                  one_context 6 x.c6 n7 (h.fits 6 (omega arith)),
+                  (rest, one_context 7 x.c7 rest (h.fits 7 (omega arith)), refl),
+                ),
+              ),
+            ),
+          ),
+        ),
+      ),
+    )

@@ -19,10 +19,10 @@ pub goes_on : (n : ℕ) → n < 2 ^ 64 → GoesOn n (decimal n)
 goes_on = decimal_by_steps GoesOn
     (λ n small low tail. one_digit 0 n tail small (omega arith) ∙ ap (λ (k : ℕ). number_from k tail) (omega arith))
     (λ n ds more front low tail.
-      ap (number_from 0) (append_assoc ds ((48 + n % 10) ∷ []) tail)
-      ∙ front (omega arith) ((48 + n % 10) ∷ tail)
-      ∙ one_digit (n / 10) (n % 10) tail (omega arith) (omega arith)
-      ∙ ap (λ (k : ℕ). number_from k tail) (omega arith))
+    ap (number_from 0) (append_assoc ds ((48 + n % 10) ∷ []) tail)
+    ∙ front (omega arith) ((48 + n % 10) ∷ tail)
+    ∙ one_digit (n / 10) (n % 10) tail (omega arith) (omega arith)
+    ∙ ap (λ (k : ℕ). number_from k tail) (omega arith))
 
 -- a count and the end of its line
 pub counts : (n : ℕ) (bytes rest : List ℕ) → n ≤ 2 ^ 60 → bytes ≡ decimal n ++ (10 ∷ rest) → number_from 0 bytes ≡ n

@@ -13,7 +13,7 @@ pub decodes : (digits bytes out : List ℕ) (n : ℕ) (result : Result Unit From
     → AreBytes n bytes → digits ≡ encode_lower bytes → (result ≡ Ok tt) × (out ≡ bytes)
 decodes digits bytes out n result m fits e =
     subst (λ (r : Result (List ℕ) FromHexError). MatchResult r (λ found. (result ≡ Ok tt) × (out ≡ found)) (λ e. result ≡ Err e))
-      (ap (λ (t : List ℕ). decode_sized t n) e ∙ decode_sized-encode_lower bytes n fits.count fits.bytes) m
+    (ap (λ (t : List ℕ). decode_sized t n) e ∙ decode_sized-encode_lower bytes n fits.count fits.bytes) m
 
 pub bytes_nil : IsBytes []
 bytes_nil i = search arith

@@ -1,12 +1,12 @@
 -- A whole text and its parts.
-use Rattle.std.proofs.Common.{◌≡◌, ℕ, ◌<◌, List, [], ◌∷◌, ◌++◌, refl, sym, ap, ◌∙◌, append_assoc, arith, get_or, length}
+use Rattle.std.proofs.Common.{◌≡◌, ℕ, List, [], ◌∷◌, ◌++◌, refl, sym, ap, ◌∙◌, append_assoc, arith, get_or, length}
 use Rattle.std.specs.Prelude.{codes}
 use Rattle.std.proofs.lemmas.List.{append-nil}
 use Rattle.checkpoint_file.specs.ContextLines.{HasEightContexts}
 use Rattle.checkpoint_file.specs.Forms.{HasForm}
 use Rattle.checkpoint_file.specs.Lines.{AreBytes, origin_line, seal_line, version_line}
 use Rattle.checkpoint_file.specs.PageLines.{IsNoPage}
-use Rattle.checkpoint_file.specs.Texts.{CheckpointValue, body_of, contexts_text}
+use Rattle.checkpoint_file.specs.Texts.{CheckpointValue, body, body_of, contexts_text}
 
 pub nil_of : (xs : List ℕ) → length xs ≡ 0 → xs ≡ []
 nil_of [] e = refl
@@ -42,3 +42,12 @@ form_found text origin contexts end rest digest counts seal a b fits k d sealed 
       is_value = record { digest = fits; contexts = k.fits; seal = sealed; text = a ∙ ap (λ (t : List ℕ). version_line ++ t) e2 ∙ sym (form_parts value) };
       is_form = record { digest = refl; counts = k.counted; seal = refl };
     }
+
+-- the text of marks with a digest and a seal, in its parts
+pub text_parts : (digest contexts seal : List ℕ) → body digest contexts ++ seal_line seal ≡ version_line ++ (origin_line digest ++ (contexts ++ (seal_line seal ++ [])))
+text_parts digest contexts seal = three_parts version_line (origin_line digest) contexts (seal_line seal)
+
+pub text_found : (digest contexts seal text rest : List ℕ) → text ≡ version_line ++ (origin_line digest ++ (contexts ++ (seal_line seal ++ rest))) → rest ≡ []
+    → text ≡ body digest contexts ++ seal_line seal
+text_found digest contexts seal text rest e none =
+    e ∙ ap (λ (t : List ℕ). version_line ++ (origin_line digest ++ (contexts ++ (seal_line seal ++ t)))) none ∙ sym (text_parts digest contexts seal)

@@ -11,3 +11,4 @@ pub mod FormLemmas
 pub mod VersionLemmas
 pub mod WrittenLemmas
 pub mod LineLemmas
+pub mod SkipLemmas

@@ -1,5 +1,5 @@
 -- A step over a register.
-use Rattle.std.proofs.Common.{◌≡◌, ℕ, ◌+◌, ◌-◌, ◌^◌, ◌<◌, List, [], ◌∷◌, ◌++◌, length, refl, sym, ap, ◌∙◌, append_assoc, arith}
+use Rattle.std.proofs.Common.{◌≡◌, ℕ, ◌+◌, ◌^◌, ◌<◌, List, [], ◌∷◌, ◌++◌, refl, sym, ap, ◌∙◌, append_assoc, arith}
 use Rattle.checkpoint_file.specs.ContextLines.{HasRegisters}
 use Rattle.checkpoint_file.specs.Contexts.{AreRegisters, register_lines}
 use Rattle.checkpoint_file.specs.Lines.{register_line}

@@ -1,6 +1,6 @@
 -- Digits at the front.
-use Rattle.std.proofs.Common.{◌≡◌, ◌≢◌, ◌⊎◌, inl, inr, ◌+◌, ◌<◌, ℕ, zero, suc, Bool, true, false, ◌&&◌, List, [], ◌∷◌, ◌++◌, length, refl, sym, ap, ◌∙◌, append_assoc, arith, get_or, drop, take, nat_eq, ◌≤◌, ◌-◌}
-use Rattle.std.specs.Prelude.{◌↔◌, IsTrue, codes}
+use Rattle.std.proofs.Common.{◌≡◌, ◌⊎◌, inl, inr, ◌+◌, ◌<◌, ℕ, zero, suc, Bool, true, false, ◌&&◌, List, [], ◌∷◌, ◌++◌, length, refl, sym, ap, ◌∙◌, append_assoc, arith, get_or, drop, take, nat_eq, ◌≤◌, ◌-◌}
+use Rattle.std.specs.Prelude.{codes}
 use Rattle.std.specs.Char.{is_ascii_digit}
 use Rattle.std.specs.List.{list_all}
 use Rattle.std.proofs.lemmas.List.{length-append, take_all}
@@ -30,7 +30,7 @@ all_more : (digits : List ℕ) (d : ℕ) → list_all is_ascii_digit digits ≡ 
 all_more [] d all digit = both_true (is_ascii_digit d) true digit refl
 all_more (x ∷ xs) d all digit =
     both_true (is_ascii_digit x) (list_all is_ascii_digit (xs ++ (d ∷ []))) (left_true (is_ascii_digit x) (list_all is_ascii_digit xs) all)
-      (all_more xs d (right_true (is_ascii_digit x) (list_all is_ascii_digit xs) all) digit)
+    (all_more xs d (right_true (is_ascii_digit x) (list_all is_ascii_digit xs) all) digit)
 
 -- one more digit
 pub read_more : (bytes rest others : List ℕ) (d : ℕ) → HasDigits bytes rest → rest ≡ d ∷ others → is_ascii_digit d ≡ true → HasDigits bytes others
@@ -66,10 +66,10 @@ other_found first others end tail h e o = record {
     plain = λ zero. no_more h.digits end (grind (arith, o.plain zero, ap length h.parts));
   };
   other = λ one.
-    let first_one : first ≡ 49 = ap (λ (t : List ℕ). get_or t 0 0) one in
-    let alone : h.digits ≡ [] = ap (λ (t : List ℕ). drop 1 t) one in
-    let same : length others ≡ length end = ap length h.parts ∙ ap (λ (t : List ℕ). length (t ++ end)) alone in
-    grind (arith, o.other first_one, same);
+      let first_one : first ≡ 49 = ap (λ (t : List ℕ). get_or t 0 0) one in
+      let alone : h.digits ≡ [] = ap (λ (t : List ℕ). drop 1 t) one in
+      let same : length others ≡ length end = ap length h.parts ∙ ap (λ (t : List ℕ). length (t ++ end)) alone in
+      grind (arith, o.other first_one, same);
   parts = ap (λ (t : List ℕ). first ∷ t) (h.parts ∙ ap (λ (t : List ℕ). h.digits ++ t) e);
 }
 
@@ -89,17 +89,19 @@ other_only first others end h stop k =
     let tail : others ≡ k.others ++ (10 ∷ k.rest) = ap (λ (t : List ℕ). drop 1 t) k.parts in
     let digits : list_all is_ascii_digit k.others ≡ true = right_true (is_ascii_digit k.first) (list_all is_ascii_digit k.others) k.numeral.digits in
     let both = split_once h.digits k.others end (10 ∷ k.rest) h.all digits stop refl (sym h.parts ∙ tail) in
-    let lengths : length others ≡ length h.digits + length end = ap length h.parts ∙ length-append h.digits end in
-    (both.1, record {
-      digit = rw head (left_true (is_ascii_digit k.first) (list_all is_ascii_digit k.others) k.numeral.digits);
-      plain = λ zero.
-        let none : length h.digits ≡ 0 = ap length (both.0 ∙ k.numeral.plain (sym head ∙ zero)) in
-        grind (arith, none, lengths);
-      other = λ one. elim (is_zero (length h.digits)) [
-        inl none ↦ absurd (k.other (only_one k.first k.others (sym head ∙ one) (rw both.0 at none)))
-        | inr some ↦ grind (arith, some, lengths)
-      ];
-    })
+    let lengths : length others ≡ length h.digits + length end = ap length h.parts ∙ length-append h.digits end in (
+      both.1,
+      record {
+        digit = rw head (left_true (is_ascii_digit k.first) (list_all is_ascii_digit k.others) k.numeral.digits);
+        plain = λ zero.
+            let none : length h.digits ≡ 0 = ap length (both.0 ∙ k.numeral.plain (sym head ∙ zero)) in
+            grind (arith, none, lengths);
+        other = λ one. elim (is_zero (length h.digits)) [
+          | inl none ↦ absurd (k.other (only_one k.first k.others (sym head ∙ one) (rw both.0 at none)))
+          | inr some ↦ grind (arith, some, lengths)
+        ];
+      },
+    )
 
 -- a text of version 1 has no other version
 pub version_one : (text rest : List ℕ) → text ≡ version_line ++ rest → IsOtherVersion text → ⊥

@@ -99,7 +99,7 @@ pub front_fails : (a b c : Option (List ℕ)) (f g : Bool) (h i : Sha256) (line 
     → PutsSome b c g line → PutsSome a c g whole
 front_fails a b c f g h i line from left whole e p q =
     subst (λ (t : List ℕ). PutsSome a c g t) (ap (λ (t : List ℕ). p.front ++ t) (sym e) ∙ p.parts)
-      (second_fails a b c f g h i p.front (line ++ left) p.wrote (first_fails b c g line left q))
+    (second_fails a b c f g h i p.front (line ++ left) p.wrote (first_fails b c g line left q))
 
 -- nothing is left
 pub front_all : (a b : Option (List ℕ)) (f : Bool) (h i : Sha256) (left whole : List ℕ) → left ≡ [] → WroteFront a b f h i left whole → Wrote a b f h i whole

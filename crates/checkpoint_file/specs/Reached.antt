@@ -1,8 +1,10 @@
 -- Whether plain RV64I reaches what a checkpoint says.
-use Rattle.std.specs.Prelude.{◌≡◌, ℕ, ◌<◌, ◌≤◌, Some}
+use Rattle.std.specs.Prelude.{◌≡◌, ◌⊎◌, ℕ, ◌<◌, ◌≤◌, Some, None}
 use Rattle.checkpoint.specs.MarkValue.{MarkValue, state_of}
 use Rattle.checkpoint_file.specs.Contexts.{ContextValue}
 use Rattle.checkpoint_file.specs.Texts.{context_of}
+use Rattle.checkpoint_file.specs.declared.fault.FileFault.{FileFault}
+use Rattle.checkpoint_file.specs.declared.fault.FileFault.TheVariants.{NotReached, OutOfMemory}
 use Rattle.hart_step.specs.State.{State}
 use Rattle.join_law.specs.Eight.{eight_from, place_of}
 use Rattle.join_law.specs.declared.places.Eight.{Eight}
@@ -29,3 +31,11 @@ AreReached origin contexts = (i : ℕ) → i < 8 → IsReached origin i (place_o
 -- no count is over a limit
 abbrev pub AreWithin : ℕ → Eight MarkValue → Type 0
 AreWithin limit marks = (i : ℕ) → i < 8 → (place_of marks i).count ≤ limit
+
+-- a mark isn't made: plain RV64I doesn't reach it, or memory was refused
+abbrev pub IsUnreplayedAt : MarkValue → FileFault → Type 0
+IsUnreplayedAt mark fault = (fault ≡ OutOfMemory) ⊎ ((fault ≡ NotReached) × (state_of mark ≡ None))
+
+-- one of eight marks isn't made
+abbrev pub IsUnreplayed : (ℕ → MarkValue) → FileFault → Type 0
+IsUnreplayed marks fault = (fault ≡ OutOfMemory) ⊎ ((fault ≡ NotReached) × (i : ℕ) × (i < 8) × (state_of (marks i) ≡ None))

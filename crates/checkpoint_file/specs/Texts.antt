@@ -9,7 +9,6 @@ use Rattle.join_law.specs.Eight.{eight_from, place_of}
 use Rattle.join_law.specs.declared.places.Eight.{Eight}
 use Rattle.origin_set.specs.OriginBytes.{origin_bytes}
 use Rattle.origin_set.specs.OriginValue.{OriginValue}
-use Rattle.paged_memory.specs.Cells.{Cells}
 use Rattle.paged_memory.specs.Pages.{PageValue, pages_of}
 use Rattle.paged_memory.specs.Regions.{data_start}
 use Rattle.sha2.specs.Sha256.{sha256}

@@ -1,9 +1,10 @@
-//! Checkpoint files: the text of eight marks, written to a sink, read from a source, and admitted by replay.
+//! Checkpoint files: the text of eight marks, written to a sink, and its form, read from the front.
 #![tactic(auto)]
 
 pub mod device;
 mod fault;
 mod input;
+mod matching;
 mod output;
 mod reading;
 mod writing;

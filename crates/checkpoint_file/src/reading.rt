@@ -10,7 +10,7 @@ mod registers;
 mod version;
 mod words;
 
-pub(crate) use form::{Form, form_of};
 pub(crate) use counts::after_number;
+pub(crate) use form::{Form, form_of};
 pub(crate) use fronts::after;
 pub(crate) use version::is_other_version;

@@ -11,11 +11,7 @@ use crate::reading::registers::registers_at;
 use crate::reading::words::word_line_at;
 
 // The count of a context, and what follows its lines.
-fn context_at<'a>(
-    bytes: &'a [u8],
-    number: u64,
-    room: &mut PageRoom,
-) -> Option<(u64, &'a [u8])>
+fn context_at<'a>(bytes: &'a [u8], number: u64, room: &mut PageRoom) -> Option<(u64, &'a [u8])>
     ensures found { IfSome result (λ read. HasContext number read.0 bytes.now read.1.now) }
     ensures only { (count : ℕ) (rest : List ℕ) → IsNoPage rest → HasContext number count bytes.now rest
         → IsSomeAnd result (λ read. (read.0 ≡ count) × (read.1.now ≡ rest)) }

@@ -1,4 +1,4 @@
-use Rattle.std.proofs.Common.{◌≡◌, ◌++◌, ◌∷◌, ℕ, List, rules, ◌∙◌, sym, arith}
+use Rattle.std.proofs.Common.{◌++◌, ◌∷◌, rules, ◌∙◌}
 use Rattle.std.specs.Fmt.{decimal}
 use Rattle.std.specs.Prelude.{codes}
 use Rattle.checkpoint_file.specs.Contexts.{page_lines, register_lines}

@@ -1,4 +1,4 @@
-use Rattle.std.proofs.Common.{◌≡◌, ◌∷◌, [], refl, rules, sym, ◌∙◌}
+use Rattle.std.proofs.Common.{◌∷◌, [], refl, sym, ◌∙◌}
 use Rattle.checkpoint_file.proofs.ContextLemmas.{contexts_from, eight_counts, eight_found, eight_parts, no_page}
 use Rattle.checkpoint_file.proofs.reading.contexts.contexts_at.Goals as goal
 

@@ -1,4 +1,4 @@
-use Rattle.std.proofs.Common.{◌≡◌, ◌++◌, ◌∷◌, ℕ, arith, sym, ap, ◌∙◌}
+use Rattle.std.proofs.Common.{◌++◌, ◌∷◌, ℕ, arith, sym, ap, ◌∙◌}
 use Rattle.std.specs.Fmt.{decimal}
 use Rattle.checkpoint_file.proofs.CountLemmas.{labelled}
 use Rattle.checkpoint_file.proofs.reading.counts.count_line_at.Goals as goal

@@ -41,8 +41,8 @@ returns-then-is_empty-clause-found c =
     let short : length c.in_ok-seal.rest.now ≡ 0 = grind (arith, common_steps) in
     let none = nil_of c.in_ok-seal.rest.now short in
     form_found c.args.text.now c.in_ok-origin.origin.now c.in_ok-digest.contexts.now c.in_ok-counts.end.now c.in_ok-seal.rest.now
-      c.in_ok-digest.digest c.in_ok-counts.counts c.in_ok-seal.seal c.in_ok-origin.ensures.found c.in_ok-digest.ensures.found c.in_ok-digest.ensures.fits
-      c.in_ok-counts.ensures.found c.in_ok-seal.ensures.found c.in_ok-seal.ensures.fits none
+    c.in_ok-digest.digest c.in_ok-counts.counts c.in_ok-seal.seal c.in_ok-origin.ensures.found c.in_ok-digest.ensures.found c.in_ok-digest.ensures.fits
+    c.in_ok-counts.ensures.found c.in_ok-seal.ensures.found c.in_ok-seal.ensures.fits none
 
 pub returns-then-is_empty-clause-only : goal.returns-then-is_empty-clause-only
 returns-then-is_empty-clause-only c value h =

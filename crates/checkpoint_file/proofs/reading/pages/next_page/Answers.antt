@@ -18,11 +18,11 @@ returns-else-from-least c =
     let fits : FitsPage c.args.least page = record { from_least = omega (arith, c.if-from-least.false, c.from.ensures); address = search rules; bytes = c.in-Some-page_line_at.ensures.fits } in
     record {
       back = λ rest h. one_more c.args.least page c.args.bytes.now next rest
-        fits c.in-Some-page_line_at.ensures.found h;
+          fits c.in-Some-page_line_at.ensures.found h;
       on = λ rest stop h.
-        let b = first_page c.args.least c.args.bytes.now rest c.in-Some.place.now c.in-Some.ensures.found stop h in
-        let read = c.in-Some-page_line_at.ensures.only b.page.address b.page.bytes b.next b.fits.address b.fits.bytes b.parts in
-        carried address b.page.address next b.next rest read.0 read.2 b.others;
+          let b = first_page c.args.least c.args.bytes.now rest c.in-Some.place.now c.in-Some.ensures.found stop h in
+          let read = c.in-Some-page_line_at.ensures.only b.page.address b.page.bytes b.next b.fits.address b.fits.bytes b.parts in
+          carried address b.page.address next b.next rest read.0 read.2 b.others;
       shorter = is_shorter page c.args.bytes.now next c.in-Some-page_line_at.ensures.found;
     }
 

@@ -1,4 +1,4 @@
-use Rattle.std.proofs.Common.{◌≡◌, ◌+◌, rules, arith}
+use Rattle.std.proofs.Common.{◌+◌, rules, arith}
 use Rattle.checkpoint_file.proofs.RegisterLemmas.{carried, first_register, last, one_more}
 use Rattle.checkpoint_file.proofs.reading.registers.registers_at.Goals as goal
 
@@ -15,8 +15,8 @@ loop-number-preserved c =
     record {
       back = λ rest h. c.loop-number.invariant.back rest (one_more number c.in_ok-next.field-0-0 here next rest (omega arith) (search rules) c.in_ok-next.ensures.found h);
       on = λ rest h.
-        let b = first_register number here rest (omega arith) (c.loop-number.invariant.on rest h) in
-        carried (number + 1) next b.next rest (c.in_ok-next.ensures.only b.value b.next b.fits b.parts).1 b.others;
+          let b = first_register number here rest (omega arith) (c.loop-number.invariant.on rest h) in
+          carried (number + 1) next b.next rest (c.in_ok-next.ensures.only b.value b.next b.fits b.parts).1 b.others;
     }
 
 pub returns-clause-only : goal.returns-clause-only

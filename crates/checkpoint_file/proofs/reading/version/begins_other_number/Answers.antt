@@ -5,8 +5,7 @@ use Rattle.checkpoint_file.proofs.reading.version.begins_other_number.Goals as g
 pub returns-in-Some : goal.returns-in-Some
 returns-in-Some c =
     let others = c.args.others.now in
-    let end = c.after_digits-end.result.now in
-    (
+    let end = c.after_digits-end.result.now in (
       λ yes. other_found c.args.first others end c.in-Some.field-0.now c.after_digits-end.ensures.digits c.in-Some.ensures.found (c.is_other.ensures.0 yes),
       λ k. c.is_other.ensures.1 (other_only c.args.first others end c.after_digits-end.ensures.digits c.after_digits-end.ensures.end k).1,
     )

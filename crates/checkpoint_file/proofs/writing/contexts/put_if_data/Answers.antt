@@ -15,4 +15,4 @@ pub returns-clause-written : goal.returns-clause-written
 returns-clause-written g c =
     let there : nat_le data_start c.args.page.now.address ≡ true = grind (arith, common_steps) in
     retext (g.W.Sink.contents c.args.device.now) (g.W.Sink.contents c.put_page.new.device) (g.W.Sink.has_failed c.put_page.new.device) c.args.hasher.now c.put_page.new.hasher _ _
-      c.put_page.result (page_alone c.args.page.now there) c.put_page.ensures.written
+    c.put_page.result (page_alone c.args.page.now there) c.put_page.ensures.written

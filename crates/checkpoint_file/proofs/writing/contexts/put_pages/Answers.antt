@@ -11,8 +11,8 @@ pub returns-in_err-put_if_data-clause-written : goal.returns-in_err-put_if_data-
 returns-in_err-put_if_data-clause-written g c =
     let next : drop c.loop-page.page-index c.args.pages.now ≡ c.page-item.result ∷ drop (c.loop-page.page-index + 1) c.args.pages.now = grind (arith, common_steps) in
     failed (g.W.Sink.contents c.args.device.now) (g.W.Sink.contents c.put_if_data.new.device) (g.W.Sink.has_failed c.put_if_data.new.device) c.args.hasher.now c.put_if_data.new.hasher _
-      c.from_residual.result c.from_residual.ensures.0
-      (front_fails _ _ _ _ _ _ _ _ _ _ _ (page_step c.page-item.result (drop c.loop-page.page-index c.args.pages.now) _ next) c.loop-page.invariant.wrote c.in_err-put_if_data.ensures.written)
+    c.from_residual.result c.from_residual.ensures.0
+    (front_fails _ _ _ _ _ _ _ _ _ _ _ (page_step c.page-item.result (drop c.loop-page.page-index c.args.pages.now) _ next) c.loop-page.invariant.wrote c.in_err-put_if_data.ensures.written)
 
 pub loop-page-preserved : goal.loop-page-preserved
 loop-page-preserved g c =

@@ -8,6 +8,6 @@ abbrev pub invariant-loop-page : goal.invariant-loop-page
 invariant-loop-page g l =
     record {
       wrote : WroteFront (g.W.Sink.contents l.fn.device) (g.W.Sink.contents l.device) (g.W.Sink.has_failed l.device) l.fn.hasher l.hasher
-        (page_lines (data_pages (drop l.page-index l.pages))) (page_lines (data_pages l.pages));
+          (page_lines (data_pages (drop l.page-index l.pages))) (page_lines (data_pages l.pages));
       name : g.W.Sink.name_of l.device ≡ g.W.Sink.name_of l.fn.device;
     }

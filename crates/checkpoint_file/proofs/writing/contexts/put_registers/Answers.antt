@@ -9,8 +9,8 @@ loop-number-init g c = record { wrote = front_none _ _ _ _ c.requires; name = re
 pub returns-in_err-put_register-clause-written : goal.returns-in_err-put_register-clause-written
 returns-in_err-put_register-clause-written g c =
     failed (g.W.Sink.contents c.args.device.now) (g.W.Sink.contents c.put_register.new.device) (g.W.Sink.has_failed c.put_register.new.device) c.args.hasher.now c.put_register.new.hasher _
-      c.from_residual.result c.from_residual.ensures.0
-      (front_fails _ _ _ _ _ _ _ _ _ _ _ (register_step c.args.registers.now c.loop-number.number (omega arith)) c.loop-number.invariant.wrote c.in_err-put_register.ensures.written)
+    c.from_residual.result c.from_residual.ensures.0
+    (front_fails _ _ _ _ _ _ _ _ _ _ _ (register_step c.args.registers.now c.loop-number.number (omega arith)) c.loop-number.invariant.wrote c.in_err-put_register.ensures.written)
 
 pub loop-number-preserved : goal.loop-number-preserved
 loop-number-preserved g c = record {
