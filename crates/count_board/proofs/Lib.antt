@@ -1,3 +1,4 @@
+pub mod Crossing
 mod Greatest
 mod Kept
 mod Gathers
