@@ -35,10 +35,10 @@ hart_sends = search (sendable, crosses) depth 40 fits 20000
 hart_syncs : IsSync (hart.the_row global.the_row ghosts)
 hart_syncs = search (sendable, crosses) depth 40 fits 20000
 
-pub mark_sends : IsSend (mark.the_row global.the_row ghosts)
+mark_sends : IsSend (mark.the_row global.the_row ghosts)
 mark_sends = search (sendable, crosses, origin_sends, origin_syncs, hart_sends, hart_syncs) depth 40 fits 20000
 
-pub mark_syncs : IsSync (mark.the_row global.the_row ghosts)
+mark_syncs : IsSync (mark.the_row global.the_row ghosts)
 mark_syncs = search (sendable, crosses, origin_sends, origin_syncs, hart_sends, hart_syncs) depth 40 fits 20000
 
 pub shared_sends : IsSend shared.the_row

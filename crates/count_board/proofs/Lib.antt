@@ -1,4 +1,3 @@
-pub mod Crossing
 mod Greatest
 mod Kept
 mod Gathers

@@ -4,11 +4,3 @@ pub mod Book
 pub mod Allowed
 pub mod Decided
 pub mod Closed
-pub mod Traces
-pub mod Workers
-pub mod Done
-pub mod Starting
-pub mod Own
-pub mod Parts
-pub mod Ran
-pub mod AllowedResult

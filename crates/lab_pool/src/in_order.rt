@@ -1,6 +1,5 @@
 //! The jobs of a plan, one after another.
-ghost use Rattle.std.specs.Prelude.{◌≡◌, ℕ, ◌<◌, true, List, [], ◌∷◌, ◌++◌, IfOk, None, map, length};
-ghost use Rattle.worker_pool.specs.Numbers.{numbers};
+ghost use Rattle.std.specs.Prelude.{◌≡◌, ℕ, ◌<◌, true, List, [], ◌∷◌, ◌++◌, IfOk};
 ghost use Rattle.checkpoint.specs.Aligned.{IsAligned};
 ghost use Rattle.lab_plan.specs.declared.job.Job.{Job};
 ghost use Rattle.lab_pool.specs.declared.result.JobResult.{JobResult};
@@ -8,7 +7,6 @@ ghost use Rattle.join_law.specs.Eight.{place_of};
 ghost use Rattle.origin_set.specs.Start.{start};
 ghost use Rattle.lawful_cycle.specs.Plain.{ComesTo};
 ghost use Rattle.lab_pool.specs.Allowed.{AreJobResults};
-ghost use Rattle.lab_pool.specs.AllowedResult.{IsAllowedResult};
 ghost use Rattle.lab_pool.specs.Decided.{AgreeFromOpening};
 ghost use Rattle.lab_pool.specs.Closed.{are_closed, AreReached, most_wanted, NoneRefused};
 ghost use Rattle.lab_pool.specs.Counts.{counts_in};
@@ -21,7 +19,7 @@ use crate::result::{JobEnd, JobResult, LabResult};
 use checkpoint::Mark;
 use join_law::Eight;
 use lab_plan::{Job, Plan};
-use std::alloc::{AllocError, Global};
+use std::alloc::Global;
 
 /// Runs the jobs of a plan in order, from an opening of its origin. Each job's marks are merged into the book, and a job
 /// that starts at `furthest` starts at the book as the jobs before it left it. Where the plan is closed and no job ran
@@ -39,62 +37,18 @@ pub fn run_in_order(
     requires origin { opening.c0.origin ≡ plan.now.origin }
     ensures jobs { IfOk result (λ done. AreJobResults opening [] plan.now.jobs done.jobs.items) }
     ensures book { IfOk result (λ done. done.marks ≡ book_after opening done.jobs.items) }
-    ensures allowed { IfOk result (IsAllowedResult opening plan.now.jobs) }
     ensures decided { IfOk result (λ done. (others : List JobResult) → AreJobResults opening [] plan.now.jobs others → AgreeFromOpening plan.now.jobs done.jobs.items others) }
     ensures outcome { are_closed (counts_in opening) plan.now.jobs ≡ true → IfOk result (λ done. NoneRefused done.jobs.items → (c : ℕ) → c < 8 → ComesTo (start opening.c0.origin c) (most_wanted c (place_of opening c).count plan.now.jobs) (place_of done.marks c).count) }
 {
     let planned = plan.jobs();
     reached(&opening);
-    let done = results_from(alloc, planned, &opening);
+    let results = results_from(alloc, planned, &opening);
     drop(opening);
-    match done {
-        Ok(done) => finished(alloc, done),
-        Err(fault) => Err(fault),
-    }
-}
-
-/// The jobs that ran, one after another, and the book that they left.
-#[derive(Drop)]
-struct JobsDone {
-    marks: Eight<Mark>,
-    jobs: Vec<JobResult>,
-}
-
-/// What is left where one worker ran all jobs in order.
-fn finished(alloc: Global, done: JobsDone) -> Result<LabResult, PoolFault>
-    ensures jobs { IfOk result (λ left. left.jobs.items ≡ done.jobs.items) }
-    ensures book { IfOk result (λ left. left.marks ≡ done.marks) }
-    ensures workers { IfOk result (λ left. map (λ v. v.items) left.workers.items ≡ numbers 0 (length left.jobs.items) ∷ []) }
-    ensures log { IfOk result (λ left. left.log ≡ None) }
-{
-    let JobsDone { marks, jobs } = done;
-    let Ok(workers) = one_worker(alloc, jobs.len()) else {
-        drop(marks);
-        return Err(PoolFault::OutOfMemory);
-    };
-    Ok(LabResult {
-        marks,
-        jobs,
-        workers,
-        log: None,
-    })
-}
-
-/// The list of one worker that ran so many jobs in order.
-fn one_worker(alloc: Global, count: usize) -> Result<Vec<Vec<usize>>, AllocError>
-    ensures { IfOk result (λ v. map (λ w. w.items) v.items ≡ numbers 0 count ∷ []) }
-{
-    let mut jobs = Vec::with_capacity(alloc, count)?;
-    for job in 0..count {
-        jobs.push_reserved(job);
-    }
-    let mut workers = Vec::with_capacity(alloc, 1)?;
-    workers.push_reserved(jobs);
-    Ok(workers)
+    results
 }
 
 /// That plain RV64I reaches the count of each of eight marks, as `Mark::state` ensures. It does nothing.
-pub(crate) fn reached(marks: &Eight<Mark>)
+fn reached(marks: &Eight<Mark>)
     ensures { AreReached marks.now }
 {
     let _c0 = marks.c0.state();
@@ -112,7 +66,7 @@ fn results_from(
     alloc: Global,
     planned: &[Job],
     opening: &Eight<Mark>,
-) -> Result<JobsDone, PoolFault>
+) -> Result<LabResult, PoolFault>
     requires { IsAligned opening.now }
     ensures jobs { IfOk result (λ done. AreJobResults opening.now [] planned.now done.jobs.items) }
     ensures book { IfOk result (λ done. done.marks ≡ book_after opening.now done.jobs.items) }
@@ -122,13 +76,13 @@ fn results_from(
 }
 
 /// What there is before any of so many jobs: the book is the opening.
-fn before_jobs(alloc: Global, count: usize, opening: &Eight<Mark>) -> Result<JobsDone, PoolFault>
+fn before_jobs(alloc: Global, count: usize, opening: &Eight<Mark>) -> Result<LabResult, PoolFault>
     ensures none { IfOk result (λ begun. begun.jobs.items ≡ []) }
     ensures book { IfOk result (λ begun. begun.marks ≡ opening.now) }
 {
     let jobs = Vec::with_capacity(alloc, count).map_err(|_| PoolFault::OutOfMemory)?;
     let marks = copy_of(alloc, opening).map_err(|_| PoolFault::OutOfMemory)?;
-    Ok(JobsDone { marks, jobs })
+    Ok(LabResult { marks, jobs })
 }
 
 /// Runs jobs in order, after none.
@@ -136,8 +90,8 @@ fn run_jobs(
     alloc: Global,
     planned: &[Job],
     opening: &Eight<Mark>,
-    begun: JobsDone,
-) -> Result<JobsDone, PoolFault>
+    begun: LabResult,
+) -> Result<LabResult, PoolFault>
     requires aligned { IsAligned opening.now }
     requires none { begun.jobs.items ≡ [] }
     requires book { begun.marks ≡ opening.now }
@@ -156,18 +110,18 @@ fn run_next(
     alloc: Global,
     job: &Job,
     opening: &Eight<Mark>,
-    done: JobsDone,
-) -> Result<JobsDone, PoolFault>
+    done: LabResult,
+) -> Result<LabResult, PoolFault>
     requires aligned { IsAligned opening.now }
     requires book { done.marks ≡ book_after opening.now done.jobs.items }
     ensures jobs { IfOk result (λ after. (js : List Job) → AreJobResults opening.now [] js done.jobs.items → AreJobResults opening.now [] (js ++ job.now ∷ []) after.jobs.items) }
     ensures book { IfOk result (λ after. after.marks ≡ book_after opening.now after.jobs.items) }
 {
-    let JobsDone { marks, mut jobs } = done;
+    let LabResult { marks, mut jobs } = done;
     let (book, end) = run_job(alloc, job, opening, marks);
     let result = result_of(job, end);
     match jobs.push(result) {
-        Ok(()) => Ok(JobsDone { marks: book, jobs }),
+        Ok(()) => Ok(LabResult { marks: book, jobs }),
         Err(_) => {
             drop(book);
             Err(PoolFault::OutOfMemory)

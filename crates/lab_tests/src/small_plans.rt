@@ -30,7 +30,7 @@ fn done_of(alloc: Global, text: &str) -> Result<(Vec<JobResult>, u64), Fail> {
 /// What is left of a plan that was read and is run from the start.
 fn done_of_plan(alloc: Global, plan: &Plan) -> Result<(Vec<JobResult>, u64), Fail> {
     let opening = starts(alloc, plan.origin())?;
-    let LabResult { marks, jobs, .. } = run_in_order(alloc, plan, opening)?;
+    let LabResult { marks, jobs } = run_in_order(alloc, plan, opening)?;
     let count = marks.c0.count();
     drop(marks);
     Ok((jobs, count))

@@ -1,7 +1,6 @@
 //! The ends of all jobs, in order of job.
 ghost use Rattle.std.specs.Prelude.{◌≡◌, ℕ, Option, IfOk, vec_len};
 ghost use Rattle.std.specs.List.{sum_by};
-ghost use Rattle.std.specs.List.Sorted.{IsPermutation};
 ghost use Rattle.worker_pool.specs.Numbers.{numbers, ended, jobs_of, numbered};
 
 use std::alloc::{AllocError, Global};
@@ -14,7 +13,7 @@ pub(crate) fn in_order<N: Drop>(
 ) -> Result<Vec<Option<N>>, AllocError>
     requires { (h : ℕ → ℕ) → ended h ends.items ≡ sum_by h (numbers 0 jobs) }
     ensures many { IfOk result (λ v. vec_len v ≡ jobs) }
-    ensures each_once { IfOk result (λ v. IsPermutation ends.items (numbered 0 v.items)) }
+    ensures each_once { IfOk result (λ v. (w : ℕ × Option N → ℕ) → sum_by w ends.items ≡ sum_by w (numbered 0 v.items)) }
 {
     let mut ends = ends;
     ends.sort_unstable_by_key(|end| end.0);
@@ -30,7 +29,6 @@ pub(crate) fn only_ends<N: Drop>(
     requires { jobs_of ends.items ≡ numbers 0 jobs }
     ensures many { IfOk result (λ v. vec_len v ≡ jobs) }
     ensures ends { IfOk result (λ v. numbered 0 v.items ≡ ends.items) }
-    ensures each_once { IfOk result (λ v. IsPermutation ends.items (numbered 0 v.items)) }
 {
     let mut only = Vec::with_capacity(alloc, jobs)?;
     for end in ends {

@@ -1,5 +1,5 @@
-use Rattle.std.proofs.Common.{rules, sym, ◌∙◌, subst, ℕ, Option}
-use Rattle.std.specs.List.Sorted.{IsPermutation}
+use Rattle.std.proofs.Common.{rules, ap, sym, ◌∙◌, ℕ, Option}
+use Rattle.std.specs.List.{sum_by}
 use Rattle.std.proofs.lemmas.List.Sorted.{IsNonDecreasingBy-from_sort_by_key, sum_by-IsPermutation}
 use Rattle.worker_pool.proofs.Sorted.{sorted_jobs, if_ok}
 use Rattle.worker_pool.proofs.order.in_order.Goals as goal
@@ -12,4 +12,4 @@ only_ends-requires g c =
     (λ h. sum_by-IsPermutation (λ (e : ℕ × Option g.row.N.Denot). h e.0) _ _ sort.permutation ∙ c.requires h)
 
 pub returns-clause-each_once : goal.returns-clause-each_once
-returns-clause-each_once g c = if_ok c.only_ends.result (λ v same. subst (IsPermutation c.args.ends.items) (sym same) c.sort_unstable_by_key.ensures.permutation) c.only_ends.ensures.ends
+returns-clause-each_once g c = if_ok c.only_ends.result (λ v same w. sym (sum_by-IsPermutation w _ _ c.sort_unstable_by_key.ensures.permutation) ∙ ap (sum_by w) (sym same)) c.only_ends.ensures.ends

@@ -1,7 +1,5 @@
-use Rattle.std.proofs.Common.{arith, ap, sym, ◌∙◌, ◌≡◌, ◌++◌, ℕ, List, Option, map, length, append-nil, subst}
+use Rattle.std.proofs.Common.{arith, ap, sym, ◌∙◌, ◌≡◌, ◌++◌, ℕ, List, Option, map, length, append-nil}
 use Rattle.std.proofs.lemmas.List.{nil_from_length, length-map}
-use Rattle.std.specs.List.Sorted.{IsPermutation}
-use Rattle.std.proofs.lemmas.List.Sorted.{IsPermutation-refl}
 use Rattle.worker_pool.specs.Numbers.{numbered}
 use Rattle.worker_pool.proofs.Sorted.{numbered_ends}
 use Rattle.worker_pool.proofs.NewRuns.{length-numbers}
@@ -28,6 +26,3 @@ returns-clause-ends g c =
     let all : c.loop-end.only.items ≡ map (λ (e : ℕ × Option g.row.N.Denot). e.1) c.args.ends.items =
     sym (append-nil c.loop-end.only.items) ∙ (ap (λ (l : List (ℕ × Option g.row.N.Denot)). c.loop-end.only.items ++ map (λ e. e.1) l) (sym none) ∙ i.ends) in
     ap (numbered 0) all ∙ numbered_ends c.args.ends.items 0 c.args.jobs c.requires
-
-pub returns-clause-each_once : goal.returns-clause-each_once
-returns-clause-each_once g c = subst (IsPermutation c.args.ends.items) (sym (returns-clause-ends g c)) (IsPermutation-refl c.args.ends.items)
